@@ -1,0 +1,22 @@
+pub mod Searches
+pub mod Tests
+pub mod Valid
+pub mod Sums
+pub mod FlowLaw
+pub mod LinkBound
+pub mod Lower
+pub mod TightRatios
+pub mod Oblivious
+pub mod Failures
+pub mod Least
+pub mod Shares
+mod Rows
+pub mod Counts
+pub mod Ranks
+pub mod ApportionLaws
+pub mod RuleSearch
+pub mod RuleParts
+pub mod PathRoutings
+pub mod ValidParts
+pub mod ListOrder
+pub mod SoundLinks
