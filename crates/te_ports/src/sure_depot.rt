@@ -1,0 +1,68 @@
+//! A depot whose reads never fail.
+ghost use Rattle.std.specs.Prelude.{◌≡◌, ◌≢◌, ◌≤◌, ◌<◌, ◌-◌, min, [], ℕ, List, length, take, drop, IfOk, OnOk, OnErr, IsOk};
+ghost use Rattle.te_ports.specs.Ports.{Rose, Told};
+
+use crate::memory_depot::copy_piece;
+use crate::{Depot, Failed};
+use std::alloc::Global;
+use std::collections::BTreeMap;
+use te_model::Memory;
+
+/// Files in memory. A name that was not added has no bytes.
+#[derive(Drop)]
+pub struct SureDepot {
+    alloc: Global,
+    files: BTreeMap<String, Vec<u8>>,
+}
+
+impl SureDepot {
+    ghost use Rattle.te_ports.specs.SureDepot.{sure_content};
+
+    /// A depot in which every file is empty. `Memory` where memory is short.
+    pub fn new(alloc: Global) -> Result<SureDepot, Memory>
+        ensures empty { IfOk result (λ d. (name : List ℕ) → sure_content d name ≡ []) }
+    {
+        Ok(SureDepot {
+            alloc,
+            files: BTreeMap::new(alloc),
+        })
+    }
+
+    /// Sets the bytes of a name, in place of those that it had. `Memory`, which leaves the files as they were, where
+    /// memory is short.
+    pub fn add(&mut self, name: &str, bytes: &[u8]) -> Result<(), Memory>
+        ensures added { OnOk result (sure_content self.new name.now ≡ bytes.now) }
+        ensures others { (other : List ℕ) → other ≢ name.now → sure_content self.new other ≡ sure_content self.old other }
+        ensures err { OnErr result ((other : List ℕ) → sure_content self.new other ≡ sure_content self.old other) }
+    {
+        let key = String::from_str(self.alloc, name)?;
+        let copy = bytes.to_vec(self.alloc)?;
+        self.files.insert(key, copy)?;
+        Ok(())
+    }
+}
+
+impl Depot for SureDepot {
+    ghost use Rattle.te_ports.specs.SureDepot.{sure_content, sure_told};
+
+    ghost content = { sure_told };
+
+    ghost faults = { λ _ _. 0 };
+
+    fn fetch(&mut self, name: &str, at: u64, buf: &mut [u8]) -> Result<usize, Failed>
+        ensures content { sure_told self.new ≡ sure_told self.old }
+        ensures room { IfOk result (λ n. n ≤ length buf.new) }
+        ensures bytes { IfOk result (λ n. Told (sure_told self.old name.now) (λ told.
+            take n buf.new ≡ take n (drop at told))) }
+        ensures end { IfOk result (λ n. Told (sure_told self.old name.now) (λ told.
+            n ≡ 0 → 0 < length buf.new → length told ≤ at)) }
+        ensures failed { OnErr result (Rose 0 0) }
+        ensures never_fails { IsOk result }
+        ensures gives { IfOk result (λ n. n ≡ min (length (sure_content self.old name.now) - at) (length buf.new)) }
+    {
+        match self.files.get(name) {
+            Some(bytes) => Ok(copy_piece(bytes, at, usize::MAX, buf)),
+            None => Ok(0),
+        }
+    }
+}
