@@ -1,0 +1,4 @@
+pub mod Ascending
+pub mod Checked
+pub mod Finding
+pub mod Samples
