@@ -1,0 +1,56 @@
+-- Reading a number digit by digit.
+use Rattle.std.specs.List.{list_all}
+use Rattle.std.proofs.Common.{◌&&◌, ◌++◌, length-append, ◌≡◌, ℕ, ◌+◌, ◌-◌, ◌*◌, ◌^◌, ◌<◌, ◌≤◌, Bool, true, false, cond, List, [], ◌∷◌, length, drop, Some, None, Result, Ok, Err, refl, sym, ap, arith, eqb, ltb}
+use Rattle.std.specs.Prelude.{slice_get}
+use Rattle.te_model.specs.Network.{is_name_byte}
+use Rattle.std.specs.Char.{is_ascii_digit}
+use Rattle.std.proofs.lemmas.Bool.{le-ltb}
+use Rattle.cert_text.specs.Place.{Place, place}
+use Rattle.cert_text.specs.Reading.{digits_from, name_from}
+
+-- what stands first in a list
+first_is : (bs : List ℕ) (b : ℕ) → Some b ≡ slice_get bs 0 → bs ≡ b ∷ drop 1 bs
+first_is [] b e = absurd cc
+first_is (x ∷ xs) b e = let same : b ≡ x = cc in ap (λ y. y ∷ xs) (sym same)
+
+none_is : (bs : List ℕ) → None ≡ slice_get bs 0 → bs ≡ []
+none_is [] e = refl
+none_is (x ∷ xs) e = absurd cc
+
+pub digits_zero : (k v : ℕ) (bs : List ℕ) (b : ℕ) → Some b ≡ slice_get bs 0 → is_ascii_digit b ≡ true → v ≡ 0 → digits_from k v bs ≡ Err k
+digits_zero k v bs b first digit nothing = rw (first_is bs b first, digit, nothing) refl
+
+refused : (t : Bool) (k : ℕ) (more : Result (ℕ × Place) ℕ) → cond t (Err k) (cond false more (Err k)) ≡ Err k
+refused true k more = refl
+refused false k more = refl
+
+pub digits_over : (k v : ℕ) (bs : List ℕ) (b : ℕ) → Some b ≡ slice_get bs 0 → is_ascii_digit b ≡ true → ¬ (v * 10 + (b - 48) < 2 ^ 64) → digits_from k v bs ≡ Err k
+digits_over k v bs b first digit large =
+    let over : ltb (v * 10 + (b - 48)) (2 ^ 64) ≡ false = le-ltb _ _ (omega arith) in
+    rw (first_is bs b first, digit, over) (refused (eqb v 0) k (digits_from k (v * 10 + (b - 48)) (drop 1 bs)))
+
+pub digits_stop : (k v : ℕ) (bs : List ℕ) (b : ℕ) → Some b ≡ slice_get bs 0 → is_ascii_digit b ≡ false → digits_from k v bs ≡ Ok (v, place k bs)
+digits_stop k v bs b first digit = rw (first_is bs b first, digit) refl
+
+pub digits_end : (k v : ℕ) (bs : List ℕ) → None ≡ slice_get bs 0 → digits_from k v bs ≡ Ok (v, place k bs)
+digits_end k v bs none = rw (none_is bs none) refl
+
+pub name_long : (k : ℕ) (front bs : List ℕ) (b : ℕ) → Some b ≡ slice_get bs 0 → is_name_byte b ≡ true → length front ≡ 32 → name_from k front bs ≡ Err k
+name_long k front bs b first letter full = rw (first_is bs b first, letter, full) refl
+
+pub name_stop : (k : ℕ) (front bs : List ℕ) (b : ℕ) → Some b ≡ slice_get bs 0 → is_name_byte b ≡ false → name_from k front bs ≡ Ok (front, place k bs)
+name_stop k front bs b first other = rw (first_is bs b first, other) refl
+
+pub name_end : (k : ℕ) (front bs : List ℕ) → None ≡ slice_get bs 0 → name_from k front bs ≡ Ok (front, place k bs)
+name_end k front bs none = rw (none_is bs none) refl
+
+pub letters_more : (xs : List ℕ) (b : ℕ) → list_all is_name_byte xs ≡ true → is_name_byte b ≡ true → list_all is_name_byte (xs ++ b ∷ []) ≡ true
+letters_more [] b all here = rw here refl
+letters_more (x ∷ xs) b all here = both (is_name_byte x) (list_all is_name_byte xs) all (λ rest. letters_more xs b rest here)
+  where
+    both : (first rest : Bool) → first && rest ≡ true → (rest ≡ true → list_all is_name_byte (xs ++ b ∷ []) ≡ true) → first && list_all is_name_byte (xs ++ b ∷ []) ≡ true
+    both false rest e more = absurd cc
+    both true rest e more = more e
+
+pub longer : (xs : List ℕ) (b : ℕ) → length xs ≤ 32 → ¬ (length xs ≡ 32) → length (xs ++ b ∷ []) ≤ 32
+longer xs b short other = simp length-append (omega arith)

@@ -1,0 +1,16 @@
+pub mod Digits
+pub mod Loop
+pub mod Decimals
+pub mod Tokens
+pub mod Productions
+pub mod Whole
+pub mod Lines
+pub mod Natural
+pub mod Local
+pub mod Laws
+pub mod PrintLemmas
+pub mod Completable
+pub mod Steady
+pub mod Shaped
+pub mod KeptRules
+pub mod Outcomes

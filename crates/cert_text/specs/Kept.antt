@@ -1,0 +1,43 @@
+-- What is kept of a certificate whose numbers have no bound.
+use Rattle.std.specs.Prelude.{map}
+use Rattle.te_model.specs.declared.network.Link.{Link}
+use Rattle.te_model.specs.declared.network.Network.{Network}
+use Rattle.te_model.specs.declared.route.PathShare.{PathShare}
+use Rattle.te_model.specs.declared.route.PairRoutes.{PairRoutes}
+use Rattle.te_model.specs.declared.certificate.Row.{Row}
+use Rattle.te_model.specs.declared.certificate.Block.{Block}
+use Rattle.te_model.specs.declared.certificate.Head.{Head}
+use Rattle.te_model.specs.declared.certificate.Certificate.{Certificate}
+use Rattle.cert_text.specs.Reading.{kept}
+
+-- a link: capacities have 64 bits and are kept as they are
+abbrev pub keep_link : Link → Link
+keep_link l = record { tail = kept l.tail; head = kept l.head; capacity = l.capacity; cost = kept l.cost }
+
+-- a network: names are kept as they are
+abbrev pub keep_network : Network → Network
+keep_network net = record { names = net.names; links = map keep_link net.links }
+
+-- a path: weights have 64 bits
+abbrev pub keep_path : PathShare → PathShare
+keep_path s = record { links = map kept s.links; weight = s.weight }
+
+-- a pair and its paths
+abbrev pub keep_pair : PairRoutes → PairRoutes
+keep_pair r = record { pair = record { src = kept r.pair.src; dst = kept r.pair.dst }; paths = map keep_path r.paths }
+
+-- a head: the numbers of a margin and the ratio have 64 bits
+abbrev pub keep_head : Head → Head
+keep_head h = record { network = keep_network h.network; routes = map keep_pair h.routes; set = h.set; ratio = h.ratio }
+
+-- a row: potentials have 64 bits
+abbrev pub keep_row : Row → Row
+keep_row r = record { source = kept r.source; potential = r.potential }
+
+-- a block: all but its link and its rows' sources have 64 bits
+abbrev pub keep_block : Block → Block
+keep_block b = record { link = kept b.link; a = b.a; b = b.b; weights = b.weights; rows = map keep_row b.rows; plus = b.plus; minus = b.minus }
+
+-- a certificate whose node, link and cost numbers are kept at 2 ^ 32 - 1 where they are larger
+abbrev pub keep_certificate : Certificate → Certificate
+keep_certificate c = record { head = keep_head c.head; blocks = map keep_block c.blocks }

@@ -1,0 +1,9 @@
+pub mod Place
+pub mod Reading
+pub mod Grammar
+pub mod Listed
+pub mod Fits
+pub mod Answer
+pub mod Outcome
+pub mod Kept
+pub mod Pieces

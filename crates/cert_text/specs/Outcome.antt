@@ -1,0 +1,9 @@
+-- What reading a file answers.
+use Rattle.std.specs.Prelude.{◌≡◌, ◌⊎◌, Result, Err}
+use Rattle.te_model.specs.declared.certificate.Certificate.{Certificate}
+use Rattle.cert_text.specs.declared.fault.CertFault.{CertFault}
+use Rattle.cert_text.specs.declared.fault.CertFault.TheVariants as faults
+
+-- the answer is the one that is due, or memory ran out
+abbrev pub GivesOrMemory : Result Certificate CertFault → Result Certificate CertFault → Type 0
+GivesOrMemory result due = (result ≡ due) ⊎ (result ≡ Err faults.Memory)

@@ -1,0 +1,10 @@
+//! What a head counts.
+
+/// What the lines of a block are counted by.
+#[derive(Clone, Copy, Debug)]
+pub struct Counts {
+    pub nodes: u64,
+    pub links: u64,
+    pub pairs: u64,
+    pub margin: bool,
+}

@@ -1,0 +1,261 @@
+//! Printing a certificate: each part is put at the end of one buffer.
+ghost use Rattle.std.specs.Prelude.{◌≡◌, ◌++◌, ◌∷◌, [], OnOk, IfOk, codes, length};
+ghost use Rattle.std.specs.List.{flat_map};
+ghost use Rattle.cert_text.specs.Pieces.{listing_text, counted_text, link_text, row_text, ended, network_text, path_text, pair_text, routes_text, set_text, head_text, number_line as number_line_text, sides_text, block_text, certificate_text};
+ghost use Rattle.cert_text.specs.Grammar.{is_margin};
+ghost use Rattle.te_model.specs.Text.{text};
+
+use itoa::{Buffer, Integer};
+use std::alloc::{AllocError, Global};
+use te_model::{
+    Block, Certificate, DemandSet, Head, Link, Memory, Name, Network, PairRoutes, PathShare, Row,
+};
+
+fn number<I: Integer>(out: &mut Vec<u8>, n: I) -> Result<(), AllocError>
+    ensures { OnOk result (out.new.items ≡ out.old.items ++ I.text n) }
+{
+    let mut buffer = Buffer::new();
+    out.extend_from_slice(buffer.format(n).as_bytes())
+}
+
+fn spaced<I: Integer>(out: &mut Vec<u8>, n: I) -> Result<(), AllocError>
+    ensures { OnOk result (out.new.items ≡ out.old.items ++ 32 ∷ I.text n) }
+{
+    out.push(b' ')?;
+    number(out, n)
+}
+
+fn spaced_all<I: Integer>(out: &mut Vec<u8>, list: &[I]) -> Result<(), AllocError>
+    ensures { OnOk result (out.new.items ≡ out.old.items ++ flat_map (λ n. 32 ∷ I.text n) list.now) }
+{
+    for n in list {
+        spaced(out, *n)?;
+    }
+    Ok(())
+}
+
+fn end_line(out: &mut Vec<u8>) -> Result<(), AllocError>
+    ensures { OnOk result (out.new.items ≡ out.old.items ++ 10 ∷ []) }
+{
+    out.push(b'\n')?;
+    Ok(())
+}
+
+// A line of numbers that a word begins.
+fn listing(out: &mut Vec<u8>, word: &[u8], list: &[u64]) -> Result<(), AllocError>
+    ensures { OnOk result (out.new.items ≡ out.old.items ++ listing_text word.now list.now) }
+{
+    out.extend_from_slice(word)?;
+    spaced_all(out, list)?;
+    end_line(out)
+}
+
+// A line of a word and one number.
+fn counted(out: &mut Vec<u8>, word: &[u8], count: u64) -> Result<(), AllocError>
+    ensures { OnOk result (out.new.items ≡ out.old.items ++ counted_text word.now count) }
+{
+    out.extend_from_slice(word)?;
+    number(out, count)?;
+    end_line(out)
+}
+
+fn name_lines(out: &mut Vec<u8>, names: &[Name]) -> Result<(), AllocError>
+    ensures { OnOk result (out.new.items ≡ out.old.items ++ flat_map ended names.now) }
+{
+    for name in names {
+        out.extend_from_slice(name.as_str().as_bytes())?;
+        end_line(out)?;
+    }
+    Ok(())
+}
+
+fn link_line(out: &mut Vec<u8>, link: &Link) -> Result<(), AllocError>
+    ensures { OnOk result (out.new.items ≡ out.old.items ++ link_text link.now) }
+{
+    number(out, link.tail)?;
+    spaced(out, link.head)?;
+    spaced(out, link.capacity)?;
+    spaced(out, link.cost)?;
+    end_line(out)
+}
+
+fn link_lines(out: &mut Vec<u8>, links: &[Link]) -> Result<(), AllocError>
+    ensures { OnOk result (out.new.items ≡ out.old.items ++ flat_map link_text links.now) }
+{
+    for link in links {
+        link_line(out, link)?;
+    }
+    Ok(())
+}
+
+fn network(out: &mut Vec<u8>, net: &Network) -> Result<(), AllocError>
+    ensures { OnOk result (out.new.items ≡ out.old.items ++ network_text net.now) }
+{
+    counted(out, b"nodes ", net.names.as_slice().len() as u64)?;
+    name_lines(out, net.names.as_slice())?;
+    counted(out, b"links ", net.links.as_slice().len() as u64)?;
+    link_lines(out, net.links.as_slice())
+}
+
+fn path_line(out: &mut Vec<u8>, path: &PathShare) -> Result<(), AllocError>
+    ensures { OnOk result (out.new.items ≡ out.old.items ++ path_text path.now) }
+{
+    number(out, path.weight)?;
+    spaced(out, path.links.as_slice().len())?;
+    spaced_all(out, path.links.as_slice())?;
+    end_line(out)
+}
+
+fn path_lines(out: &mut Vec<u8>, paths: &[PathShare]) -> Result<(), AllocError>
+    ensures { OnOk result (out.new.items ≡ out.old.items ++ flat_map path_text paths.now) }
+{
+    for path in paths {
+        path_line(out, path)?;
+    }
+    Ok(())
+}
+
+fn pair_lines(out: &mut Vec<u8>, routes: &PairRoutes) -> Result<(), AllocError>
+    ensures { OnOk result (out.new.items ≡ out.old.items ++ pair_text routes.now) }
+{
+    number(out, routes.pair.src)?;
+    spaced(out, routes.pair.dst)?;
+    spaced(out, routes.paths.as_slice().len())?;
+    end_line(out)?;
+    path_lines(out, routes.paths.as_slice())
+}
+
+fn all_pairs(out: &mut Vec<u8>, routes: &[PairRoutes]) -> Result<(), AllocError>
+    ensures { OnOk result (out.new.items ≡ out.old.items ++ flat_map pair_text routes.now) }
+{
+    for pair in routes {
+        pair_lines(out, pair)?;
+    }
+    Ok(())
+}
+
+fn set_lines(out: &mut Vec<u8>, set: &DemandSet) -> Result<(), AllocError>
+    ensures { OnOk result (out.new.items ≡ out.old.items ++ set_text set.now) }
+{
+    match set {
+        DemandSet::All => out.extend_from_slice(b"set all\n"),
+        DemandSet::Margin { num, den, base } => {
+            out.extend_from_slice(b"set margin ")?;
+            number(out, *num)?;
+            spaced(out, *den)?;
+            end_line(out)?;
+            listing(out, b"base", base.demand.as_slice())
+        }
+    }
+}
+
+fn head_lines(out: &mut Vec<u8>, head: &Head) -> Result<(), AllocError>
+    ensures { OnOk result (out.new.items ≡ out.old.items ++ head_text head.now) }
+{
+    network(out, &head.network)?;
+    counted(out, b"pairs ", head.routes.as_slice().len() as u64)?;
+    all_pairs(out, head.routes.as_slice())?;
+    set_lines(out, &head.set)?;
+    counted(out, b"ratio ", head.ratio)
+}
+
+fn first_and_others(out: &mut Vec<u8>, first: u64, others: &[u64]) -> Result<(), AllocError>
+    ensures { OnOk result (out.new.items ≡ out.old.items ++ number_line_text (first ∷ others.now)) }
+{
+    number(out, first)?;
+    spaced_all(out, others)?;
+    end_line(out)
+}
+
+fn number_line(out: &mut Vec<u8>, list: &[u64]) -> Result<(), AllocError>
+    ensures { OnOk result (out.new.items ≡ out.old.items ++ number_line_text list.now) }
+{
+    match list {
+        [] => out.extend_from_slice(b"\n"),
+        [first, others @ ..] => first_and_others(out, *first, others),
+    }
+}
+
+fn row_line(out: &mut Vec<u8>, row: &Row) -> Result<(), AllocError>
+    ensures { OnOk result (out.new.items ≡ out.old.items ++ row_text row.now) }
+{
+    number(out, row.source)?;
+    spaced_all(out, row.potential.as_slice())?;
+    end_line(out)
+}
+
+fn row_lines(out: &mut Vec<u8>, rows: &[Row]) -> Result<(), AllocError>
+    ensures { OnOk result (out.new.items ≡ out.old.items ++ flat_map row_text rows.now) }
+{
+    for row in rows {
+        row_line(out, row)?;
+    }
+    Ok(())
+}
+
+fn sides(out: &mut Vec<u8>, margin: bool, block: &Block) -> Result<(), AllocError>
+    ensures { OnOk result (out.new.items ≡ out.old.items ++ sides_text margin (block.now.plus, block.now.minus)) }
+{
+    if margin {
+        listing(out, b"plus", block.plus.as_slice())?;
+        listing(out, b"minus", block.minus.as_slice())?;
+    }
+    Ok(())
+}
+
+fn block_line(out: &mut Vec<u8>, block: &Block) -> Result<(), AllocError>
+    ensures { OnOk result (out.new.items ≡ out.old.items ++ number_line_text (block.now.link ∷ block.now.a ∷ block.now.b ∷ length block.now.rows ∷ [])) }
+{
+    number(out, block.link)?;
+    spaced(out, block.a)?;
+    spaced(out, block.b)?;
+    spaced(out, block.rows.as_slice().len())?;
+    end_line(out)
+}
+
+fn block_lines(out: &mut Vec<u8>, margin: bool, block: &Block) -> Result<(), AllocError>
+    ensures { OnOk result (out.new.items ≡ out.old.items ++ block_text margin block.now) }
+{
+    block_line(out, block)?;
+    number_line(out, block.weights.as_slice())?;
+    row_lines(out, block.rows.as_slice())?;
+    sides(out, margin, block)
+}
+
+fn all_blocks(out: &mut Vec<u8>, margin: bool, blocks: &[Block]) -> Result<(), AllocError>
+    ensures { OnOk result (out.new.items ≡ out.old.items ++ flat_map (block_text margin) blocks.now) }
+{
+    for block in blocks {
+        block_lines(out, margin, block)?;
+    }
+    Ok(())
+}
+
+fn has_margin(set: &DemandSet) -> bool
+    ensures { result ≡ is_margin set.now }
+{
+    matches!(set, DemandSet::Margin { .. })
+}
+
+fn whole(out: &mut Vec<u8>, cert: &Certificate) -> Result<(), AllocError>
+    ensures { OnOk result (out.new.items ≡ out.old.items ++ certificate_text cert.now) }
+{
+    let margin = has_margin(&cert.head.set);
+    out.extend_from_slice(b"yates-ratio 1\n")?;
+    head_lines(out, &cert.head)?;
+    counted(out, b"blocks ", cert.blocks.as_slice().len() as u64)?;
+    all_blocks(out, margin, cert.blocks.as_slice())?;
+    out.extend_from_slice(b"end\n")?;
+    Ok(())
+}
+
+/// Writes the certificate's file: the one text that spells it, of which [`read`](crate::read) gives the certificate back.
+///
+/// Answers an error only where memory runs out.
+pub fn print(alloc: Global, cert: &Certificate) -> Result<Vec<u8>, Memory>
+    ensures spelling { IfOk result (λ file. file.items ≡ text cert.now) }
+{
+    let mut out = Vec::new(alloc);
+    whole(&mut out, cert)?;
+    Ok(out)
+}

@@ -1,0 +1,270 @@
+//! Reading the lines of a certificate.
+ghost use Rattle.std.specs.Prelude.{◌≡◌, ◌+◌, ◌<◌, ◌≤◌, ◌^◌, ◌++◌, length, Ok, Err, if◌then◌else◌, ◌*◌, [], OnOk, IfOk, IfErr, slice_index, ◌==◌, string_bytes, true};
+ghost use Rattle.std.specs.Option.{SomeIff};
+ghost use Rattle.std.specs.List.{list_all};
+ghost use Rattle.te_model.specs.Network.{is_name_byte as is_name_byte_of, is_name};
+ghost use Rattle.te_model.specs.Shape.{is_count};
+ghost use Rattle.cert_text.specs.Fits.{AreWords};
+ghost use Rattle.cert_text.specs.Place.{Place, place, Reads, ReadsAs, Passes, Appends};
+ghost use Rattle.cert_text.specs.Reading.{byte_at, word_at, line_end_at, number_at, count_at, narrow_at, kept, next_number_at, next_narrow_at, next_count_at, many_at, name_from, name_at};
+
+use crate::cursor::Cursor;
+use crate::fault::Stop;
+use std::alloc::Global;
+use te_model::Name;
+
+fn is_name_byte(b: u8) -> bool
+    ensures { result ≡ is_name_byte_of b }
+{
+    b.is_ascii_alphanumeric() || b == b'_' || b == b'.' || b == b'-'
+}
+
+// The number with one digit more, if it is in range.
+fn with_digit(value: u64, digit: u8) -> Option<u64>
+    ensures { SomeIff result (value * 10 + digit < 2 ^ 64) (value * 10 + digit) }
+{
+    value.checked_mul(10)?.checked_add(u64::from(digit))
+}
+
+/// A reader of lines.
+#[derive(Drop)]
+pub struct Reader<C: Cursor> {
+    source: C,
+    line: u64,
+    ghost lines_left: { line + C.bound source < 2 ^ 64 },
+}
+
+impl<C: Cursor> Reader<C> {
+    /// Stands at the first line.
+    pub fn new(source: C) -> Reader<C>
+        requires { 1 + C.bound source < 2 ^ 64 }
+        ensures place { place result.line (C.rest result.source) ≡ place 1 (C.rest source) }
+    {
+        Reader { source, line: 1 }
+    }
+
+    /// The fault of the line that is read.
+    pub fn fault(&self) -> Stop
+        ensures { result ≡ Stop.Shape self.now.line }
+    {
+        Stop::Shape(self.line)
+    }
+
+    /// Takes this byte.
+    pub fn byte(&mut self, wanted: u8) -> Result<(), Stop>
+        ensures fewer { OnOk result
+            (self.new.line + C.bound self.new.source < self.old.line + C.bound self.old.source) }
+        ensures told { C.is_told self.new.source → C.is_told self.old.source }
+        ensures reads { C.is_told self.new.source →
+            Passes result (place self.new.line (C.rest self.new.source))
+            (byte_at wanted (place self.old.line (C.rest self.old.source))) }
+    {
+        match self.source.peek() {
+            Some(b) if b == wanted => {
+                self.source.advance();
+                Ok(())
+            }
+            _ => Err(self.fault()),
+        }
+    }
+
+    /// Takes these bytes.
+    pub fn word(&mut self, wanted: &[u8]) -> Result<(), Stop>
+        ensures told { C.is_told self.new.source → C.is_told self.old.source }
+        ensures reads { C.is_told self.new.source →
+            Passes result (place self.new.line (C.rest self.new.source))
+            (word_at wanted.now (place self.old.line (C.rest self.old.source))) }
+    {
+        for b in wanted {
+            self.byte(*b)?;
+        }
+        Ok(())
+    }
+
+    /// Takes the line feed, after which the next line begins.
+    pub fn end_line(&mut self) -> Result<(), Stop>
+        ensures told { C.is_told self.new.source → C.is_told self.old.source }
+        ensures reads { C.is_told self.new.source →
+            Passes result (place self.new.line (C.rest self.new.source))
+            (line_end_at (place self.old.line (C.rest self.old.source))) }
+    {
+        self.byte(b'\n')?;
+        self.line += 1;
+        Ok(())
+    }
+
+    /// Takes a number in decimal, without a leading zero and below 2^64.
+    #[tactic(auto, unfolding(crate::specs::Reading::number_at))]
+    pub fn number(&mut self) -> Result<u64, Stop>
+        ensures told { C.is_told self.new.source → C.is_told self.old.source }
+        ensures reads { C.is_told self.new.source →
+            Reads result (place self.new.line (C.rest self.new.source))
+            (number_at (place self.old.line (C.rest self.old.source))) }
+    {
+        let mut value = match self.source.peek() {
+            Some(b) if b.is_ascii_digit() => u64::from(b - b'0'),
+            _ => return Err(self.fault()),
+        };
+        self.source.advance();
+        while let Some(b) = self.source.peek() {
+            if !b.is_ascii_digit() {
+                break;
+            }
+            if value == 0 {
+                return Err(self.fault());
+            }
+            value = match with_digit(value, b - b'0') {
+                Some(longer) => longer,
+                None => return Err(self.fault()),
+            };
+            self.source.advance();
+        }
+        Ok(value)
+    }
+
+    /// Takes a number within the range.
+    #[tactic(auto, unfolding(crate::specs::Reading::count_at))]
+    pub fn count(&mut self, low: u64, high: u64) -> Result<u64, Stop>
+        ensures fits { IfOk result (λ n. is_count low high n ≡ true) }
+        ensures told { C.is_told self.new.source → C.is_told self.old.source }
+        ensures reads { C.is_told self.new.source →
+            Reads result (place self.new.line (C.rest self.new.source))
+            (count_at low high (place self.old.line (C.rest self.old.source))) }
+    {
+        let n = self.number()?;
+        if low <= n && n <= high {
+            Ok(n)
+        } else {
+            Err(self.fault())
+        }
+    }
+
+    /// Takes a number, of which a field of 32 bits keeps the greatest that it can hold where it is greater.
+    #[tactic(auto, unfolding(crate::specs::Reading::narrow_at))]
+    pub fn narrow(&mut self) -> Result<u32, Stop>
+        ensures told { C.is_told self.new.source → C.is_told self.old.source }
+        ensures reads { C.is_told self.new.source →
+            Reads result (place self.new.line (C.rest self.new.source))
+            (narrow_at kept (place self.old.line (C.rest self.old.source))) }
+    {
+        let n = self.number()?;
+        Ok(n.min(u64::from(u32::MAX)) as u32)
+    }
+
+    /// Takes a space and a number.
+    #[tactic(auto, unfolding(crate::specs::Reading::next_number_at))]
+    pub fn next_number(&mut self) -> Result<u64, Stop>
+        ensures told { C.is_told self.new.source → C.is_told self.old.source }
+        ensures reads { C.is_told self.new.source →
+            Reads result (place self.new.line (C.rest self.new.source))
+            (next_number_at (place self.old.line (C.rest self.old.source))) }
+    {
+        self.byte(b' ')?;
+        self.number()
+    }
+
+    /// Takes so many numbers, each with a space before it, and puts them at the end of the list.
+    pub fn numbers(&mut self, count: u64, list: &mut Vec<u64>) -> Result<(), Stop>
+        ensures count { OnOk result (length list.new.items ≡ length list.old.items + count) }
+        ensures words { AreWords list.old.items → OnOk result (AreWords list.new.items) }
+        ensures told { C.is_told self.new.source → C.is_told self.old.source }
+        ensures reads { C.is_told self.new.source →
+            Appends result list.old.items list.new.items (place self.new.line (C.rest self.new.source))
+            (many_at count next_number_at (place self.old.line (C.rest self.old.source))) }
+    {
+        for _ in 0..count {
+            let number = self.next_number()?;
+            list.push(number)?;
+        }
+        Ok(())
+    }
+
+    #[tactic(auto, using(crate::proofs::Digits::letters_more, crate::proofs::Digits::longer))]
+    fn name_text(&mut self, alloc: Global) -> Result<String, Stop>
+        ensures short { IfOk result (λ t. length (string_bytes t) ≤ 32) }
+        ensures letters { IfOk result (λ t. list_all is_name_byte_of (string_bytes t) ≡ true) }
+        ensures told { C.is_told self.new.source → C.is_told self.old.source }
+        ensures reads { C.is_told self.new.source →
+            ReadsAs (λ t. string_bytes t) result (place self.new.line (C.rest self.new.source))
+            (name_from self.old.line [] (C.rest self.old.source)) }
+    {
+        let mut name = String::new(alloc);
+        while let Some(b) = self.source.peek() {
+            if !is_name_byte(b) {
+                return Ok(name);
+            }
+            if name.len() == 32 {
+                return Err(self.fault());
+            }
+            name.push(b as char)?;
+            self.source.advance();
+        }
+        Ok(name)
+    }
+
+    /// Takes a name of 1 to 32 letters, digits and `_ . -`.
+    #[tactic(auto, unfolding(crate::specs::Reading::name_at))]
+    pub fn name(&mut self, alloc: Global) -> Result<Name, Stop>
+        ensures fits { IfOk result (λ n. is_name n ≡ true) }
+        ensures told { C.is_told self.new.source → C.is_told self.old.source }
+        ensures reads { C.is_told self.new.source →
+            Reads result (place self.new.line (C.rest self.new.source))
+            (name_at (place self.old.line (C.rest self.old.source))) }
+    {
+        let text = self.name_text(alloc)?;
+        if text.is_empty() {
+            return Err(self.fault());
+        }
+        Ok(Name::new(text))
+    }
+
+    /// Takes a space and a number of a field of 32 bits.
+    #[tactic(auto, unfolding(crate::specs::Reading::next_narrow_at))]
+    pub fn next_narrow(&mut self) -> Result<u32, Stop>
+        ensures told { C.is_told self.new.source → C.is_told self.old.source }
+        ensures reads { C.is_told self.new.source →
+            Reads result (place self.new.line (C.rest self.new.source))
+            (next_narrow_at kept (place self.old.line (C.rest self.old.source))) }
+    {
+        self.byte(b' ')?;
+        self.narrow()
+    }
+
+    /// Takes a space and a number within the range.
+    #[tactic(auto, unfolding(crate::specs::Reading::next_count_at))]
+    pub fn next_count(&mut self, low: u64, high: u64) -> Result<u64, Stop>
+        ensures fits { IfOk result (λ n. is_count low high n ≡ true) }
+        ensures told { C.is_told self.new.source → C.is_told self.old.source }
+        ensures reads { C.is_told self.new.source →
+            Reads result (place self.new.line (C.rest self.new.source))
+            (next_count_at low high (place self.old.line (C.rest self.old.source))) }
+    {
+        self.byte(b' ')?;
+        self.count(low, high)
+    }
+
+    /// Whether this byte stands next.
+    pub fn is_next(&mut self, byte: u8) -> bool
+        ensures told { C.is_told self.new.source → C.is_told self.old.source }
+        ensures same { C.is_told self.new.source →
+            place self.new.line (C.rest self.new.source) ≡ place self.old.line (C.rest self.old.source) }
+        ensures next { C.is_told self.new.source → 0 < byte →
+            result ≡ (slice_index (C.rest self.old.source) 0 == byte) }
+    {
+        self.source.peek() == Some(byte)
+    }
+
+    /// Passes where nothing is left.
+    pub fn at_end(&mut self) -> Result<(), Stop>
+        ensures told { C.is_told self.new.source → C.is_told self.old.source }
+        ensures reads { C.is_told self.new.source →
+            Passes result (place self.new.line (C.rest self.new.source))
+            (if length (C.rest self.old.source) == 0
+            then Ok (place self.old.line (C.rest self.old.source)) else Err self.old.line) }
+    {
+        match self.source.peek() {
+            None => Ok(()),
+            Some(_) => Err(self.fault()),
+        }
+    }
+}

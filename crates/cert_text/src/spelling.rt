@@ -1,0 +1,60 @@
+//! Laws of the texts of certificates. A law of the definitions is the contract of a function that does nothing.
+ghost use Rattle.std.specs.Prelude.{◌≡◌, ℕ, ◌++◌, ◌⊎◌, List, [], IsTrue, IfOk, Ok};
+ghost use Rattle.te_model.specs.declared.limits.TheConstants.{FORMAT_1};
+ghost use Rattle.te_model.specs.declared.certificate.Certificate.{Certificate};
+ghost use Rattle.te_model.specs.declared.certificate.RuleFault.{RuleFault};
+ghost use Rattle.te_model.specs.Shape.{is_shaped};
+ghost use Rattle.te_model.specs.Validity.{IsValid};
+ghost use Rattle.te_model.specs.Text.{text, Spells};
+ghost use Rattle.te_model.specs.Faults.{IsShapeFault, IsRuleFault};
+ghost use Rattle.cert_text.specs.Outcome.{GivesOrMemory};
+
+use crate::fault::CertFault;
+use crate::printing::print;
+use crate::reading::read;
+use std::alloc::Global;
+use te_model::Certificate;
+
+/// No two certificates have one text, and no text begins another: where the text of one certificate begins with that of another,
+/// nothing stands after it, and the two are one.
+pub fn text_begins_no_other()
+    ensures shaped { (c : Certificate) → (d : Certificate) → (r : List ℕ) → IsTrue (is_shaped FORMAT_1 c) → IsTrue (is_shaped FORMAT_1 d) →
+        text d ≡ text c ++ r → (c ≡ d) × (r ≡ []) }
+    ensures valid { (c : Certificate) → (d : Certificate) → (r : List ℕ) → IsValid c → IsValid d →
+        text d ≡ text c ++ r → (c ≡ d) × (r ≡ []) }
+{}
+
+/// Bytes are read in one way: they spell one valid certificate, or have one fault of shape, or one fault of a rule.
+pub fn bytes_are_read_one_way()
+    ensures some { (bytes : List ℕ) → ((c : Certificate) × Spells bytes c) ⊎
+        (((k : ℕ) × IsShapeFault FORMAT_1 bytes k) ⊎ ((f : RuleFault) × IsRuleFault FORMAT_1 bytes f)) }
+    ensures one_certificate { (bytes : List ℕ) → (c : Certificate) → (d : Certificate) →
+        Spells bytes c → Spells bytes d → c ≡ d }
+    ensures one_line { (bytes : List ℕ) → (j : ℕ) → (k : ℕ) →
+        IsShapeFault FORMAT_1 bytes j → IsShapeFault FORMAT_1 bytes k → j ≡ k }
+    ensures one_rule { (bytes : List ℕ) → (f : RuleFault) → (g : RuleFault) →
+        IsRuleFault FORMAT_1 bytes f → IsRuleFault FORMAT_1 bytes g → f ≡ g }
+    ensures spelled_or_misshaped { (bytes : List ℕ) → (c : Certificate) → (k : ℕ) →
+        Spells bytes c → IsShapeFault FORMAT_1 bytes k → ⊥ }
+    ensures spelled_or_ruled { (bytes : List ℕ) → (c : Certificate) → (f : RuleFault) →
+        Spells bytes c → IsRuleFault FORMAT_1 bytes f → ⊥ }
+    ensures misshaped_or_ruled { (bytes : List ℕ) → (k : ℕ) → (f : RuleFault) →
+        IsShapeFault FORMAT_1 bytes k → IsRuleFault FORMAT_1 bytes f → ⊥ }
+{}
+
+/// Prints the certificate and reads it back: what [`print`] writes, [`read`] takes for the same certificate.
+pub fn print_and_read(alloc: Global, cert: &Certificate) -> Result<Certificate, CertFault>
+    requires { IsValid cert.now }
+    ensures same { GivesOrMemory result (Ok cert.now) }
+{
+    let file = print(alloc, cert)?;
+    read(alloc, file.as_slice())
+}
+
+/// Reads the file and prints it again: what [`read`] takes, [`print`] writes byte for byte.
+pub fn read_and_print(alloc: Global, bytes: &[u8]) -> Result<Vec<u8>, CertFault>
+    ensures same { IfOk result (λ file. file.items ≡ bytes.now) }
+{
+    let cert = read(alloc, bytes)?;
+    Ok(print(alloc, &cert)?)
+}
