@@ -1,0 +1,5 @@
+pub mod Command
+pub mod CheckText
+pub mod Meaning
+pub mod Run
+pub mod Lines

@@ -1,0 +1,34 @@
+//! The words of the command line.
+ghost use Rattle.std.specs.Prelude.{◌≡◌, map, string_bytes};
+ghost use Rattle.std.specs.Option.{option_map};
+ghost use Rattle.te_command.specs.Command.{command_of, meant, check};
+
+/// What the words ask for.
+#[derive(Clone, Copy, Debug)]
+pub enum Command<'a> {
+    /// Whether the certificate in the file of this name proves its ratio.
+    Check { certificate: &'a str },
+}
+
+/// The command of the words, where they are one of the forms.
+pub fn command_of(words: &[String]) -> Option<Command<'_>>
+    ensures { option_map meant result ≡ command_of (map string_bytes words.now) }
+{
+    match words {
+        [command, file] if command.as_str() == "check" => Some(Command::Check {
+            certificate: file.as_str(),
+        }),
+        _ => None,
+    }
+}
+
+impl<'a> Command<'a> {
+    /// The name of the certificate's file.
+    pub fn certificate(self) -> &'a str
+        ensures { meant self.entry ≡ check result.now }
+    {
+        match self {
+            Command::Check { certificate } => certificate,
+        }
+    }
+}

@@ -1,0 +1,13 @@
+//! The commands of the program, from the words of the command line to the status.
+#![tactic(auto)]
+
+mod answer;
+mod check;
+mod command;
+mod refusal;
+mod top;
+
+pub use top::run;
+
+#[cfg(test)]
+mod tests;
