@@ -1,0 +1,5 @@
+pub mod RecordLemmas
+mod ReaderLemmas
+pub mod FieldFacts
+pub mod RowFacts
+pub mod WriteLemmas

@@ -1,0 +1,26 @@
+use Rattle.std.proofs.Common.{◌≡◌, ◌∷◌, false}
+use Rattle.csv.specs.Records.{fields_of}
+use Rattle.tables.specs.Rest.{IsSound, rest_of}
+use Rattle.tables.proofs.ReaderLemmas.{read-more, read-end, is-ready}
+use Rattle.tables.proofs.rows.Rows.advance.Goals as goal
+
+-- what a read that found a record did
+more : (c : goal.In-Ok-true) → c.self.inside.ended ≡ false → IsSound c.read_byte_record.new.self × (rest_of c.self.inside.reader ≡ fields_of c.read_byte_record.new.row ∷ rest_of c.read_byte_record.new.self)
+more c going =
+    let s = c.self.invariant going in
+    let e = c.in-Ok-true.ensures in
+    read-more c.self.inside.reader c.read_byte_record.new.self (fields_of c.read_byte_record.new.row) s
+    (rw c.in-Ok-true.field-0-test at (e.reads s.trims (is-ready _ s))) (e.ready s.trims) e.flexible e.goes
+
+pub invariant_of-self : goal.invariant_of-self
+invariant_of-self c = λ going. (more c going).0
+
+pub returns-in-Ok-true-clause-found : goal.returns-in-Ok-true-clause-found
+returns-in-Ok-true-clause-found c = λ _. rw (← c.self.view_is, c.if-self.false) (more c c.if-self.false).1
+
+pub returns-in-Ok-false-clause-ended : goal.returns-in-Ok-false-clause-ended
+returns-in-Ok-false-clause-ended c = λ _.
+    let s = c.self.invariant c.if-self.false in
+    let e = c.in-Ok-false.ensures in
+    rw (← c.self.view_is, c.if-self.false) (read-end c.self.inside.reader c.read_byte_record.new.self (fields_of c.read_byte_record.new.row) s
+    (rw c.in-Ok-false.field-0-test at (e.reads s.trims (is-ready _ s))))

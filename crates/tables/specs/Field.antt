@@ -1,0 +1,19 @@
+-- What a field of a CSV file spells: a number is 1 to 10 ASCII digits, with leading zeros.
+use Rattle.std.specs.List.{list_all}
+use Rattle.std.specs.Prelude.{ℕ, ◌+◌, ◌*◌, ◌-◌, List, [], ◌∷◌, length, Bool, ◌&&◌, nat_le}
+
+-- the number that digits spell, after the number before them
+abbrev pub digits_from : ℕ → List ℕ → ℕ
+digits_from n [] = n
+digits_from n (c ∷ cs) = digits_from (n * 10 + (c - 48)) cs
+
+abbrev pub is_digit : ℕ → Bool
+is_digit c = nat_le 48 c && nat_le c 57
+
+-- 1 to 10 ASCII digits
+abbrev pub is_number : List ℕ → Bool
+is_number field = nat_le 1 (length field) && nat_le (length field) 10 && list_all is_digit field
+
+-- a number from low to high
+abbrev pub is_number_within : ℕ → ℕ → List ℕ → Bool
+is_number_within low high field = is_number field && nat_le low (digits_from 0 field) && nat_le (digits_from 0 field) high

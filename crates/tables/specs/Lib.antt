@@ -1,0 +1,4 @@
+pub mod Field
+pub mod Table
+pub mod Rest
+pub mod Rows
