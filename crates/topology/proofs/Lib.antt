@@ -1,0 +1,7 @@
+mod NameText
+mod NodeLemmas
+mod EntryLemmas
+mod RowLemmas
+mod WellFormed
+mod NumberLemmas
+mod SoundLemmas

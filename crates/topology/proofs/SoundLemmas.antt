@@ -1,0 +1,160 @@
+-- The network that a file makes is well formed.
+use Rattle.std.proofs.Common.{ℕ, ◌+◌, ◌^◌, ◌≤◌, ◌<◌, ◌≡◌, ◌≢◌, ◌∙◌, refl, sym, ap, subst, List, [], ◌∷◌, length, get_or, Bool, true, false, not, ◌||◌, ◌&&◌, nat_lt, nat_le, arith, All, Result, Ok, Err, if◌then◌else◌}
+use Rattle.std.proofs.lemmas.Bool.{false≢true}
+use Rattle.std.proofs.lemmas.Bool.Decides.{nat_tests}
+use Rattle.std.proofs.lemmas.List.Elements.{All-append, All-cons}
+use Rattle.std.proofs.lemmas.Slice.Eq.{bytes_eq-Decides}
+use Rattle.std.specs.Str.{bytes_eq}
+use Rattle.te_model.specs.declared.network.Link.{Link}
+use Rattle.te_model.specs.declared.network.Network.{Network}
+use Rattle.te_model.specs.Network.{is_name, is_well_formed}
+use Rattle.tables.specs.Field.{digits_from, is_number_within}
+use Rattle.tables.proofs.FieldFacts.{within-bounds}
+use Rattle.topology.proofs.WellFormed.{IsLink, WellFormed, well-formed}
+use Rattle.topology.specs.declared.fault.TopologyFault.{TopologyFault}
+use Rattle.topology.specs.declared.fault.TopologyFault.TheVariants as fault
+use Rattle.topology.specs.Numbering.{with_name, number_in}
+use Rattle.topology.specs.Topology.{Entry, entry_of, entry_of_fields, with_link, within, with_entry, with_rows, then_rows, of_records, is_header}
+use Rattle.topology.proofs.NumberLemmas.{named}
+
+-- what a row says, where it is accepted
+pub record IsEntry (e : Entry) : Type 0 where
+  pub source : is_name e.source ≡ true
+  pub target : is_name e.target ≡ true
+  pub differ : e.source ≢ e.target
+  pub capacity_low : 1 ≤ e.capacity
+  pub capacity_high : e.capacity ≤ 2 ^ 32
+  pub cost_low : 1 ≤ e.cost
+  pub cost_high : e.cost ≤ 65535
+
+split : (a b x y d : Bool) (f g h : TopologyFault) (v e : Entry) → ◌≡◌ {A = Result Entry TopologyFault} (if not (a && b) then Err f else if not (x && y) then Err g else if d then Err h else Ok v) (Ok e)
+    → (a ≡ true) × (b ≡ true) × (x ≡ true) × (y ≡ true) × (d ≡ false) × (v ≡ e)
+split true true true true false f g h v e said = (refl, refl, refl, refl, refl, cc said)
+split true true true true true f g h v e said = cc said
+split true true true false d f g h v e said = cc said
+split true true false y d f g h v e said = cc said
+split true false x y d f g h v e said = cc said
+split false b x y d f g h v e said = cc said
+
+fields-said : (row : ℕ) (s t c k : List ℕ) (e : Entry) → entry_of_fields row s t c k ≡ Ok e → IsEntry e
+fields-said row s t c k e said =
+    let (source, target, capacity, cost, differ, same) = split (is_name s) (is_name t) (is_number_within 1 (2 ^ 32) c) (is_number_within 1 65535 k) (bytes_eq s t) (fault.Name row) (fault.Number row) (fault.SelfLink row)
+    (record { source = s; target = t; capacity = digits_from 0 c; cost = digits_from 0 k }) e said in
+    let (low, high) = within-bounds 1 (2 ^ 32) c capacity in
+    let (cheap, dear) = within-bounds 1 65535 k cost in
+    subst IsEntry same (record {
+      source = source;
+      target = target;
+      differ = λ eq. false≢true (sym differ ∙ (bytes_eq-Decides s t).1 eq);
+      capacity_low = low;
+      capacity_high = high;
+      cost_low = cheap;
+      cost_high = dear;
+    })
+
+pub entry-said : (row : ℕ) (xs : List (List ℕ)) (e : Entry) → entry_of row xs ≡ Ok e → IsEntry e
+unfolding entry_of
+entry-said row [] e said = cc said
+entry-said row (a ∷ []) e said = cc said
+entry-said row (a ∷ b ∷ []) e said = cc said
+entry-said row (a ∷ b ∷ c ∷ []) e said = cc said
+entry-said row (a ∷ b ∷ c ∷ d ∷ []) e said = fields-said row a b c d e said
+entry-said row (a ∷ b ∷ c ∷ d ∷ f ∷ rest) e said = cc said
+
+limits : (row : ℕ) (net more : Network) → within row net ≡ Ok more → (net ≡ more) × (length net.names ≤ 64) × (length net.links ≤ 512)
+limits row net more h = go (nat_lt 64 (length net.names)) (nat_lt 512 (length net.links)) refl refl h
+  where
+    go : (a b : Bool) → nat_lt 64 (length net.names) ≡ a → nat_lt 512 (length net.links) ≡ b → ◌≡◌ {A = Result Network TopologyFault} (if a || b then Err (fault.TooMany row) else Ok net) (Ok more)
+        → (net ≡ more) × (length net.names ≤ 64) × (length net.links ≤ 512)
+    go true b p q e = cc e
+    go false true p q e = cc e
+    go false false p q e = (cc e, grind (arith, nat_tests), grind (arith, nat_tests))
+
+wider : (n m : ℕ) → n ≤ m → (l : Link) → IsLink n l → IsLink m l
+wider n m h l i = record {
+  tail = omega (arith, i.tail);
+  head = omega (arith, i.head);
+  differ = i.differ;
+  capacity_low = i.capacity_low;
+  capacity_high = i.capacity_high;
+  cost_low = i.cost_low;
+  cost_high = i.cost_high;
+}
+
+all-wider : (n m : ℕ) → n ≤ m → (ls : List Link) → All (IsLink n) ls → All (IsLink m) ls
+all-wider n m h ls a = λ k d l. wider n m h (get_or ls k d) (a k d l)
+
+-- a link more
+pub linked : (net : Network) (e : Entry) → WellFormed net → IsEntry e → length (with_link net e).names ≤ 64 → length (with_link net e).links ≤ 512 → WellFormed (with_link net e)
+linked net e w i nodes links =
+    let n1 = with_name net.names e.source in
+    let n2 = with_name n1 e.target in
+    let first = named net.names e.source in
+    let second = named n1 e.target in
+    let tail = number_in net.names e.source in
+    let head = number_in n1 e.target in
+    let new : Link = record { tail = tail; head = head; capacity = e.capacity; cost = e.cost } in
+    let is : IsLink (length n2) new = record {
+      tail = omega (arith, first.low, second.grows);
+      head = second.low;
+      differ = λ same. i.differ (sym first.at ∙ sym (second.kept tail first.low) ∙ ap (λ (k : ℕ). get_or n2 k []) same ∙ second.at);
+      capacity_low = i.capacity_low;
+      capacity_high = i.capacity_high;
+      cost_low = i.cost_low;
+      cost_high = i.cost_high;
+    } in
+    let wide : length net.names ≤ length n2 = omega (arith, first.grows, second.grows) in
+    record {
+      names = second.spelled (first.spelled w.names i.source) i.target;
+      distinct = second.distinct (first.distinct w.distinct);
+      links = All-append (IsLink (length n2)) net.links (new ∷ []) (all-wider (length net.names) (length n2) wide net.links w.links)
+          (All-cons (IsLink (length n2)) new [] is (λ k d l. absurd (omega arith)));
+      few_nodes = nodes;
+      few_links = links;
+    }
+
+-- one row
+row-sound : (net more : Network) (row : ℕ) (o : Result Entry TopologyFault) → ((e : Entry) → o ≡ Ok e → IsEntry e) → WellFormed net → with_entry net row o ≡ Ok more → WellFormed more
+row-sound net more row (Ok e) said w h =
+    let (same, nodes, links) = limits row (with_link net e) more h in
+    subst WellFormed same (linked net e w (said e refl) nodes links)
+row-sound net more row (Err f) said w h = cc h
+
+end-sound : (b : Bool) (net more : Network) → ◌≡◌ {A = Result Network TopologyFault} (if b then Ok net else Err fault.Empty) (Ok more) → (net ≡ more) × (b ≡ true)
+end-sound true net more h = (cc h, refl)
+end-sound false net more h = cc h
+
+-- a network with a link
+abbrev Finished : Network → Type 0
+Finished net = WellFormed net × (0 < length net.links)
+
+rows-sound : (net more : Network) (row : ℕ) (rows : List (List (List ℕ))) → WellFormed net → with_rows net row rows ≡ Ok more → Finished more
+unfolding with_rows
+rows-sound net more row [] w h =
+    let (same, some) = end-sound (nat_lt 0 (length net.links)) net more h in
+    subst Finished same (w, grind (arith, nat_tests))
+rows-sound net more row (r ∷ rs) w h = next (with_entry net row (entry_of row r)) refl (λ n. rows-sound n more (row + 1) rs) h
+  where
+    next : (o : Result Network TopologyFault) → with_entry net row (entry_of row r) ≡ o → ((n : Network) → WellFormed n → with_rows n (row + 1) rs ≡ Ok more → Finished more)
+        → then_rows (λ n. with_rows n (row + 1) rs) o ≡ Ok more → Finished more
+    next (Ok n) e go k = go n (row-sound net n row (entry_of row r) (entry-said row r) w e) k
+    next (Err f) e go k = cc k
+
+nothing : WellFormed (record { names = []; links = [] })
+nothing = record {
+  names = λ k d l. absurd (omega arith);
+  distinct = λ i j l h. absurd (omega arith);
+  links = λ k d l. absurd (omega arith);
+  few_nodes = omega arith;
+  few_links = omega arith;
+}
+
+-- the network that the records of a file make
+pub records-sound : (rows : List (List (List ℕ))) (net : Network) → of_records rows ≡ Ok net → is_well_formed net ≡ true
+unfolding of_records
+records-sound [] net h = cc h
+records-sound (r ∷ rs) net h = go (is_header r) h
+  where
+    go : (b : Bool) → ◌≡◌ {A = Result Network TopologyFault} (if b then with_rows (record { names = []; links = [] }) 1 rs else Err fault.Header) (Ok net) → is_well_formed net ≡ true
+    go true k = let (sound, some) = rows-sound (record { names = []; links = [] }) net 1 rs nothing k in well-formed net sound some
+    go false k = cc k

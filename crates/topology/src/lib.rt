@@ -1,0 +1,13 @@
+//! Topologies: the network that the rows of a CSV file make.
+#![tactic(auto)]
+
+mod entry;
+mod fault;
+mod nodes;
+mod reader;
+
+pub use fault::TopologyFault;
+pub use reader::read;
+
+#[cfg(test)]
+mod tests;
