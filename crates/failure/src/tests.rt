@@ -1,0 +1,99 @@
+ghost use Rattle.std.specs.Prelude.{IsTrue};
+ghost use Rattle.te_model.specs.Network.{is_well_formed};
+
+use super::*;
+use std::alloc::Global;
+use std::test::Fail;
+use te_model::{Items, Link, Memory, Name, Network};
+
+// Four nodes s, t, x, y with five links.
+fn five_links(alloc: Global) -> Result<Network, Memory> {
+    let mut names = Vec::new(alloc);
+    for name in ["s", "t", "x", "y"] {
+        names.push(Name::new(String::from_str(alloc, name)?))?;
+    }
+    let mut links = Vec::new(alloc);
+    for (tail, head, capacity, cost) in [
+        (0, 1, 10, 1),
+        (0, 2, 10, 1),
+        (2, 1, 10, 1),
+        (0, 3, 3, 3),
+        (3, 2, 3, 3),
+    ] {
+        links.push(Link {
+            tail,
+            head,
+            capacity,
+            cost,
+        })?;
+    }
+    Ok(Network {
+        names: Items::new(names),
+        links: Items::new(links),
+    })
+}
+
+fn fault_of(alloc: Global, net: &Network, bytes: &[u8]) -> Option<FailureFault>
+    requires { IsTrue (is_well_formed net.now) }
+{
+    read(alloc, net, 2, bytes).err()
+}
+
+#[test]
+fn first_faults(rt: HostRuntime) -> Result<(), Fail> {
+    let alloc = rt.alloc();
+    let net = five_links(alloc)?;
+    assert!(rt; te_model::well_formed(&net));
+    assert_eq!(rt; fault_of(alloc, &net, b""), Some(FailureFault::Header));
+    assert_eq!(rt;
+        fault_of(alloc, &net, b"from,to\n"),
+        Some(FailureFault::Header)
+    );
+    assert_eq!(rt;
+        fault_of(alloc, &net, b"from,to,link\n0,1,1\n0,1\n9,9,9\n"),
+        Some(FailureFault::Fields(2))
+    );
+    assert_eq!(rt;
+        fault_of(alloc, &net, b"from,to,link\n1,0,x\n"),
+        Some(FailureFault::Number(1))
+    );
+    assert_eq!(rt;
+        fault_of(alloc, &net, b"from,to,link\n1,0,5\n"),
+        Some(FailureFault::NoSuchLink(1))
+    );
+    assert_eq!(rt;
+        fault_of(alloc, &net, b"from,to,link\n1,0,4\n"),
+        Some(FailureFault::Interval(1))
+    );
+    assert_eq!(rt;
+        fault_of(alloc, &net, b"from,to,link\n0,2,4\n"),
+        Some(FailureFault::Interval(1))
+    );
+    assert_eq!(rt; fault_of(alloc, &net, b"from,to,link\n"), None);
+    Ok(())
+}
+
+#[test]
+fn one_link_fails_in_one_step(rt: HostRuntime) -> Result<(), Fail> {
+    let alloc = rt.alloc();
+    let net = five_links(alloc)?;
+    assert!(rt; te_model::well_formed(&net));
+    let failures = read(alloc, &net, 2, b"from,to,link\n1,1,1\n")?;
+    assert_eq!(rt; failures.failed_at(1, 1), true);
+    let before = failures.marks(alloc, &net, 0)?;
+    assert_eq!(rt;
+        before.as_slice() == [false, false, false, false, false].as_slice(),
+        true
+    );
+    let marks = failures.marks(alloc, &net, 1)?;
+    assert_eq!(rt;
+        marks.as_slice() == [false, true, false, false, false].as_slice(),
+        true
+    );
+    assert!(rt; marks.len() == net.links.as_slice().len());
+    let left = surviving(alloc, &net, &marks)?;
+    assert_eq!(rt; left.origin.as_slice() == [0, 2, 3, 4].as_slice(), true);
+    assert_eq!(rt; left.network.names == net.names, true);
+    assert_eq!(rt; left.network.links.as_slice()[1].tail, 2);
+    Ok(())
+}
