@@ -1,0 +1,14 @@
+//! Experiments: the plan file, and what it asks for.
+#![tactic(auto)]
+
+mod plan;
+mod plan_fault;
+mod plan_reader;
+mod plan_values;
+
+pub use plan::{Experiment, Key, Recovery, SchemeName};
+pub use plan_fault::PlanFault;
+pub use plan_reader::read_plan;
+
+#[cfg(test)]
+mod tests;
