@@ -1,0 +1,34 @@
+use Rattle.std.proofs.Common.{◌≡◌, suc, ◌+◌, ◌*◌, ◌<◌, ◌≤◌, List, length, get_or, max, arith, ap, ◌∙◌, subst, sym}
+use Rattle.std.proofs.lemmas.Bool.Decides.{nat_tests}
+use Rattle.te_model.specs.declared.network.Link.{Link}
+use Rattle.te_model.specs.declared.units.TheConstants.{RATIO_UNIT, SHARE_UNIT}
+use Rattle.te_model.specs.Network.{capacity_of, no_link, link_count}
+use Rattle.te_model.proofs.SoundLinks.{sound_links}
+use Rattle.routing.specs.Routes.{load_on}
+use Rattle.routing.specs.Utilisation.{greatest_below, parts_on, quotient_up}
+use Rattle.routing.proofs.routes.Routing.parts.Goals as goal
+
+pub utilisation-requires-clause-capacity : goal.utilisation-requires-clause-capacity
+utilisation-requires-clause-capacity c =
+    let net = c.args.net.now in
+    let h = c.loop-h.h in
+    let inside : h < link_count net = omega (arith, c.loop-h-test.true, ap (λ (ls : List Link). length ls) c.as_slice-links.ensures) in
+    let sound = sound_links net c.requires.network h inside in
+    let some : 1 ≤ capacity_of net h = grind (arith, nat_tests) in
+    subst (λ (ls : List Link). 1 ≤ (get_or ls h no_link).capacity) (sym c.as_slice-links.ensures) some
+
+pub loop-h-preserved : goal.loop-h-preserved
+loop-h-preserved c =
+    let net = c.args.net.now in
+    let routes = c.args.self.now.routes in
+    let demand = c.args.matrix.now.demand in
+    let h = c.loop-h.h in
+    let on : c.utilisation.result ≡ parts_on net routes demand h =
+    c.utilisation.ensures
+    ∙ (ap (λ x. quotient_up (x * RATIO_UNIT) (SHARE_UNIT * (get_or c.as_slice-links.result.now h no_link).capacity)) c.load-load.ensures.load
+    ∙ ap (λ (ls : List Link). quotient_up (load_on routes demand h * RATIO_UNIT) (SHARE_UNIT * (get_or ls h no_link).capacity)) c.as_slice-links.ensures)
+    in
+    let most : c.max-most.result ≡ max c.loop-h.most c.utilisation.result = grind (arith, c.max-most.ensures) in
+    let next : h + 1 ≡ suc h = omega arith in
+    subst (λ n. c.max-most.result ≡ greatest_below n (parts_on net routes demand)) (sym next)
+    (most ∙ (ap (λ x. max x c.utilisation.result) c.loop-h.invariant ∙ ap (λ x. max (greatest_below h (parts_on net routes demand)) x) on))

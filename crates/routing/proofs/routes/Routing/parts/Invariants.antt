@@ -1,0 +1,6 @@
+use Rattle.std.proofs.Common.{◌≡◌}
+use Rattle.routing.specs.Utilisation.{greatest_below, parts_on}
+use Rattle.routing.proofs.routes.Routing.parts.Given as goal
+
+abbrev pub invariant-loop-h : goal.invariant-loop-h
+invariant-loop-h l = l.most ≡ greatest_below l.h (parts_on l.net l.self.routes l.matrix.demand)

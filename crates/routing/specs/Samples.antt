@@ -1,0 +1,26 @@
+-- A network and a routing that tests use.
+use Rattle.std.specs.Prelude.{ℕ, List, [], ◌∷◌, codes}
+use Rattle.te_model.specs.declared.network.Link.{Link}
+use Rattle.te_model.specs.declared.network.Network.{Network}
+use Rattle.te_model.specs.declared.route.PathShare.{PathShare}
+use Rattle.te_model.specs.declared.route.PairRoutes.{PairRoutes}
+
+abbrev pub link : ℕ → ℕ → Link
+link tail head = record { tail = tail; head = head; capacity = 10; cost = 1 }
+
+-- the nodes s, t and x, a straight link from s to t, a way over x, and a link from x back to s
+abbrev pub three_nodes : Network
+three_nodes = record {
+  names = codes "s" ∷ codes "t" ∷ codes "x" ∷ [];
+  links = link 0 1 ∷ link 0 2 ∷ link 2 1 ∷ link 2 0 ∷ [];
+}
+
+abbrev pub weighted : List ℕ → ℕ → PathShare
+weighted links weight = record { links = links; weight = weight }
+
+-- three quarters of the demand from s to t on the straight link, and the rest over x
+abbrev pub two_ways : List PairRoutes
+two_ways = record {
+  pair = record { src = 0; dst = 1 };
+  paths = weighted (0 ∷ []) 750000 ∷ weighted (1 ∷ 2 ∷ []) 250000 ∷ [];
+} ∷ []

@@ -1,0 +1,111 @@
+ghost use Rattle.std.specs.Prelude.{◌≡◌, IfOk};
+ghost use Rattle.routing.specs.Samples.{link, three_nodes, two_ways};
+
+use super::*;
+use std::alloc::{AllocError, Global};
+use std::test::Fail;
+use te_model::{Items, Link, Matrix, Name, Network, Pair, PairRoutes, PathShare};
+
+fn link(tail: u32, head: u32) -> Link
+    ensures { result ≡ link tail head }
+{
+    Link {
+        tail,
+        head,
+        capacity: 10,
+        cost: 1,
+    }
+}
+
+/// The nodes s, t and x: a straight link from s to t, a way over x, and a link from x back to s.
+fn three_nodes(alloc: Global) -> Result<Network, AllocError>
+    ensures { IfOk result (λ n. n ≡ three_nodes) }
+{
+    let names = vec![in alloc;
+        Name::new("s".to_string(alloc)?),
+        Name::new("t".to_string(alloc)?),
+        Name::new("x".to_string(alloc)?),
+    ]?;
+    let links = vec![in alloc; link(0, 1), link(0, 2), link(2, 1), link(2, 0)]?;
+    Ok(Network {
+        names: Items::new(names),
+        links: Items::new(links),
+    })
+}
+
+fn two_ways(alloc: Global) -> Result<Vec<PairRoutes>, AllocError>
+    ensures { IfOk result (λ r. r.items ≡ two_ways) }
+{
+    let straight = vec![in alloc; 0]?;
+    let around = vec![in alloc; 1, 2]?;
+    let paths = vec![in alloc;
+        PathShare {
+            links: Items::new(straight),
+            weight: 750_000
+        },
+        PathShare {
+            links: Items::new(around),
+            weight: 250_000
+        },
+    ]?;
+    let routes = vec![in alloc;
+        PairRoutes {
+            pair: Pair { src: 0, dst: 1 },
+            paths: Items::new(paths)
+        },
+    ]?;
+    Ok(routes)
+}
+
+#[test]
+fn shares_and_loads(rt: HostRuntime) -> Result<(), Fail> {
+    let alloc = rt.alloc();
+    let net = three_nodes(alloc)?;
+    let routing = Routing {
+        routes: Items::new(two_ways(alloc)?),
+    };
+    let matrix = Matrix {
+        demand: Items::new(vec![in alloc; 8]?),
+    };
+    assert_eq!(rt; routing.share(0, 0), 750_000);
+    assert_eq!(rt; routing.share(0, 2), 250_000);
+    assert_eq!(rt; routing.share(0, 3), 0);
+    assert_eq!(rt; routing.load(&matrix, 0), 6_000_000);
+    assert_eq!(rt; routing.parts(&net, &matrix), 600_000);
+    Ok(())
+}
+
+#[test]
+fn loops_and_equal_paths(rt: HostRuntime) -> Result<(), Fail> {
+    let alloc = rt.alloc();
+    let net = three_nodes(alloc)?;
+    match cut_loops(alloc, &net, 0, &[1, 3, 0]) {
+        Ok(cut) => assert!(rt; cut.as_slice() == [0].as_slice()),
+        Err(_) => assert!(rt; false),
+    }
+    let parts = vec![in alloc;
+        PathShare {
+            links: Items::new(vec![in alloc; 0]?),
+            weight: 500_000
+        },
+        PathShare {
+            links: Items::new(vec![in alloc; 1, 2]?),
+            weight: 250_000
+        },
+        PathShare {
+            links: Items::new(vec![in alloc; 0]?),
+            weight: 250_000
+        },
+    ]?;
+    match merge(alloc, parts) {
+        Ok(merged) => {
+            assert_eq!(rt; merged.len(), 2);
+            assert!(rt; merged[0].links.as_slice() == [0].as_slice());
+            assert_eq!(rt; merged[0].weight, 750_000);
+            assert!(rt; merged[1].links.as_slice() == [1, 2].as_slice());
+            assert_eq!(rt; merged[1].weight, 250_000);
+        }
+        Err(_) => assert!(rt; false),
+    }
+    Ok(())
+}
