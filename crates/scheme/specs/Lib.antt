@@ -1,0 +1,6 @@
+pub mod Reach
+pub mod Fault
+pub mod Fixed
+pub mod Least
+pub mod Low
+pub mod Samples
