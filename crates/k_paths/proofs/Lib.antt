@@ -1,0 +1,9 @@
+pub mod Ordering
+pub mod Visits
+pub mod ClassLeast
+pub mod Deviating
+pub mod Prefixes
+pub mod Splitting
+pub mod Starting
+pub mod Rounds
+pub mod EvenSplits

@@ -1,0 +1,86 @@
+-- One round of the search, and its end.
+use Rattle.std.proofs.Common.{◌⊎◌, inl, inr, ◌≡◌, ℕ, ◌<◌, ◌≤◌, List, [], ◌∷◌, ◌++◌, length, get_or, arith, ap, sym, ◌∙◌, subst}
+use Rattle.std.specs.Prelude.{All, IsTrue}
+use Rattle.std.specs.List.{Contains, AllPairs}
+use Rattle.std.proofs.lemmas.List.{get_or_read, length-append}
+use Rattle.std.proofs.lemmas.List.Elements.{All-nil, All-push, All-weaker, Contains-get_or}
+use Rattle.std.proofs.lemmas.List.Quantifiers.{all_pairs_push}
+use Rattle.te_model.specs.declared.network.Network.{Network}
+use Rattle.te_model.specs.Network.{link_count}
+use Rattle.te_model.specs.Path.{is_path}
+use Rattle.shortest_path.specs.Paths.{IsBelow}
+use Rattle.k_paths.specs.declared.candidate.Candidate.{Candidate}
+use Rattle.k_paths.specs.Classes.{AreLeast}
+use Rattle.shortest_path.specs.Costs.{HasCosts, IsBefore}
+use Rattle.k_paths.specs.Search.{IsSearch, AreFirst, links_at, no_candidate}
+use Rattle.k_paths.proofs.Prefixes.{path_links}
+
+-- the search, and what holds of the found paths
+pub record FoundSoFar (net : Network) (s t k : ℕ) (found : List (List ℕ)) (candidates : List Candidate) : Type 0 where
+  pub few : length found ≤ k
+  pub sound : All (λ p. IsTrue (is_path net s t p)) found
+  pub ascending : AllPairs (IsBefore net) found
+  pub search' : IsSearch net s t found candidates
+
+pub found_none : (net : Network) (s t k : ℕ) (candidates : List Candidate) → IsSearch net s t [] candidates → FoundSoFar net s t k [] candidates
+found_none net s t k candidates search' = record {
+  few = omega arith;
+  sound = All-nil (λ p. IsTrue (is_path net s t p));
+  ascending = λ i j d lt below. absurd (omega arith);
+  search' = search';
+}
+
+-- the candidate at a place
+candidate_at : (candidates : List Candidate) (i : ℕ) → i < length candidates → Contains candidates (get_or candidates i no_candidate)
+candidate_at candidates i below = Contains-get_or candidates i no_candidate below
+
+-- the links of a candidate are those at some place
+pub at_some_place : (candidates : List Candidate) (c : Candidate) → Contains candidates c → (k : ℕ) × (k < length candidates) × (c.links ≡ links_at candidates k)
+at_some_place candidates c (k, below, is) = (k, below, ap (λ (d : Candidate). d.links) (get_or_read candidates k c below (sym is) no_candidate))
+
+pub are_first : (net : Network) (costs : List ℕ) (candidates : List Candidate) (i : ℕ) → HasCosts net costs →
+    ((k : ℕ) → k < length candidates → (links_at candidates k ≡ links_at candidates i) ⊎ IsBelow costs (links_at candidates i) (links_at candidates k)) →
+    AreFirst net (links_at candidates i) candidates
+are_first net costs candidates i has first c has_c =
+    let (k, below, is) = at_some_place candidates c has_c in
+    elim (first k below) [
+      | inl e ↦ inl (is ∙ e)
+      | inr later ↦ inr (subst (λ l. IsBefore net (links_at candidates i) l) (sym is) (subst (λ x. IsBelow x (links_at candidates i) (links_at candidates k)) has.are later))
+    ]
+
+pub links_inside : (net : Network) (s t : ℕ) (costs : List ℕ) (found : List (List ℕ)) (candidates : List Candidate) → HasCosts net costs →
+    IsSearch net s t found candidates → (k : ℕ) → k < length candidates → All (λ h. h < length costs) (links_at candidates k)
+links_inside net s t costs found candidates has search' k below =
+    let least = search'.least (get_or candidates k no_candidate) (candidate_at candidates k below) in
+    All-weaker (λ h. h < link_count net) (λ h. h < length costs) (λ h lt. omega (arith, lt, has.count)) (links_at candidates k)
+    (path_links net s t (links_at candidates k) least.member.sound)
+
+pub found_more : (net : Network) (s t k : ℕ) (found : List (List ℕ)) (candidates next : List Candidate) (i : ℕ) →
+    FoundSoFar net s t k found candidates → i < length candidates → length found < k →
+    IsSearch net s t (found ++ links_at candidates i ∷ []) next → FoundSoFar net s t k (found ++ links_at candidates i ∷ []) next
+found_more net s t k found candidates next i so below room search' =
+    let best = get_or candidates i no_candidate in
+    let has = candidate_at candidates i below in
+    let least = so.search'.least best has in
+    let after : All (λ f. IsBefore net f best.links) found = so.search'.after best has best.links least.member in
+    record {
+      few = omega (arith, length-append found (best.links ∷ []));
+      sound = All-push (λ p. IsTrue (is_path net s t p)) found best.links so.sound least.member.sound;
+      ascending = all_pairs_push (IsBefore net) found best.links so.ascending (λ j d lt. after j d lt);
+      search' = search';
+    }
+
+pub found_end : (net : Network) (s t k : ℕ) (found : List (List ℕ)) (candidates : List Candidate) →
+    FoundSoFar net s t k found candidates → (length found ≡ k) ⊎ (candidates ≡ []) → AreLeast net s t k found
+found_end net s t k found candidates so done = record {
+  few = so.few;
+  sound = so.sound;
+  ascending = so.ascending;
+  others = λ q path. elim (so.search'.cover q path) [
+    | inl there ↦ inl there
+    | inr (c, has, of_c) ↦ elim done [
+      | inl full ↦ inr (full, so.search'.after c has q of_c)
+      | inr empty ↦ absurd (let none = subst (λ (cs : List Candidate). Contains cs c) empty has in omega (arith, none.1))
+    ]
+  ];
+}

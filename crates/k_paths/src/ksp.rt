@@ -1,0 +1,112 @@
+//! The demand of each pair is split evenly over its first paths.
+ghost use Rattle.std.specs.Prelude.{◌≡◌, ◌≤◌, IfOk, map};
+ghost use Rattle.k_paths.specs.Even.{IsEvenSplit, of_weight_one};
+
+use crate::least::k_least;
+use routing::{Routing, merge, normalize};
+use scheme::{Oblivious, PairSplit, Scheme, SchemeFault, fixed_routing};
+use std::alloc::Global;
+use te_model::{Items, Matrix, Memory, Network, Pair, Pairs, Path, PathShare};
+
+/// The `k` least paths of each pair by (cost, list of link numbers), with even weights.
+///
+/// The units that do not divide go to the first paths in this order.
+#[derive(Clone, Copy, Debug, PartialEq, Eq)]
+pub struct Ksp {
+    /// From 1 to 32.
+    pub k: u32,
+    ghost some: { 1 ≤ k },
+    ghost few: { k ≤ 32 },
+}
+
+/// The routing of `Ksp` for a network and its pairs.
+#[derive(Drop)]
+pub struct KspPlan {
+    pub routing: Routing,
+}
+
+/// The paths, each with a weight of one.
+fn of_weight_one(alloc: Global, paths: Vec<Path>) -> Result<Vec<PathShare>, Memory>
+    ensures { IfOk result (λ parts. parts.items ≡ of_weight_one (map (λ p. p.links) paths.items)) }
+{
+    let mut parts = Vec::with_capacity(alloc, paths.len())?;
+    for path in paths {
+        parts.push(PathShare {
+            links: path.links,
+            weight: 1,
+        })?;
+    }
+    Ok(parts)
+}
+
+impl PairSplit for Ksp {
+    ghost limit = { 32 };
+
+    ghost splits = { λ ksp. IsEvenSplit ksp.k };
+
+    fn split(
+        &self,
+        alloc: Global,
+        net: &Network,
+        pair: Pair,
+    ) -> Result<Option<Vec<PathShare>>, Memory> {
+        let paths = k_least(alloc, net, pair.src, pair.dst, self.k)?;
+        if paths.is_empty() {
+            return Ok(None);
+        }
+        let ones = of_weight_one(alloc, paths)?;
+        let parts = normalize(alloc, &ones)?;
+        let merged = merge(alloc, parts)?;
+        Ok(Some(merged))
+    }
+}
+
+impl Scheme for Ksp {
+    ghost use Rattle.scheme.specs.Fixed.{IsRoutingBy, IsFixedRouting};
+
+    type Plan = KspPlan;
+
+    type Note = ();
+
+    ghost PATHS = { 32 };
+
+    ghost is_plan = { λ ksp net pairs plan. IsRoutingBy (IsEvenSplit ksp.k) 32 net pairs plan.routing.routes };
+
+    ghost relates = { λ ksp net _ plan _ routes _. IsFixedRouting (IsEvenSplit ksp.k) net plan.routing.routes routes };
+
+    const PATHS: u32 = 32;
+
+    fn prepare(&self, alloc: Global, net: &Network, pairs: &Pairs) -> Result<KspPlan, SchemeFault> {
+        let routing = fixed_routing(alloc, self, net, pairs)?;
+        Ok(KspPlan { routing })
+    }
+
+    fn route(
+        &self,
+        alloc: Global,
+        _net: &Network,
+        plan: &KspPlan,
+        _matrix: &Matrix,
+    ) -> Result<(Routing, ()), Memory> {
+        let routing = plan.routing.copy(alloc)?;
+        Ok((routing, ()))
+    }
+}
+
+impl Oblivious for Ksp {
+    ghost use Rattle.std.specs.Prelude.{refl};
+
+    ghost fixed_routes = { λ _ plan. plan.routing.routes };
+
+    fn fixed<'a>(&self, plan: &'a KspPlan) -> &'a Routing {
+        &plan.routing
+    }
+
+    ghost fixed_routing = { λ _ net pairs plan is. is.routing };
+
+    ghost fixed_few = { λ _ net pairs plan is. is.few };
+
+    ghost fixed_related = { λ _ net pairs plan demand is has. (tt, record { same = refl; by_rule = is.by_rule }) };
+
+    ghost fixed_only = { λ _ net pairs plan demand routes note is related. related.same };
+}

@@ -1,0 +1,43 @@
+//! The first paths of all in the order of costs.
+ghost use Rattle.std.specs.Prelude.{◌≡◌, ◌≢◌, ◌<◌, ◌≤◌, IfOk, IsTrue, map};
+ghost use Rattle.te_model.specs.Network.{is_well_formed, node_count};
+ghost use Rattle.k_paths.specs.Classes.{AreLeast};
+
+use crate::search::{advance, first_class, first_of};
+use shortest_path::costs;
+use std::alloc::Global;
+use te_model::{Items, Memory, Network, Path};
+
+/// The first `k` of all paths from `src` to `dst` in the order of (cost, list of link numbers), or
+/// all of them where there are fewer.
+///
+/// The classes of paths that are not found yet are split at each found path (Yen, 1971; Lawler,
+/// 1972). `Memory` comes where memory is wanting.
+pub fn k_least(
+    alloc: Global,
+    net: &Network,
+    src: u32,
+    dst: u32,
+    k: u32,
+) -> Result<Vec<Path>, Memory>
+    requires network { IsTrue (is_well_formed net.now) }
+    requires src { src < node_count net.now }
+    requires dst { dst < node_count net.now }
+    requires apart { src ≢ dst }
+    requires some { 1 ≤ k }
+    requires few { k ≤ 32 }
+    ensures { IfOk result (λ p. AreLeast net.now src dst k (map (λ q. q.links) p.items)) }
+{
+    let costs = costs(alloc, net)?;
+    let mut candidates = first_class(alloc, net, &costs, src, dst)?;
+    let mut found: Vec<Path> = Vec::new(alloc);
+    while found.len() < k as usize && !candidates.is_empty() {
+        let best = first_of(&costs, &candidates);
+        let links = Vec::from_slice(alloc, candidates[best].links.as_slice())?;
+        candidates = advance(alloc, net, &costs, src, dst, candidates, &links)?;
+        found.push(Path {
+            links: Items::new(links),
+        })?;
+    }
+    Ok(found)
+}

@@ -1,0 +1,17 @@
+//! The first paths between two nodes in the order of their costs (Yen, 1971; Lawler, 1972), and the
+//! scheme that splits each demand evenly over them.
+#![tactic(auto)]
+
+mod candidate;
+mod class;
+mod ksp;
+mod least;
+mod marks;
+mod order;
+mod search;
+
+pub use ksp::{Ksp, KspPlan};
+pub use least::k_least;
+
+#[cfg(test)]
+mod tests;
