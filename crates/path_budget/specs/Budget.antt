@@ -1,0 +1,32 @@
+-- The heaviest paths of each pair, as a budget of forwarding entries allows (SMORE; Kumar et al., 2018).
+use Rattle.std.specs.Prelude.{ℕ, zero, suc, Bool, List, [], ◌∷◌, ◌++◌, length, map, slice_index_or, if◌then◌else◌}
+use Rattle.te_model.specs.declared.route.PathShare.{PathShare}
+use Rattle.te_model.specs.declared.route.PairRoutes.{PairRoutes}
+use Rattle.te_model.specs.Apportion.{is_among_first}
+use Rattle.routing.specs.Merge.{no_path}
+use Rattle.routing.specs.Normal.{normalized}
+
+abbrev pub path_at : List PathShare → ℕ → PathShare
+path_at paths i = slice_index_or paths i no_path
+
+abbrev pub weight_at : List PathShare → ℕ → ℕ
+weight_at paths i = (path_at paths i).weight
+
+-- whether fewer than `budget` paths come before the one at place i: by the greater weight, and at the same weight by the place
+abbrev pub is_heavy : ℕ → List PathShare → ℕ → Bool
+is_heavy budget paths i = is_among_first (length paths) (weight_at paths) budget i
+
+-- the heavy ones among the first n paths, in their order
+abbrev pub heavy_below : ℕ → List PathShare → ℕ → List PathShare
+heavy_below budget paths zero = []
+heavy_below budget paths (suc n) = if is_heavy budget paths n then heavy_below budget paths n ++ path_at paths n ∷ [] else heavy_below budget paths n
+
+abbrev pub heaviest : ℕ → List PathShare → List PathShare
+heaviest budget paths = heavy_below budget paths (length paths)
+
+-- the heaviest paths of the pair, their weights scaled to the unit of shares
+abbrev pub trimmed_pair : ℕ → PairRoutes → PairRoutes
+trimmed_pair budget r = record { pair = r.pair; paths = normalized (heaviest budget r.paths) }
+
+abbrev pub trimmed : ℕ → List PairRoutes → List PairRoutes
+trimmed budget routes = map (trimmed_pair budget) routes
