@@ -1,0 +1,232 @@
+-- Walks that are led round failed links, and the paths that they leave.
+use Rattle.std.proofs.Common.{◌≡◌, ℕ, zero, suc, ◌+◌, ◌<◌, ◌≤◌, Bool, true, false, Option, Some, None, List, [], ◌∷◌, ◌++◌, length, map, take, All, arith, refl, ap, sym, ◌∙◌, subst, ◌==◌, ◌&&◌, length-append}
+use Rattle.std.specs.Prelude.{IsTrue, MatchBool, nat_lt, slice_index_or}
+use Rattle.std.proofs.lemmas.Bool.{and_parts, eqb-true, eq-eqb}
+use Rattle.std.proofs.lemmas.Bool.Decides.{nat_tests}
+use Rattle.std.proofs.lemmas.List.{append-nil, append_assoc, get_or-map, length-map, take_more}
+use Rattle.std.proofs.lemmas.List.Elements.{All-get_or, All-nil, All-cons, All-head, All-tail, All-append}
+use Rattle.std.proofs.lemmas.List.Sums.{sum_by-append, sum_by-cons}
+use Rattle.te_model.specs.declared.network.Network.{Network}
+use Rattle.te_model.specs.declared.route.PathShare.{PathShare}
+use Rattle.te_model.specs.Network.{link_count, tail_of, head_of}
+use Rattle.te_model.specs.Path.{chains, is_path, nodes_visited, is_distinct}
+use Rattle.shortest_path.specs.Costs.{costs_of}
+use Rattle.shortest_path.specs.Least.{IsLeastWalk, links_of}
+use Rattle.te_model.specs.declared.route.Path.{Path}
+use Rattle.shortest_path.proofs.Walks.{chains_of_walk}
+use Rattle.routing.specs.Loops.{end_of}
+use Rattle.routing.specs.Split.{total_weight}
+use Rattle.routing.proofs.Cutting.{cut_is_path, chained_links}
+use Rattle.local_recovery.specs.Recovery.{has_failed, open_links, stand_in_at, IsStandIn, AreStandIns, LeadOn, joined, walk_over, IsPart, AreParts}
+
+-- what a chain of at least one link has
+pub chain_parts : (net : Network) (s t h : ℕ) (hs : List ℕ) → chains net s t (h ∷ hs) ≡ true →
+    (h < link_count net) × (tail_of net h ≡ s) × (chains net (head_of net h) t hs ≡ true)
+chain_parts net s t h hs chain =
+    let outer = and_parts (nat_lt h (link_count net) && tail_of net h == s) (chains net (head_of net h) t hs) chain in
+    let inner = and_parts (nat_lt h (link_count net)) (tail_of net h == s) outer.0 in
+    let test = inner.0 in
+    (grind (arith, nat_tests), eqb-true (tail_of net h) s inner.1, outer.1)
+
+chain_from : (net : Network) (s t h : ℕ) (hs : List ℕ) → h < link_count net → tail_of net h ≡ s → chains net (head_of net h) t hs ≡ true →
+    chains net s t (h ∷ hs) ≡ true
+chain_from net s t h hs below from rest =
+    let a : nat_lt h (link_count net) ≡ true = grind (arith, nat_tests) in
+    let b : (tail_of net h == s) ≡ true = eq-eqb (tail_of net h) s from in
+    rw (a, b) rest
+
+pub chains-append : (net : Network) (s u t : ℕ) (a b : List ℕ) → chains net s u a ≡ true → chains net u t b ≡ true → chains net s t (a ++ b) ≡ true
+chains-append net s u t [] b first second = subst (λ (x : ℕ). chains net x t b ≡ true) (sym (eqb-true s u first)) second
+chains-append net s u t (h ∷ hs) b first second =
+    let is = chain_parts net s u h hs first in
+    chain_from net s t h (hs ++ b) is.0 is.1 (chains-append net (head_of net h) u t hs b is.2 second)
+
+chains-end : (net : Network) (s t : ℕ) (walk : List ℕ) → chains net s t walk ≡ true → end_of net s walk ≡ t
+chains-end net s t [] chain = eqb-true s t chain
+chains-end net s t (h ∷ hs) chain = chains-end net (head_of net h) t hs (chain_parts net s t h hs chain).2
+
+-- a chain leads to its end
+pub chains_to_end : (net : Network) (s t : ℕ) (walk : List ℕ) → chains net s t walk ≡ true → chains net s (end_of net s walk) walk ≡ true
+chains_to_end net s t walk chain = subst (λ (v : ℕ). chains net s v walk ≡ true) (sym (chains-end net s t walk chain)) chain
+
+link_chains : (net : Network) (h : ℕ) → h < link_count net → chains net (tail_of net h) (head_of net h) (h ∷ []) ≡ true
+link_chains net h below = chain_from net (tail_of net h) (head_of net h) h [] below refl (eq-eqb (head_of net h) (head_of net h) refl)
+
+some_same : {A : Type 0} (x y : A) → Some x ≡ Some y → x ≡ y
+some_same x y e = cc
+
+stand_in_leads : (net : Network) (failed : List Bool) (h : ℕ) (walk : List ℕ) (b : Bool) → h < link_count net →
+    MatchBool b (IsLeastWalk net (costs_of net) (open_links failed) (tail_of net h) (head_of net h) (Some walk)) (Some walk ≡ Some (h ∷ [])) →
+    chains net (tail_of net h) (head_of net h) walk ≡ true
+stand_in_leads net failed h walk true below is = chains_of_walk net (open_links failed) (tail_of net h) (head_of net h) walk is.0
+stand_in_leads net failed h walk false below is =
+    subst (λ w. chains net (tail_of net h) (head_of net h) w ≡ true) (sym (some_same walk (h ∷ []) is)) (link_chains net h below)
+
+-- what stands in for a link leads from its tail to its head
+pub stand_ins_lead : (net : Network) (failed : List Bool) (stand_ins : List (Option (List ℕ))) → AreStandIns net failed stand_ins → LeadOn net stand_ins
+stand_ins_lead net failed stand_ins are = record {
+  count = are.count;
+  each = λ h walk below is.
+      stand_in_leads net failed h walk (has_failed failed h) below (subst (IsStandIn net failed h) is (are.each h below));
+}
+
+joined_parts : (a b : Option (List ℕ)) (w : List ℕ) → joined a b ≡ Some w →
+    (x : List ℕ) × (y : List ℕ) × (a ≡ Some x) × (b ≡ Some y) × (w ≡ x ++ y)
+joined_parts None b w e = cc
+joined_parts (Some x) None w e = cc
+joined_parts (Some x) (Some y) w e = (x, y, refl, refl, cc)
+
+-- the walk over what stands in for the links of a chain chains too
+pub walk_chains : (net : Network) (stand_ins : List (Option (List ℕ))) (s t : ℕ) (links walk : List ℕ) → LeadOn net stand_ins →
+    chains net s t links ≡ true → walk_over stand_ins links ≡ Some walk → chains net s t walk ≡ true
+walk_chains net stand_ins s t [] walk lead chain is = subst (λ w. chains net s t w ≡ true) (some_same [] walk is) chain
+walk_chains net stand_ins s t (h ∷ hs) walk lead chain is =
+    let link = chain_parts net s t h hs chain in
+    let parts = joined_parts (stand_in_at stand_ins h) (walk_over stand_ins hs) walk is in
+    let x = parts.0 in
+    let y = parts.1 in
+    let first = lead.each h x link.0 parts.2 in
+    let rest = walk_chains net stand_ins (head_of net h) t hs y lead link.2 parts.3 in
+    subst (λ w. chains net s t w ≡ true) (sym parts.4)
+    (subst (λ (v : ℕ). chains net v t (x ++ y) ≡ true) link.1 (chains-append net (tail_of net h) (head_of net h) t x y first rest))
+
+joined-assoc : (a b c : Option (List ℕ)) → joined (joined a b) c ≡ joined a (joined b c)
+joined-assoc None b c = refl
+joined-assoc (Some x) None c = refl
+joined-assoc (Some x) (Some y) None = refl
+joined-assoc (Some x) (Some y) (Some z) = ap Some (append_assoc x y z)
+
+joined-none : (r : Option (List ℕ)) → joined (Some []) r ≡ r
+joined-none None = refl
+joined-none (Some x) = refl
+
+joined_to_none : (a : Option (List ℕ)) → joined a None ≡ None
+joined_to_none None = refl
+joined_to_none (Some x) = refl
+
+walk_over-append : (stand_ins : List (Option (List ℕ))) (xs ys : List ℕ) →
+    walk_over stand_ins (xs ++ ys) ≡ joined (walk_over stand_ins xs) (walk_over stand_ins ys)
+walk_over-append stand_ins [] ys = sym (joined-none (walk_over stand_ins ys))
+walk_over-append stand_ins (x ∷ xs) ys =
+    ap (joined (stand_in_at stand_ins x)) (walk_over-append stand_ins xs ys)
+    ∙ sym (joined-assoc (stand_in_at stand_ins x) (walk_over stand_ins xs) (walk_over stand_ins ys))
+
+-- one link more
+pub walk_over_more : (stand_ins : List (Option (List ℕ))) (xs : List ℕ) (h : ℕ) (walk more : List ℕ) →
+    walk_over stand_ins xs ≡ Some walk → stand_in_at stand_ins h ≡ Some more → walk_over stand_ins (xs ++ h ∷ []) ≡ Some (walk ++ more)
+walk_over_more stand_ins xs h walk more before here =
+    walk_over-append stand_ins xs (h ∷ [])
+    ∙ (ap (λ r. joined r (joined (stand_in_at stand_ins h) (Some []))) before
+    ∙ (ap (λ r. joined (Some walk) (joined r (Some []))) here ∙ ap (λ w. Some (walk ++ w)) (append-nil more)))
+
+-- no walk where nothing stands in for one of the links
+pub walk_over_none : (stand_ins : List (Option (List ℕ))) (xs : List ℕ) (i : ℕ) → i < length xs →
+    stand_in_at stand_ins (slice_index_or xs i 0) ≡ None → walk_over stand_ins xs ≡ None
+walk_over_none stand_ins [] i below none = absurd (omega arith)
+walk_over_none stand_ins (x ∷ xs) zero below none = ap (λ r. joined r (walk_over stand_ins xs)) none
+walk_over_none stand_ins (x ∷ xs) (suc i) below none =
+    ap (joined (stand_in_at stand_ins x)) (walk_over_none stand_ins xs i (omega arith) none) ∙ joined_to_none (stand_in_at stand_ins x)
+
+-- one path more
+pub AreParts_more : (net : Network) (stand_ins : List (Option (List ℕ))) (s : ℕ) (xs parts : List PathShare) (x : PathShare) (part : List PathShare) →
+    AreParts net stand_ins s xs parts → IsPart net s x.weight (walk_over stand_ins x.links) part → AreParts net stand_ins s (xs ++ x ∷ []) (parts ++ part)
+AreParts_more net stand_ins s [] parts x part are is = (part, [], is, refl, ap (λ ps. ps ++ part) are ∙ sym (append-nil part))
+AreParts_more net stand_ins s (y ∷ ys) parts x part are is =
+    let first = are.0 in
+    let rest = are.1 in (
+      first,
+      rest ++ part,
+      are.2,
+      AreParts_more net stand_ins s ys rest x part are.3 is,
+      ap (λ ps. ps ++ part) are.4 ∙ append_assoc first rest part,
+    )
+
+abbrev pub IsPathOf : Network → ℕ → ℕ → PathShare → Type 0
+IsPathOf net s t x = IsTrue (is_path net s t x.links)
+
+part_path : (net : Network) (s t weight : ℕ) (walk : Option (List ℕ)) (part : List PathShare) →
+    ((w : List ℕ) → walk ≡ Some w → chains net s t w ≡ true) → IsPart net s weight walk part → All (IsPathOf net s t) part
+part_path net s t weight None part chain is = subst (All (IsPathOf net s t)) (sym is) (All-nil (IsPathOf net s t))
+part_path net s t weight (Some w) part chain is =
+    subst (All (IsPathOf net s t)) (sym is.2)
+    (All-cons (IsPathOf net s t) (record { links = is.0; weight = weight }) [] (cut_is_path net s t w is.0 (chain w refl) is.1) (All-nil (IsPathOf net s t)))
+
+-- the parts are paths between the same nodes
+pub parts_paths : (net : Network) (stand_ins : List (Option (List ℕ))) (s t : ℕ) (xs parts : List PathShare) → LeadOn net stand_ins →
+    All (IsPathOf net s t) xs → AreParts net stand_ins s xs parts → All (IsPathOf net s t) parts
+parts_paths net stand_ins s t [] parts lead paths are = subst (All (IsPathOf net s t)) (sym are) (All-nil (IsPathOf net s t))
+parts_paths net stand_ins s t (x ∷ xs) parts lead paths are =
+    let chain = (and_parts (chains net s t x.links) (is_distinct (nodes_visited net s x.links)) (All-head (IsPathOf net s t) x xs paths)).0 in
+    subst (All (IsPathOf net s t)) (sym are.4)
+    (All-append (IsPathOf net s t) are.0 are.1
+    (part_path net s t x.weight (walk_over stand_ins x.links) are.0 (λ w is. walk_chains net stand_ins s t x.links w lead chain is) are.2)
+    (parts_paths net stand_ins s t xs are.1 lead (All-tail (IsPathOf net s t) x xs paths) are.3))
+
+part_small : (net : Network) (s weight : ℕ) (walk : Option (List ℕ)) (part : List PathShare) → IsPart net s weight walk part →
+    (length part ≤ 1) × (total_weight part ≤ weight) × (1 ≤ weight → All (λ (x : PathShare). 1 ≤ x.weight) part)
+part_small net s weight None part is =
+    (omega (arith, ap length is), omega (arith, ap total_weight is, none), λ some. subst (All (λ (x : PathShare). 1 ≤ x.weight)) (sym is) (All-nil _))
+  where
+    none : total_weight [] ≡ 0
+    none = refl
+part_small net s weight (Some w) part is =
+    let one : PathShare = record { links = is.0; weight = weight } in (
+      omega (arith, ap length is.2),
+      omega (arith, ap total_weight is.2, sum_by-cons (λ (x : PathShare). x.weight) one [], none),
+      λ some. subst (All (λ (x : PathShare). 1 ≤ x.weight)) (sym is.2) (All-cons (λ (x : PathShare). 1 ≤ x.weight) one [] some (All-nil _)),
+    )
+  where
+    none : total_weight [] ≡ 0
+    none = refl
+
+-- there are no more parts than paths, and they weigh no more
+pub parts_small : (net : Network) (stand_ins : List (Option (List ℕ))) (s : ℕ) (xs parts : List PathShare) → AreParts net stand_ins s xs parts →
+    All (λ (x : PathShare). 1 ≤ x.weight) xs →
+    (length parts ≤ length xs) × (total_weight parts ≤ total_weight xs) × All (λ (x : PathShare). 1 ≤ x.weight) parts
+parts_small net stand_ins s [] parts are some =
+    (omega (arith, ap length are), omega (arith, ap total_weight are), subst (All (λ (x : PathShare). 1 ≤ x.weight)) (sym are) (All-nil _))
+parts_small net stand_ins s (x ∷ xs) parts are some =
+    let here = part_small net s x.weight (walk_over stand_ins x.links) are.0 are.2 in
+    let rest = parts_small net stand_ins s xs are.1 are.3 (All-tail (λ (y : PathShare). 1 ≤ y.weight) x xs some) in (
+      omega (arith, ap length are.4, length-append are.0 are.1, here.0, rest.0),
+      omega (arith, ap total_weight are.4, sum_by-append (λ (y : PathShare). y.weight) are.0 are.1, sum_by-cons (λ (y : PathShare). y.weight) x xs, here.1, rest.1),
+      subst (All (λ (y : PathShare). 1 ≤ y.weight)) (sym are.4)
+          (All-append (λ (y : PathShare). 1 ≤ y.weight) are.0 are.1 (here.2 (All-head (λ (y : PathShare). 1 ≤ y.weight) x xs some)) rest.2),
+    )
+
+-- what stands in for the link that is read
+pub stand_read : (stand_ins : List (Option Path)) (links : List ℕ) (i : ℕ) (o : Option Path) → i < length links → All (λ h. h < length stand_ins) links →
+    o ≡ slice_index_or stand_ins (slice_index_or links i 0) o → stand_in_at (map links_of stand_ins) (slice_index_or links i 0) ≡ links_of o
+stand_read stand_ins links i o below inside is =
+    get_or-map links_of stand_ins (slice_index_or links i 0) o None (All-get_or (λ (h : ℕ). h < length stand_ins) links i 0 below inside) ∙ ap links_of (sym is)
+
+-- the item that a loop reads has what each item has
+pub item_has : {X : Type 0} (P : X → Type 0) (xs held : List X) (i : ℕ) (x : X) → held ≡ xs → i < length held → x ≡ slice_index_or held i x →
+    All P xs → P x
+item_has P xs held i x same below is all = subst P (sym is) (All-get_or P held i x below (subst (All P) (sym same) all))
+
+-- the links of a path, which something may stand in for
+pub links_stand : (net : Network) (s t : ℕ) (stand_ins : List (Option Path)) (x : PathShare) (links : List ℕ) → LeadOn net (map links_of stand_ins) →
+    IsPathOf net s t x → links ≡ x.links → All (λ h. h < length stand_ins) links
+links_stand net s t stand_ins x links lead path same =
+    let chain = (and_parts (chains net s t x.links) (is_distinct (nodes_visited net s x.links)) path).0 in
+    let count : link_count net ≡ length stand_ins = sym lead.count ∙ length-map stand_ins links_of in
+    subst (λ (n : ℕ). All (λ h. h < n) links) count
+    (subst (All (λ h. h < link_count net)) (sym same) (chained_links net s t x.links chain))
+
+-- the walk over what stands in for the links of a path leads to its end
+pub walk_ready : (net : Network) (s t : ℕ) (stand_ins : List (Option (List ℕ))) (x : PathShare) (walk : List ℕ) → LeadOn net stand_ins →
+    IsPathOf net s t x → walk_over stand_ins x.links ≡ Some walk → chains net s (end_of net s walk) walk ≡ true
+walk_ready net s t stand_ins x walk lead path is =
+    let chain = (and_parts (chains net s t x.links) (is_distinct (nodes_visited net s x.links)) path).0 in
+    chains_to_end net s t walk (walk_chains net stand_ins s t x.links walk lead chain is)
+
+-- the parts with those of the next path
+pub parts_next : (net : Network) (stand_ins : List (Option (List ℕ))) (s : ℕ) (paths held : List PathShare) (i : ℕ) (x : PathShare)
+    (old new part : List PathShare) → held ≡ paths → i < length held → x ≡ slice_index_or held i x → AreParts net stand_ins s (take i paths) old →
+    IsPart net s x.weight (walk_over stand_ins x.links) part → new ≡ old ++ part → AreParts net stand_ins s (take (i + 1) paths) new
+parts_next net stand_ins s paths held i x old new part same below is before here made =
+    let lent : i < length paths = subst (λ ys. i < length ys) same below in
+    let read : slice_index_or paths i x ≡ x = ap (λ ys. slice_index_or ys i x) (sym same) ∙ sym is in
+    subst (λ ys. AreParts net stand_ins s ys new) (sym (take_more paths i x lent ∙ ap (λ y. take i paths ++ y ∷ []) read))
+    (subst (AreParts net stand_ins s (take i paths ++ x ∷ [])) (sym made) (AreParts_more net stand_ins s (take i paths) old x part before here))
