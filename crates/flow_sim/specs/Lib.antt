@@ -1,0 +1,6 @@
+pub mod Fair
+pub mod Step
+pub mod Tables
+pub mod Traffic
+pub mod State
+pub mod Result

@@ -1,0 +1,17 @@
+//! The simulation of one step: what becomes of each demand on links that may be full or have failed.
+//!
+//! - `fair_share`: max-min fair shares of what a link has left.
+//! - `step`: a whole step, and what each pair and each link had of it.
+#![tactic(auto)]
+
+mod fair;
+mod result;
+mod rounds;
+mod simulation;
+mod state;
+mod sweep;
+mod tables;
+
+pub use fair::fair_share;
+pub use result::{PairResult, StepResult};
+pub use simulation::step;
