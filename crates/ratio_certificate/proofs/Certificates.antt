@@ -1,0 +1,211 @@
+-- Certificates of starting blocks are valid, and their inequalities hold.
+use Rattle.std.proofs.Common.{◌≡◌, ℕ, zero, suc, ◌+◌, ◌*◌, ◌^◌, ◌<◌, ◌≤◌, ◌⊎◌, Bool, true, false, ◌||◌, cond, List, [], ◌∷◌, ◌++◌, Option, Some, None, length, arith, refl, ap, sym, subst, ◌∙◌, inl, inr, nat_lt, ◌==◌, get_or, slice_index, replicate}
+use Rattle.std.specs.Prelude.{All, IsTrue, find, unwrap_or}
+use Rattle.std.specs.List.{list_any}
+use Rattle.std.proofs.lemmas.Bool.{cases_lt, cases_Bool, eqb-true, eq-eqb, le-leb, lt-ltb}
+use Rattle.std.proofs.lemmas.List.{get_or_append_left, get_or_push, length-append, length-replicate, get_or-replicate}
+use Rattle.std.proofs.lemmas.List.Elements.{All-nil, All-head, All-tail, All-get_or, All-from_get_or}
+use Rattle.te_model.specs.declared.network.Network.{Network}
+use Rattle.te_model.specs.declared.route.PairRoutes.{PairRoutes}
+use Rattle.te_model.specs.declared.certificate.Block.{Block}
+use Rattle.te_model.specs.declared.certificate.Head.{Head}
+use Rattle.te_model.specs.declared.certificate.Certificate.{Certificate}
+use Rattle.te_model.specs.declared.demand.DemandSet.{DemandSet}
+use Rattle.te_model.specs.declared.demand.DemandSet.TheVariants.{All as AllMatrices, Margin}
+use Rattle.te_model.specs.declared.limits.TheConstants.{FORMAT_1}
+use Rattle.te_model.specs.declared.units.TheConstants.{SHARE_UNIT}
+use Rattle.te_model.specs.Network.{node_count, link_count, is_well_formed}
+use Rattle.te_model.specs.Path.{share}
+use Rattle.te_model.specs.Certificate.{block_of, empty_block}
+use Rattle.te_model.specs.Inequalities.{covers_share, keeps_margin, pays_weights, BlockHolds, Holds}
+use Rattle.te_model.specs.Validity.{block_at, link_before, follows, AscendByLink, IsValid, IsValidBlock, HasValidParts}
+use Rattle.te_model.proofs.Sums.{sum_below-zero}
+use Rattle.te_model.proofs.ValidParts.{valid_parts}
+use Rattle.routing.proofs.Splits.{share-le, splits_of}
+use Rattle.ratio_certificate.specs.Best.{IsBestBlock}
+use Rattle.ratio_certificate.specs.Conditions.{IsRoutingWithin, IsSetWithin}
+use Rattle.ratio_certificate.specs.Made.{AreStartingBlocks, HasBlock, HasShare, IsStartingBlock, starting_weights}
+use Rattle.ratio_certificate.specs.Need.{HasNumbers, IsGreatestNeed}
+use Rattle.ratio_certificate.proofs.BlockValid.{best_valid}
+use Rattle.ratio_certificate.proofs.HeadValid.{made_head}
+use Rattle.ratio_certificate.proofs.Holding.{best_holds}
+use Rattle.ratio_certificate.proofs.Owed.{few_links}
+use Rattle.ratio_certificate.proofs.Pushed.{all_append, all_weaker, any_append, any_last}
+use Rattle.ratio_certificate.proofs.Starting.{starting_pays}
+
+pub no_blocks : (net : Network) (routes : List PairRoutes) (wanted : DemandSet) → AreStartingBlocks 0 net routes wanted []
+no_blocks net routes wanted = record {
+  best = All-nil (IsStartingBlock net routes wanted);
+  ascending = λ k below. absurd (omega arith);
+  below = All-nil (λ (b : Block). b.link < 0);
+  few = omega arith;
+  complete = λ e below. absurd (omega arith);
+}
+
+-- blocks that ascend, and one of a later link
+ascend_append : (blocks : List Block) (b : Block) → AscendByLink blocks → All (λ c. c.link < b.link) blocks → AscendByLink (blocks ++ b ∷ [])
+ascend_append blocks b ascend below zero inside = refl
+ascend_append blocks b ascend below (suc k) inside =
+    let n = length blocks in
+    let count = length-append blocks (b ∷ []) in
+    let before : block_at (blocks ++ b ∷ []) k ≡ block_at blocks k = get_or_append_left blocks (b ∷ []) (empty_block 0) k (omega (arith, inside, count)) in
+    elim (cases_lt (suc k) n) [
+      | inl lt ↦
+          let here : block_at (blocks ++ b ∷ []) (suc k) ≡ block_at blocks (suc k) = get_or_append_left blocks (b ∷ []) (empty_block 0) (suc k) lt in
+          subst (λ (x : Block). nat_lt (block_at (blocks ++ b ∷ []) k).link x.link ≡ true) (sym here)
+          (subst (λ (x : Block). nat_lt x.link (block_at blocks (suc k)).link ≡ true) (sym before) (ascend (suc k) lt))
+      | inr ge ↦
+          let last : n ≡ suc k = omega (arith, ge, inside, count) in
+          let here : block_at (blocks ++ b ∷ []) (suc k) ≡ b = get_or_push blocks b (empty_block 0) (suc k) last in
+          subst (λ (x : Block). nat_lt (block_at (blocks ++ b ∷ []) k).link x.link ≡ true) (sym here)
+          (subst (λ (x : Block). nat_lt x.link b.link ≡ true) (sym before)
+          (lt-ltb (block_at blocks k).link b.link (All-get_or (λ c. c.link < b.link) blocks k (empty_block 0) (omega arith) below)))
+    ]
+
+pub block_added : (m : ℕ) (net : Network) (routes : List PairRoutes) (wanted : DemandSet) (blocks : List Block) (b : Block) →
+    AreStartingBlocks m net routes wanted blocks → b.link ≡ m → IsStartingBlock net routes wanted b → AreStartingBlocks (m + 1) net routes wanted (blocks ++ b ∷ [])
+block_added m net routes wanted blocks b are is best = record {
+  best = all_append (IsStartingBlock net routes wanted) blocks b are.best best;
+  ascending = ascend_append blocks b are.ascending (all_weaker (λ c. c.link < m) (λ c. c.link < b.link) (λ c lt. omega (arith, lt, is)) blocks are.below);
+  below = all_append (λ (c : Block). c.link < m + 1) blocks b (all_weaker (λ c. c.link < m) (λ c. c.link < m + 1) (λ c lt. omega (arith, lt)) blocks are.below)
+      (omega (arith, is));
+  few = omega (arith, are.few, length-append blocks (b ∷ []));
+  complete = λ e below share. elim (cases_lt e m) [
+    | inl lt ↦ any_append (λ c. c.link == e) blocks b (are.complete e lt share)
+    | inr ge ↦ any_last (λ c. c.link == e) blocks b (eq-eqb b.link e (omega (arith, is, ge, below)))
+  ];
+}
+
+pub block_left_out : (m : ℕ) (net : Network) (routes : List PairRoutes) (wanted : DemandSet) (blocks : List Block) →
+    AreStartingBlocks m net routes wanted blocks → (HasShare routes m → ⊥) → AreStartingBlocks (m + 1) net routes wanted blocks
+block_left_out m net routes wanted blocks are none = record {
+  best = are.best;
+  ascending = are.ascending;
+  below = all_weaker (λ c. c.link < m) (λ c. c.link < m + 1) (λ c lt. omega (arith, lt)) blocks are.below;
+  few = omega (arith, are.few);
+  complete = λ e below share. elim (cases_lt e m) [
+    | inl lt ↦ are.complete e lt share
+    | inr ge ↦ let e_is : e ≡ m = omega (arith, ge, below) in absurd (none (subst (HasShare routes) e_is share))
+  ];
+}
+
+-- the block of a link is one of the blocks, or the link has none
+block_or_none : (P : Block → Type 0) (e : ℕ) (blocks : List Block) → All P blocks →
+    (P (block_of blocks e) × ((block_of blocks e).link ≡ e)) ⊎ ((block_of blocks e ≡ empty_block e) × (list_any (λ b. b.link == e) blocks ≡ false))
+block_or_none P e [] all = inr (refl, refl)
+block_or_none P e (b ∷ bs) all = go (b.link == e) refl (block_or_none P e bs (All-tail P b bs all))
+  where
+    go : (t : Bool) → (b.link == e) ≡ t →
+        (P (block_of bs e) × ((block_of bs e).link ≡ e)) ⊎ ((block_of bs e ≡ empty_block e) × (list_any (λ b. b.link == e) bs ≡ false)) →
+        (P (unwrap_or (cond t (Some b) (find (λ b. b.link == e) bs)) (empty_block e))
+        × ((unwrap_or (cond t (Some b) (find (λ b. b.link == e) bs)) (empty_block e)).link ≡ e))
+        ⊎ ((unwrap_or (cond t (Some b) (find (λ b. b.link == e) bs)) (empty_block e) ≡ empty_block e) × ((t || list_any (λ b. b.link == e) bs) ≡ false))
+    go true is rest = inl (All-head P b bs all, eqb-true b.link e is)
+    go false is rest = rest
+
+-- the inequalities hold of a link without a share and without a block
+empty_holds : (h : Head) (e : ℕ) → (HasShare h.routes e → ⊥) → BlockHolds h (empty_block e)
+empty_holds h e none = record {
+  starts = λ i below. refl;
+  rises = λ i v below in'. omega arith;
+  covers = λ p below.
+      let zero : share h.routes p e ≡ 0 = elim (cases_lt 0 (share h.routes p e)) [
+        | inl some ↦ absurd (none (p, below, some))
+        | inr ge ↦ omega arith
+      ]
+      in
+      le-leb _ _ (rw zero (omega arith));
+  margin = no_margin h.set;
+  pays = le-leb _ _ (omega arith);
+}
+  where
+    no_margin : (wanted : DemandSet) → keeps_margin wanted (empty_block e) ≡ true
+    no_margin AllMatrices = refl
+    no_margin (Margin num den base) =
+        le-leb _ _ (omega (arith, sum_below-zero (length base.demand) (λ p. slice_index base.demand p * (num * num) * 0) (λ k below. omega arith)))
+
+-- starting blocks are valid
+pub starting_valid : (h : Head) (blocks : List Block) → is_well_formed h.network ≡ true → IsRoutingWithin h.network h.routes →
+    AreStartingBlocks (link_count h.network) h.network h.routes h.set blocks → All (IsValidBlock h) blocks
+starting_valid h blocks formed within are k d below =
+    let net = h.network in
+    let b = get_or blocks k d in
+    best_valid h b.link (starting_weights net) b formed within (are.below k d below) (length-replicate (link_count net) (2 ^ 20))
+    (All-from_get_or (λ w. w ≤ 2 ^ 28) (starting_weights net) 0 (λ i inside.
+    let at = get_or-replicate (link_count net) i (2 ^ 20) 0 (omega (arith, inside, length-replicate (link_count net) (2 ^ 20))) in omega (arith, at)))
+    (are.best k d below).1
+
+abbrev head_of_set : Network → List PairRoutes → DemandSet → Head
+head_of_set net routes wanted = record { network = net; routes = routes; set = wanted; ratio = 0 }
+
+pub starting_numbers : (net : Network) (routes : List PairRoutes) (wanted : DemandSet) (blocks : List Block) → is_well_formed net ≡ true →
+    IsRoutingWithin net routes → AreStartingBlocks (link_count net) net routes wanted blocks → All (HasNumbers net) blocks
+starting_numbers net routes wanted blocks formed within are k d below =
+    let valid = starting_valid (head_of_set net routes wanted) blocks formed within are k d below in
+    let best = (are.best k d below).1 in
+    record {
+      numbers = valid.numbers;
+      small = valid.small;
+      weights = ap (λ (ws : List ℕ). length ws) best.weights_are ∙ length-replicate (link_count net) (2 ^ 20);
+    }
+
+-- the greatest need of starting blocks is within the limit of ratios
+pub starting_need : (net : Network) (routes : List PairRoutes) (wanted : DemandSet) (blocks : List Block) (need : ℕ) → is_well_formed net ≡ true →
+    IsRoutingWithin net routes → IsSetWithin (length routes) wanted → AreStartingBlocks (link_count net) net routes wanted blocks →
+    IsGreatestNeed net blocks need → need ≤ 1000000 * 2 ^ 41
+starting_need net routes wanted blocks need formed within set are greatest =
+    greatest.least (1000000 * 2 ^ 41) (λ k d below.
+    let b = get_or blocks k d in
+    let best = (are.best k d below).1 in
+    starting_pays net routes wanted b.link b formed within set (are.below k d below) best
+    (λ p inside. omega (arith, best.shares_are p inside, share-le routes p b.link (splits_of net routes within.splits) inside)))
+
+pub certificate_valid : (c : Certificate) → is_well_formed c.head.network ≡ true → 1 ≤ link_count c.head.network → IsRoutingWithin c.head.network c.head.routes →
+    IsSetWithin (length c.head.routes) c.head.set → AreStartingBlocks (link_count c.head.network) c.head.network c.head.routes c.head.set c.blocks →
+    IsGreatestNeed c.head.network c.blocks c.head.ratio → IsValid c
+certificate_valid c formed some within set are greatest =
+    let net = c.head.network in
+    let ratio = starting_need net c.head.routes c.head.set c.blocks c.head.ratio formed within set are greatest in
+    (valid_parts c).1 (record {
+      head = made_head c.head formed some within set (omega (arith, ratio));
+      count = omega (arith, are.few, few_links net formed);
+      blocks = starting_valid c.head c.blocks formed within are;
+      ascending = are.ascending;
+    })
+
+pub certificate_holds : (c : Certificate) → IsRoutingWithin c.head.network c.head.routes → IsSetWithin (length c.head.routes) c.head.set →
+    AreStartingBlocks (link_count c.head.network) c.head.network c.head.routes c.head.set c.blocks → IsGreatestNeed c.head.network c.blocks c.head.ratio → Holds c
+certificate_holds c within set are greatest e below =
+    let net = c.head.network in
+    let best : All (λ b. IsBestBlock net c.head.routes c.head.set b.link (starting_weights net) b × IsTrue (pays_weights net b c.head.ratio)) c.blocks =
+    λ k d inside. ((are.best k d inside).1, greatest.enough k d inside)
+    in
+    elim (block_or_none (λ b. IsBestBlock net c.head.routes c.head.set b.link (starting_weights net) b × IsTrue (pays_weights net b c.head.ratio)) e c.blocks best) [
+      | inl there ↦
+          let b = block_of c.blocks e in
+          best_holds c.head b.link (starting_weights net) b within set there.0.0 there.0.1
+      | inr absent ↦
+          subst (BlockHolds c.head) (sym absent.0) (empty_holds c.head e (λ share.
+          let has = are.complete e below share in
+          let contrary : false ≡ true = sym absent.1 ∙ has in
+          cc))
+    ]
+
+abbrev pub certificate_of : Network → List PairRoutes → DemandSet → ℕ → List Block → Certificate
+certificate_of net routes wanted ratio blocks = record {
+  head = record { network = net; routes = routes; set = wanted; ratio = ratio };
+  blocks = blocks;
+}
+
+-- a certificate of copies of a network and a routing
+pub made_certificate : (net : Network) (routes : List PairRoutes) (wanted : DemandSet) (blocks : List Block) (ratio : ℕ) (n : Network) (r : List PairRoutes) (bs : List Block) →
+    n ≡ net → r ≡ routes → bs ≡ blocks → is_well_formed net ≡ true → 1 ≤ link_count net → IsRoutingWithin net routes → IsSetWithin (length routes) wanted →
+    AreStartingBlocks (link_count net) net routes wanted blocks → IsGreatestNeed net blocks ratio →
+    IsValid (certificate_of n r wanted ratio bs) × Holds (certificate_of n r wanted ratio bs)
+made_certificate net routes wanted blocks ratio n r bs is_n is_r is_bs formed some within set are greatest =
+    subst (λ (x : Network). IsValid (certificate_of x r wanted ratio bs) × Holds (certificate_of x r wanted ratio bs)) (sym is_n)
+    (subst (λ (x : List PairRoutes). IsValid (certificate_of net x wanted ratio bs) × Holds (certificate_of net x wanted ratio bs)) (sym is_r)
+    (subst (λ (x : List Block). IsValid (certificate_of net routes wanted ratio x) × Holds (certificate_of net routes wanted ratio x)) (sym is_bs) (
+      certificate_valid (certificate_of net routes wanted ratio blocks) formed some within set are greatest,
+      certificate_holds (certificate_of net routes wanted ratio blocks) within set are greatest,
+    )))

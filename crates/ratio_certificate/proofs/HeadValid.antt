@@ -1,0 +1,176 @@
+-- The head of a made certificate is valid.
+use Rattle.std.proofs.Common.{◌≡◌, ℕ, zero, suc, ◌+◌, ◌*◌, ◌^◌, ◌<◌, ◌≤◌, Bool, true, false, ◌&&◌, List, [], ◌∷◌, Option, None, length, arith, refl, ap, sym, subst, ◌∙◌, get_or, slice_index, nat_le, nat_lt, ◌==◌, sum_by}
+use Rattle.std.specs.Prelude.{All, IsTrue, not}
+use Rattle.std.specs.List.{list_all}
+use Rattle.std.proofs.lemmas.Bool.{and_parts, and_from, ltb-true, lt-ltb, le-leb, eqb-true, ne_eqb}
+use Rattle.std.proofs.lemmas.Bool.Decides.{nat_tests}
+use Rattle.std.proofs.lemmas.List.Elements.{All-from_get_or, All-get_or, All-head, All-tail}
+use Rattle.std.proofs.lemmas.List.Sums.{get_or-le-sum_by}
+use Rattle.te_model.specs.declared.network.Network.{Network}
+use Rattle.te_model.specs.declared.route.PathShare.{PathShare}
+use Rattle.te_model.specs.declared.route.PairRoutes.{PairRoutes}
+use Rattle.te_model.specs.declared.certificate.Head.{Head}
+use Rattle.te_model.specs.declared.certificate.RuleFault.{RuleFault}
+use Rattle.te_model.specs.declared.demand.DemandSet.{DemandSet}
+use Rattle.te_model.specs.declared.demand.DemandSet.TheVariants.{All as AllMatrices, Margin}
+use Rattle.te_model.specs.declared.limits.TheConstants.{FORMAT_1}
+use Rattle.te_model.specs.declared.units.TheConstants.{SHARE_UNIT}
+use Rattle.te_model.specs.Counting.{or_else, first_some, first_below, unless}
+use Rattle.te_model.specs.Network.{node_count, link_count, tail_of, head_of, no_link, is_name, is_new_name, is_sound_link, is_well_formed}
+use Rattle.te_model.specs.Laws.{LinksJoinNodes}
+use Rattle.te_model.specs.Path.{chains, is_path, is_distinct, nodes_visited, routes_at, no_routes, source_of, destination_of}
+use Rattle.te_model.specs.PathRouting.{IsPathSplit}
+use Rattle.te_model.specs.Shape.{is_word, are_words, is_count, is_row_of, is_shaped_link, is_shaped_network, is_shaped_path, is_shaped_pair, is_shaped_set, is_shaped_head}
+use Rattle.te_model.specs.Validity.{fault_at, rule_fault, is_sound_pair, has_sound_paths, has_ascending_paths, has_whole_weight, with_first, has_margin_numbers, has_base_number, has_ratio, first_seven, faults_from, head_fault, IsValidHead}
+use Rattle.te_model.proofs.Searches.{first_below_none, all_below_at}
+use Rattle.te_model.proofs.SoundLinks.{sound_links}
+use Rattle.te_model.proofs.Tests.{all_to_tests}
+use Rattle.te_model.proofs.PathRoutings.{path_routing}
+use Rattle.routing.specs.Routes.{HasFewPaths}
+use Rattle.ratio_certificate.specs.Conditions.{IsRoutingWithin, IsSetWithin}
+use Rattle.ratio_certificate.proofs.Lengths.{path_short}
+
+-- a test of each element, from a test at each place
+pub all_tests : {X : Type 0} (test : X → Bool) (xs : List X) (d : X) → ((k : ℕ) → k < length xs → test (get_or xs k d) ≡ true) → list_all test xs ≡ true
+all_tests test xs d each = all_to_tests test (λ x. test x ≡ true) (λ x e. e) xs (All-from_get_or (λ x. test x ≡ true) xs d each)
+
+pub joins_nodes : (net : Network) → is_well_formed net ≡ true → LinksJoinNodes net
+joins_nodes net formed h below = let is = sound_links net formed h below in (grind (arith, nat_tests), grind (arith, nat_tests))
+
+pub few_nodes : (net : Network) → is_well_formed net ≡ true → node_count net ≤ 64
+few_nodes net formed = grind (arith, nat_tests)
+
+shaped_network : (net : Network) → is_well_formed net ≡ true → 1 ≤ link_count net → is_shaped_network FORMAT_1 net ≡ true
+shaped_network net formed some =
+    let few = few_nodes net formed in
+    let links : list_all is_shaped_link net.links ≡ true =
+    all_tests is_shaped_link net.links no_link (λ h below. let is = sound_links net formed h below in grind (arith, nat_tests))
+    in
+    grind (arith, nat_tests)
+
+-- the links of a chain are links of the network
+chain_links : (net : Network) (s t : ℕ) (links : List ℕ) → link_count net ≤ 512 → chains net s t links ≡ true → are_words links ≡ true
+chain_links net s t [] few chain = refl
+chain_links net s t (h ∷ hs) few chain =
+    let outer = and_parts (nat_lt h (link_count net) && tail_is h) (chains net (head_is h) t hs) chain in
+    let inner = and_parts (nat_lt h (link_count net)) (tail_is h) outer.0 in
+    let below = ltb-true h (link_count net) inner.0 in
+    and_from (is_word h) (list_all is_word hs) (lt-ltb h (2 ^ 64) (omega (arith, below, few))) (chain_links net (head_is h) t hs few outer.1)
+  where
+    tail_is : ℕ → Bool
+    tail_is h = tail_of net h == s
+
+    head_is : ℕ → ℕ
+    head_is h = head_of net h
+
+-- a chain between two nodes has a link
+chain_some : (net : Network) (s t : ℕ) (links : List ℕ) → (s ≡ t → ⊥) → chains net s t links ≡ true → 1 ≤ length links
+chain_some net s t [] apart chain = absurd (apart (eqb-true s t chain))
+chain_some net s t (h ∷ hs) apart chain = omega arith
+
+shaped_path : (net : Network) (s t : ℕ) (p : PathShare) → is_well_formed net ≡ true → s < node_count net → (s ≡ t → ⊥) → p.weight ≤ SHARE_UNIT →
+    is_path net s t p.links ≡ true → is_shaped_path FORMAT_1 p ≡ true
+shaped_path net s t p formed inside apart light path =
+    let both = and_parts (chains net s t p.links) (is_distinct (nodes_visited net s p.links)) path in
+    let short = path_short net s t p.links (joins_nodes net formed) inside path in
+    let few = few_nodes net formed in
+    let few_links : link_count net ≤ 512 = grind (arith, nat_tests) in
+    let some = chain_some net s t p.links apart both.0 in
+    let words = chain_links net s t p.links few_links both.0 in
+    let hops : length p.links ≤ 63 = omega arith in
+    let weight : p.weight < 2 ^ 64 = omega arith in
+    grind (arith, nat_tests)
+
+no_path_share : PathShare
+no_path_share = record { links = []; weight = 0 }
+
+some_paths : (paths : List PathShare) → sum_by (λ s. s.weight) paths ≡ SHARE_UNIT → 1 ≤ length paths
+some_paths [] whole = let none : 0 ≡ 1000000 = whole in absurd (omega (arith, none))
+some_paths (s ∷ ss) whole = omega arith
+
+shaped_pair : (net : Network) (routes : List PairRoutes) → is_well_formed net ≡ true → IsRoutingWithin net routes → (p : ℕ) → p < length routes →
+    is_shaped_pair FORMAT_1 (routes_at routes p) ≡ true
+shaped_pair net routes formed within p below =
+    let r = routes_at routes p in
+    let split = All-get_or (IsPathSplit net) routes p no_routes below within.splits in
+    let ends = within.nodes p below in
+    let few = few_nodes net formed in
+    let some = some_paths r.paths split.whole in
+    let few_paths : length r.paths ≤ 32 = All-get_or (λ r. length r.paths ≤ 32) routes p no_routes below within.few_paths in
+    let paths : list_all (is_shaped_path FORMAT_1) r.paths ≡ true =
+    all_tests (is_shaped_path FORMAT_1) r.paths no_path_share (λ k inside.
+    shaped_path net r.pair.src r.pair.dst (get_or r.paths k no_path_share) formed ends.0 (within.apart p below)
+    (omega (arith, get_or-le-sum_by (λ s. s.weight) r.paths k no_path_share inside, split.whole))
+    (All-get_or (λ s. IsTrue (is_path net r.pair.src r.pair.dst s.links)) r.paths k no_path_share inside split.paths))
+    in
+    let src : r.pair.src < 2 ^ 64 = omega (arith, ends.0, few) in
+    let dst : r.pair.dst < 2 ^ 64 = omega (arith, ends.1, few) in
+    grind (arith, nat_tests)
+
+shaped_set : (pairs : ℕ) (wanted : DemandSet) → IsSetWithin pairs wanted → is_shaped_set pairs wanted ≡ true
+shaped_set pairs AllMatrices within = refl
+shaped_set pairs (Margin num den base) within =
+    let numbers = within.0 in
+    let count = within.1.count in
+    let words : are_words base.demand ≡ true =
+    all_tests is_word base.demand 0 (λ k below. lt-ltb _ _ (omega (arith, All-get_or (λ d. d ≤ 2 ^ 32) base.demand k 0 below within.1.small)))
+    in
+    grind (arith, nat_tests)
+
+sound_pair : (h : Head) → IsRoutingWithin h.network h.routes → (p : ℕ) → p < length h.routes → is_sound_pair h p ≡ true
+sound_pair h within zero below =
+    let ends = within.nodes 0 below in
+    let apart = ne_eqb (source_of h.routes 0) (destination_of h.routes 0) (within.apart 0 below) in
+    grind (arith, nat_tests)
+sound_pair h within (suc p) below =
+    let ends = within.nodes (suc p) below in
+    let apart = ne_eqb (source_of h.routes (suc p)) (destination_of h.routes (suc p)) (within.apart (suc p) below) in
+    let order = within.ascending p below in
+    grind (arith, nat_tests)
+
+margin_numbers : (pairs : ℕ) (wanted : DemandSet) → IsSetWithin pairs wanted → has_margin_numbers wanted ≡ true
+margin_numbers pairs AllMatrices within = refl
+margin_numbers pairs (Margin num den base) within = within.0
+
+base_number : (pairs : ℕ) (wanted : DemandSet) → IsSetWithin pairs wanted → (p : ℕ) → p < pairs → has_base_number wanted p ≡ true
+base_number pairs AllMatrices within p below = refl
+base_number pairs (Margin num den base) within p below =
+    le-leb _ _ (All-get_or (λ d. d ≤ 2 ^ 32) base.demand p 0 (omega (arith, below, within.1.count)) within.1.small)
+
+-- a rule that holds at each place has no fault
+no_fault : (r n : ℕ) (test : ℕ → Bool) → ((k : ℕ) → k < n → test k ≡ true) → rule_fault r n test ≡ None
+no_fault r n test each = first_below_none n (λ k. unless (test k) (fault_at r k)) (λ k below. ap (λ b. unless b (fault_at r k)) (each k below))
+
+pub made_head : (h : Head) → is_well_formed h.network ≡ true → 1 ≤ link_count h.network → IsRoutingWithin h.network h.routes →
+    IsSetWithin (length h.routes) h.set → h.ratio < 10 ^ 19 → IsValidHead h
+made_head h formed some within wanted small =
+    let net = h.network in
+    let pairs = length h.routes in
+    let network = shaped_network net formed some in
+    let few = within.few in
+    let shaped_pairs : list_all (is_shaped_pair FORMAT_1) h.routes ≡ true =
+    all_tests (is_shaped_pair FORMAT_1) h.routes no_routes (shaped_pair net h.routes formed within)
+    in
+    let set_is = shaped_set pairs h.set wanted in
+    let ratio : is_word h.ratio ≡ true = lt-ltb _ _ (omega (arith, small)) in
+    let paths = (path_routing h).1 within.splits in
+    let new : (k : ℕ) → k < node_count net → is_new_name net k ≡ true = λ k below. all_below_at (node_count net) (is_new_name net) k (grind (arith, nat_tests)) below in
+    let margin : (k : ℕ) → k < 1 + pairs → with_first (has_margin_numbers h.set) (has_base_number h.set) k ≡ true =
+    λ k below. at_margin k below (margin_numbers pairs h.set wanted) (base_number pairs h.set wanted)
+    in
+    let first = no_fault 1 (node_count net) (is_new_name net) new in
+    let second = no_fault 2 (link_count net) (is_sound_link net) (sound_links net formed) in
+    let third = no_fault 3 pairs (is_sound_pair h) (sound_pair h within) in
+    let fourth = no_fault 4 pairs (has_sound_paths h) (λ p below. (paths p below).0) in
+    let fifth = no_fault 5 pairs (has_ascending_paths h) (λ p below. (paths p below).1) in
+    let sixth = no_fault 6 pairs (has_whole_weight h) (λ p below. (paths p below).2) in
+    let seventh = no_fault 7 (1 + pairs) (with_first (has_margin_numbers h.set) (has_base_number h.set)) margin in
+    record {
+      shaped = and_from _ _ (and_from _ _ (and_from _ _ (and_from _ _ network (and_from _ _ (le-leb 0 pairs (omega arith)) (le-leb pairs 4032 few))) shaped_pairs) set_is) ratio;
+      no_fault = rw (first, second, third, fourth, fifth, sixth, seventh) (ap (λ b. unless b (fault_at 8 0)) (lt-ltb h.ratio (10 ^ 19) small));
+    }
+  where
+    at_margin : (k : ℕ) → k < 1 + length h.routes → has_margin_numbers h.set ≡ true → ((p : ℕ) → p < length h.routes → has_base_number h.set p ≡ true) →
+        with_first (has_margin_numbers h.set) (has_base_number h.set) k ≡ true
+    at_margin zero below numbers base = numbers
+    at_margin (suc k) below numbers base = base k (omega arith)

@@ -1,0 +1,16 @@
+pub mod Sizes
+pub mod Owed
+pub mod Pushed
+pub mod Quotients
+pub mod Needs
+pub mod Balances
+pub mod RowsMade
+pub mod Distances
+pub mod Shares
+pub mod NoBest
+pub mod Lengths
+pub mod Holding
+pub mod HeadValid
+pub mod BlockValid
+pub mod Starting
+pub mod Certificates

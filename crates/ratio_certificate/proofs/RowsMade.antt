@@ -1,0 +1,103 @@
+-- Rows that are made source by source.
+use Rattle.std.proofs.Common.{◌≡◌, ℕ, suc, ◌+◌, ◌<◌, ◌≤◌, Bool, true, false, ◌||◌, ◌&&◌, List, [], ◌∷◌, ◌++◌, length, arith, refl, ap, sym, subst, ◌∙◌, inl, inr, nat_lt, ◌==◌, slice_index_or, get_or, set}
+use Rattle.std.specs.Prelude.{All, IsTrue}
+use Rattle.std.specs.List.{list_any}
+use Rattle.std.proofs.lemmas.Bool.{cases_lt, lt-ltb, eq-eqb, eqb-true, and_from, and_parts}
+use Rattle.std.proofs.lemmas.List.Elements.{All-nil, All-cons, All-head, All-tail}
+use Rattle.te_model.specs.declared.network.Network.{Network}
+use Rattle.te_model.specs.declared.route.PairRoutes.{PairRoutes}
+use Rattle.te_model.specs.declared.certificate.Row.{Row}
+use Rattle.te_model.specs.declared.demand.DemandSet.{DemandSet}
+use Rattle.te_model.specs.Path.{source_of}
+use Rattle.te_model.specs.Validity.{rows_ascend}
+use Rattle.shortest_path.specs.Paths.{ArePotentials}
+use Rattle.te_model.specs.Network.{node_count}
+use Rattle.ratio_certificate.specs.Best.{needs_row, IsSource, AreRows}
+use Rattle.ratio_certificate.specs.Tables.{IsTable, row_at}
+use Rattle.ratio_certificate.proofs.Pushed.{all_append, all_weaker, any_append, any_last}
+
+-- pair p is one of node i that needs a row
+abbrev pub asks : List PairRoutes → DemandSet → (ℕ → ℕ) → ℕ → ℕ → Bool
+asks routes wanted shares i p = source_of routes p == i && needs_row wanted (shares p)
+
+pub source_found : (routes : List PairRoutes) (wanted : DemandSet) (shares : ℕ → ℕ) (i p : ℕ) → p < length routes → asks routes wanted shares i p ≡ true →
+    IsSource routes wanted shares i
+source_found routes wanted shares i p below is =
+    let both = and_parts (source_of routes p == i) (needs_row wanted (shares p)) is in
+    (p, below, eqb-true (source_of routes p) i both.0, both.1)
+
+pub no_source : (routes : List PairRoutes) (wanted : DemandSet) (shares : ℕ → ℕ) (i : ℕ) → ((p : ℕ) → p < length routes → asks routes wanted shares i p ≡ false) →
+    IsSource routes wanted shares i → ⊥
+no_source routes wanted shares i none (p, below, is, needs) =
+    let asked : asks routes wanted shares i p ≡ true = and_from _ _ (eq-eqb (source_of routes p) i is) needs in
+    let out = none p below in
+    cc
+
+rows_ascend-append : (rows : List Row) (r : Row) → rows_ascend rows ≡ true → All (λ s. s.source < r.source) rows → rows_ascend (rows ++ r ∷ []) ≡ true
+rows_ascend-append [] r ascend below = refl
+rows_ascend-append (s ∷ []) r ascend below = and_from _ _ (lt-ltb s.source r.source (All-head (λ t. t.source < r.source) s [] below)) refl
+rows_ascend-append (s ∷ t ∷ rows) r ascend below =
+    let both = and_parts (nat_lt s.source t.source) (rows_ascend (t ∷ rows)) ascend in
+    and_from _ _ both.0 (rows_ascend-append (t ∷ rows) r both.1 (All-tail (λ t. t.source < r.source) s (t ∷ rows) below))
+
+-- the rows of the sources below i
+pub record AreRowsBelow (i : ℕ) (net : Network) (weights : List ℕ) (routes : List PairRoutes) (set : DemandSet) (shares : ℕ → ℕ) (rows : List Row) : Type 0 where
+  pub ascending : IsTrue (rows_ascend rows)
+  pub potentials : All (λ r. ArePotentials net weights r.source r.potential) rows
+  pub needed : All (λ r. IsSource routes set shares r.source) rows
+  pub below : All (λ r. r.source < i) rows
+  pub complete : (j : ℕ) → j < i → IsSource routes set shares j → IsTrue (list_any (λ r. r.source == j) rows)
+
+pub no_rows : (net : Network) (weights : List ℕ) (routes : List PairRoutes) (set : DemandSet) (shares : ℕ → ℕ) → AreRowsBelow 0 net weights routes set shares []
+no_rows net weights routes set shares = record {
+  ascending = refl;
+  potentials = All-nil (λ r. ArePotentials net weights r.source r.potential);
+  needed = All-nil (λ r. IsSource routes set shares r.source);
+  below = All-nil (λ (r : Row). r.source < 0);
+  complete = λ j below. absurd (omega arith);
+}
+
+pub row_added : (i : ℕ) (net : Network) (weights : List ℕ) (routes : List PairRoutes) (set : DemandSet) (shares : ℕ → ℕ) (rows : List Row) (r : Row) →
+    AreRowsBelow i net weights routes set shares rows → r.source ≡ i → ArePotentials net weights r.source r.potential → IsSource routes set shares r.source →
+    AreRowsBelow (i + 1) net weights routes set shares (rows ++ r ∷ [])
+row_added i net weights routes set shares rows r are is potentials source = record {
+  ascending = rows_ascend-append rows r are.ascending (all_weaker (λ s. s.source < i) (λ s. s.source < r.source) (λ s lt. omega (arith, lt, is)) rows are.below);
+  potentials = all_append (λ r. ArePotentials net weights r.source r.potential) rows r are.potentials potentials;
+  needed = all_append (λ r. IsSource routes set shares r.source) rows r are.needed source;
+  below = all_append (λ (s : Row). s.source < i + 1) rows r (all_weaker (λ s. s.source < i) (λ s. s.source < i + 1) (λ s lt. omega (arith, lt)) rows are.below)
+      (omega (arith, is));
+  complete = λ j below is_source. elim (cases_lt j i) [
+    | inl lt ↦ any_append (λ s. s.source == j) rows r (are.complete j lt is_source)
+    | inr ge ↦ any_last (λ s. s.source == j) rows r (eq-eqb r.source j (omega (arith, is, ge, below)))
+  ];
+}
+
+pub row_left_out : (i : ℕ) (net : Network) (weights : List ℕ) (routes : List PairRoutes) (set : DemandSet) (shares : ℕ → ℕ) (rows : List Row) →
+    AreRowsBelow i net weights routes set shares rows → (IsSource routes set shares i → ⊥) → AreRowsBelow (i + 1) net weights routes set shares rows
+row_left_out i net weights routes set shares rows are none = record {
+  ascending = are.ascending;
+  potentials = are.potentials;
+  needed = are.needed;
+  below = all_weaker (λ s. s.source < i) (λ s. s.source < i + 1) (λ s lt. omega (arith, lt)) rows are.below;
+  complete = λ j below is_source. elim (cases_lt j i) [
+    | inl lt ↦ are.complete j lt is_source
+    | inr ge ↦ let e : j ≡ i = omega (arith, ge, below) in absurd (none (subst (IsSource routes set shares) e is_source))
+  ];
+}
+
+pub all_rows : (n : ℕ) (net : Network) (weights : List ℕ) (routes : List PairRoutes) (set : DemandSet) (shares : ℕ → ℕ) (rows : List Row) →
+    AreRowsBelow n net weights routes set shares rows → ((i : ℕ) → IsSource routes set shares i → i < n) → AreRows net weights routes set shares rows
+all_rows n net weights routes set shares rows are within = record {
+  ascending = are.ascending;
+  potentials = are.potentials;
+  needed = are.needed;
+  complete = λ i source. are.complete i (within i source) source;
+}
+
+-- the row of a node, by the potentials of each node
+pub table_row_added : (i : ℕ) (net : Network) (weights : List ℕ) (routes : List PairRoutes) (wanted : DemandSet) (shares : ℕ → ℕ) (table : List (List ℕ)) (rows : List Row) (r : Row) →
+    AreRowsBelow i net weights routes wanted shares rows → IsTable net weights table → i < node_count net → r ≡ record { source = i; potential = row_at table i } →
+    IsSource routes wanted shares i → AreRowsBelow (i + 1) net weights routes wanted shares (rows ++ r ∷ [])
+table_row_added i net weights routes wanted shares table rows r are is_table inside is source =
+    subst (λ (x : Row). AreRowsBelow (i + 1) net weights routes wanted shares (rows ++ x ∷ [])) (sym is)
+    (row_added i net weights routes wanted shares rows (record { source = i; potential = row_at table i }) are refl (is_table.each i inside) source)

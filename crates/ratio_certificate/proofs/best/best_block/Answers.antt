@@ -1,0 +1,10 @@
+use Rattle.std.proofs.Common.{List, ℕ, length, slice_index, subst}
+use Rattle.ratio_certificate.specs.Margin.{HasNoScale}
+use Rattle.ratio_certificate.proofs.Shares.{scalable, shares_small}
+use Rattle.ratio_certificate.proofs.best.best_block.Goals as goal
+
+pub scale_of-requires-clause-numbers : goal.scale_of-requires-clause-numbers
+scale_of-requires-clause-numbers c =
+    let routes = c.args.routing.now.routes in
+    scalable (length routes) c.args.set.now c.args.shares.now c.args.metric.now.distances c.requires.set c.requires.routing.few c.requires.shares.count
+    c.requires.metric.pairs (shares_small c.args.net.now routes c.args.link c.args.shares.now c.requires.routing.splits c.requires.shares)

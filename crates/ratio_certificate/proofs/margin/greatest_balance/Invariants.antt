@@ -1,0 +1,12 @@
+use Rattle.std.proofs.Common.{◌≡◌, ℕ, ◌+◌, ◌-◌, ◌^◌, ◌<◌, ◌≤◌, true, false, slice_index}
+use Rattle.ratio_certificate.specs.Best.{balances}
+use Rattle.ratio_certificate.proofs.margin.greatest_balance.Given as goal
+
+abbrev pub invariant-loop-high : goal.invariant-loop-high
+invariant-loop-high l =
+    (1 ≤ l.low) × (l.low < l.high) × (l.high ≤ 2 ^ 36 + 1)
+    × (balances l.num l.den l.base (slice_index l.shares) (slice_index l.distances) l.low ≡ true)
+    × ((c : ℕ) → l.high ≤ c → c ≤ 2 ^ 36 → balances l.num l.den l.base (slice_index l.shares) (slice_index l.distances) c ≡ false)
+
+abbrev pub decreases-loop-high : goal.decreases-loop-high
+decreases-loop-high l = l.high - l.low

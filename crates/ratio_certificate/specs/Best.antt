@@ -1,0 +1,97 @@
+-- Best blocks: of a link and given weights the block whose a / b is as small as the shares on the link allow
+-- (the dual of the linear program of Applegate and Cohen, 2003, with its weights held fast).
+use Rattle.std.specs.Prelude.{◌≡◌, ℕ, ◌+◌, ◌-◌, ◌*◌, ◌^◌, ◌<◌, ◌≤◌, Bool, true, false, IsTrue, List, [], length, slice_index, nat_lt, nat_le, ◌==◌, All}
+use Rattle.std.specs.List.{list_any}
+use Rattle.te_model.specs.declared.network.Network.{Network}
+use Rattle.te_model.specs.declared.route.PairRoutes.{PairRoutes}
+use Rattle.te_model.specs.declared.certificate.Row.{Row}
+use Rattle.te_model.specs.declared.certificate.Block.{Block}
+use Rattle.te_model.specs.declared.demand.DemandSet.{DemandSet}
+use Rattle.te_model.specs.declared.demand.DemandSet.TheVariants.{All as AllMatrices, Margin}
+use Rattle.te_model.specs.declared.units.TheConstants.{SHARE_UNIT}
+use Rattle.te_model.specs.Counting.{sum_below}
+use Rattle.te_model.specs.Path.{source_of, share}
+use Rattle.te_model.specs.Validity.{rows_ascend}
+use Rattle.shortest_path.specs.Paths.{ArePotentials}
+use Rattle.routing.specs.Utilisation.{quotient_up}
+use Rattle.ratio_certificate.specs.Tables.{ArePairDistances, AreValues}
+
+-- whether the source of a pair with this share has a row: for every matrix where there is a share, for a margin always
+abbrev pub needs_row : DemandSet → ℕ → Bool
+needs_row AllMatrices s = nat_lt 0 s
+needs_row (Margin num den base) s = true
+
+-- node i is the source of a pair that needs a row
+abbrev pub IsSource : List PairRoutes → DemandSet → (ℕ → ℕ) → ℕ → Type 0
+IsSource routes set shares i = (p : ℕ) × (p < length routes) × (source_of routes p ≡ i) × IsTrue (needs_row set (shares p))
+
+-- the potentials of exactly those sources that need a row, ascending
+pub record AreRows (net : Network) (weights : List ℕ) (routes : List PairRoutes) (set : DemandSet) (shares : ℕ → ℕ) (rows : List Row) : Type 0 where
+  pub ascending : IsTrue (rows_ascend rows)
+  pub potentials : All (λ r. ArePotentials net weights r.source r.potential) rows
+  pub needed : All (λ r. IsSource routes set shares r.source) rows
+  pub complete : (i : ℕ) → IsSource routes set shares i → IsTrue (list_any (λ r. r.source == i) rows)
+
+-- the share and the distance of the first pair with the greatest share by distance, among those with a share
+pub record IsGreatestQuotient (n : ℕ) (shares distance : ℕ → ℕ) (a b : ℕ) : Type 0 where
+  pub pair : ℕ
+  pub within : pair < n
+  pub positive : 0 < shares pair
+  pub share_is : a ≡ shares pair
+  pub distance_is : b ≡ distance pair
+  pub greatest : (q : ℕ) → q < n → shares q * b ≤ a * distance q
+  pub first : (q : ℕ) → q < pair → 0 < shares q → shares q * b < a * distance q
+
+-- for every matrix: no pair with a share has the distance 0, and a / b is the greatest share by distance
+pub record IsBestForAll (n : ℕ) (shares distance : ℕ → ℕ) (a b : ℕ) (plus minus : List ℕ) : Type 0 where
+  pub apart : (p : ℕ) → p < n → 0 < shares p → 1 ≤ distance p
+  pub quotient : IsGreatestQuotient n shares distance a b
+  pub no_plus : plus ≡ []
+  pub no_minus : minus ≡ []
+
+-- b times a share, in whole units, rounded up
+abbrev pub asked : ℕ → ℕ → ℕ
+asked b s = quotient_up (b * s) SHARE_UNIT
+
+-- by how much the shares ask for more than the distances, and for less
+abbrev pub added : (ℕ → ℕ) → (ℕ → ℕ) → ℕ → ℕ → ℕ
+added shares distance b p = asked b (shares p) - distance p
+
+abbrev pub taken_back : (ℕ → ℕ) → (ℕ → ℕ) → ℕ → ℕ → ℕ
+taken_back shares distance b p = distance p - asked b (shares p)
+
+-- whether what is added is taken back within the margin
+abbrev pub balances : ℕ → ℕ → List ℕ → (ℕ → ℕ) → (ℕ → ℕ) → ℕ → Bool
+balances num den base shares distance b =
+    nat_le (sum_below (length base) (λ p. slice_index base p * (num * num) * added shares distance b p))
+    (sum_below (length base) (λ p. slice_index base p * (den * den) * taken_back shares distance b p))
+
+-- b is the greatest number up to 2^36 that balances
+pub record IsGreatestBalance (num den : ℕ) (base : List ℕ) (shares distance : ℕ → ℕ) (b : ℕ) : Type 0 where
+  pub some : 1 ≤ b
+  pub small : b ≤ 2 ^ 36
+  pub balanced : IsTrue (balances num den base shares distance b)
+  pub greatest : (c : ℕ) → b < c → c ≤ 2 ^ 36 → balances num den base shares distance c ≡ false
+
+-- for a margin: a is one million, and b the greatest number that balances
+pub record IsBestForMargin (num den : ℕ) (base : List ℕ) (n : ℕ) (shares distance : ℕ → ℕ) (a b : ℕ) (plus minus : List ℕ) : Type 0 where
+  pub unit : a ≡ SHARE_UNIT
+  pub balance : IsGreatestBalance num den base shares distance b
+  pub added_is : AreValues n (added shares distance b) plus
+  pub taken_is : AreValues n (taken_back shares distance b) minus
+
+abbrev pub IsBestScale : DemandSet → ℕ → (ℕ → ℕ) → (ℕ → ℕ) → ℕ → ℕ → List ℕ → List ℕ → Type 0
+IsBestScale AllMatrices n shares distance a b plus minus = IsBestForAll n shares distance a b plus minus
+IsBestScale (Margin num den base) n shares distance a b plus minus =
+    IsBestForMargin num den base.demand n shares distance a b plus minus
+
+-- the best block of link e for these weights, by the shares on the link and the distances of the pairs
+pub record IsBestBlock (net : Network) (routes : List PairRoutes) (set : DemandSet) (e : ℕ) (weights : List ℕ) (block : Block) : Type 0 where
+  pub shares : ℕ → ℕ
+  pub distance : ℕ → ℕ
+  pub shares_are : (p : ℕ) → p < length routes → shares p ≡ share routes p e
+  pub distances_are : ArePairDistances net weights routes distance
+  pub link_is : block.link ≡ e
+  pub weights_are : block.weights ≡ weights
+  pub rows_are : AreRows net weights routes set shares block.rows
+  pub scale : IsBestScale set (length routes) shares distance block.a block.b block.plus block.minus

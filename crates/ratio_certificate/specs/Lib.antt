@@ -1,0 +1,7 @@
+pub mod Best
+pub mod Conditions
+pub mod Made
+pub mod Margin
+pub mod Metric
+pub mod Need
+pub mod Tables

@@ -1,0 +1,19 @@
+//! Certificates of the oblivious ratio of a routing: how they are made (after Applegate and Cohen, 2003).
+//!
+//! - `need`: how great a ratio a block needs.
+//! - `scale`: the best block of a link for given weights.
+//! - `make`: a certificate of a routing.
+#![tactic(auto)]
+
+mod best;
+mod capacity;
+mod copy;
+mod making;
+mod margin;
+mod metric;
+mod quotient;
+mod rows;
+
+pub use best::scale;
+pub use capacity::need;
+pub use making::make;

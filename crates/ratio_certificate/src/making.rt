@@ -1,0 +1,127 @@
+//! The making of certificates.
+ghost use Rattle.std.specs.Prelude.{◌≡◌, ◌<◌, ◌≤◌, ◌^◌, ℕ, IfOk, IfSome, IfNone, All, IsTrue, false, true, length, slice_index};
+ghost use Rattle.te_model.specs.Inequalities.{Holds};
+ghost use Rattle.te_model.specs.Network.{is_well_formed, link_count};
+ghost use Rattle.te_model.specs.Validity.{AscendByLink, IsValid};
+ghost use Rattle.te_model.specs.declared.certificate.Block.{Block};
+ghost use Rattle.ratio_certificate.specs.Conditions.{IsRoutingWithin, IsSetWithin};
+ghost use Rattle.ratio_certificate.specs.Made.{starting_weights, AreStartingBlocks, HasBlock, HasShare, IsStartingBlock};
+ghost use Rattle.ratio_certificate.specs.Metric.{IsMetric};
+ghost use Rattle.ratio_certificate.specs.Need.{IsGreatestNeed};
+
+use crate::best::best_block;
+use crate::capacity::greatest_need;
+use crate::copy::copy_of;
+use crate::metric::{Metric, metric_of, shares_of};
+use routing::Routing;
+use std::alloc::Global;
+use te_model::{Block, Certificate, DemandSet, Head, Items, Memory, Network};
+
+/// The weight of every link from which a certificate starts.
+const STARTING_WEIGHT: u64 = 1 << 20;
+
+/// Whether some share is above 0.
+fn has_share(shares: &[u64]) -> bool
+    ensures some { result ≡ true → (p : ℕ) × (p < length shares.now) × (0 < slice_index shares.now p) }
+    ensures none { result ≡ false → (p : ℕ) → p < length shares.now → slice_index shares.now p ≡ 0 }
+{
+    for p in 0..shares.len() {
+        if shares[p] > 0 {
+            return true;
+        }
+    }
+    false
+}
+
+/// The best block of the link, or `None` where no pair has a share on it.
+fn starting_block(
+    alloc: Global,
+    net: &Network,
+    metric: &Metric,
+    routing: &Routing,
+    set: &DemandSet,
+    link: u32,
+) -> Result<Option<Block>, Memory>
+    requires network { IsTrue (is_well_formed net.now) }
+    requires metric { IsMetric net.now routing.now.routes metric.now }
+    requires weights { metric.now.weights ≡ starting_weights net.now }
+    requires routing { IsRoutingWithin net.now routing.now.routes }
+    requires set { IsSetWithin (length routing.now.routes) set.now }
+    ensures link { IfOk result (λ o. IfSome o (λ b. b.link ≡ link)) }
+    ensures best { IfOk result (λ o. IfSome o (λ b. IsStartingBlock net.now routing.now.routes set.now b)) }
+    ensures none { IfOk result (λ o. IfNone o (HasShare routing.now.routes link → ⊥)) }
+{
+    let shares = shares_of(alloc, routing, link)?;
+    if has_share(&shares) {
+        best_block(alloc, net, metric, routing, set, link, &shares)
+    } else {
+        Ok(None)
+    }
+}
+
+/// The best blocks of the links on which there is a share, ascending by link.
+fn starting_blocks(
+    alloc: Global,
+    net: &Network,
+    metric: &Metric,
+    routing: &Routing,
+    set: &DemandSet,
+) -> Result<Vec<Block>, Memory>
+    requires network { IsTrue (is_well_formed net.now) }
+    requires metric { IsMetric net.now routing.now.routes metric.now }
+    requires weights { metric.now.weights ≡ starting_weights net.now }
+    requires routing { IsRoutingWithin net.now routing.now.routes }
+    requires set { IsSetWithin (length routing.now.routes) set.now }
+    ensures { IfOk result (λ b. AreStartingBlocks (link_count net.now) net.now routing.now.routes set.now b.items) }
+{
+    let mut blocks = Vec::new(alloc);
+    for e in 0..net.links.as_slice().len() {
+        match starting_block(alloc, net, metric, routing, set, e as u32)? {
+            Some(block) => blocks.push(block)?,
+            None => {}
+        }
+    }
+    Ok(blocks)
+}
+
+/// A certificate of the routing's oblivious ratio over the matrices of the set: the best blocks of
+/// the starting weights, and the greatest of their needs as the ratio (after Applegate and Cohen,
+/// 2003).
+///
+/// `Memory` comes where memory is wanting.
+pub fn make(
+    alloc: Global,
+    net: &Network,
+    routing: &Routing,
+    set: DemandSet,
+) -> Result<Certificate, Memory>
+    requires network { IsTrue (is_well_formed net.now) }
+    requires links { 1 ≤ link_count net.now }
+    requires routing { IsRoutingWithin net.now routing.now.routes }
+    requires set { IsSetWithin (length routing.now.routes) set }
+    ensures network { IfOk result (λ c. c.head.network ≡ net.now) }
+    ensures routes { IfOk result (λ c. c.head.routes ≡ routing.now.routes) }
+    ensures set { IfOk result (λ c. c.head.set ≡ set) }
+    ensures valid { IfOk result (λ c. IsValid c) }
+    ensures holds { IfOk result (λ c. Holds c) }
+    ensures best { IfOk result (λ c. All (IsStartingBlock net.now routing.now.routes set) c.blocks) }
+    ensures blocks { IfOk result (λ c. (e : ℕ) → e < link_count net.now → HasShare routing.now.routes e → HasBlock c.blocks e) }
+    ensures ratio { IfOk result (λ c. IsGreatestNeed net.now c.blocks c.head.ratio) }
+{
+    let links = net.links.as_slice().len();
+    let weights = vec![in alloc; STARTING_WEIGHT; links]?;
+    let metric = metric_of(alloc, net, routing, weights)?;
+    let blocks = starting_blocks(alloc, net, &metric, routing, &set)?;
+    let ratio = greatest_need(net, &blocks) as u64;
+    let network = copy_of(alloc, net)?;
+    let routes = routing.copy(alloc)?.routes;
+    Ok(Certificate {
+        head: Head {
+            network,
+            routes,
+            set,
+            ratio,
+        },
+        blocks: Items::new(blocks),
+    })
+}
