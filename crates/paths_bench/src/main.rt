@@ -1,0 +1,121 @@
+//! Finds the four least paths of pairs of a network of 64 nodes and 512 links.
+//!
+//! The first word says for how many sources, from 1 to 64, each with all 63 destinations; the program
+//! prints how many paths there are. With the second word `time` it prints before that the links, one
+//! on each line as `tail head cost`, and after it how many microseconds the search took.
+#![tactic(auto)]
+
+ghost use Rattle.std.specs.Prelude.{◌≡◌, ◌<◌, ◌≤◌, IsTrue};
+ghost use Rattle.te_model.specs.Network.{is_well_formed, node_count};
+
+use k_paths::k_least;
+use std::alloc::{AllocError, Global};
+use std::time::Instant;
+use std::{env, io};
+use te_model::{Items, Link, Name, Network, well_formed};
+
+const NODES: u32 = 64;
+
+const PATHS: u32 = 4;
+
+/// The next number of a linear congruential generator (Knuth's constants).
+fn next_number(state: &mut u64) -> u32 {
+    *state = state
+        .wrapping_mul(6364136223846793005)
+        .wrapping_add(1442695040888963407);
+    (*state >> 33) as u32
+}
+
+/// Eight links from each node, to nodes of which no two are the same.
+fn network(alloc: Global) -> Result<Network, AllocError> {
+    let mut names = Vec::new(alloc);
+    let mut links = Vec::new(alloc);
+    let mut state = 7u64;
+    for tail in 0..NODES {
+        names.push(Name::new(format!(in alloc; "n{tail}")?))?;
+        let first = next_number(&mut state) % 63;
+        for k in 0..8u32 {
+            let head = (tail + 1 + (first + 5 * k) % 63) % NODES;
+            let cost = 1 + next_number(&mut state) % 20;
+            links.push(Link {
+                tail,
+                head,
+                capacity: 10,
+                cost,
+            })?;
+        }
+    }
+    Ok(Network {
+        names: Items::new(names),
+        links: Items::new(links),
+    })
+}
+
+/// How many paths a pair has, up to four.
+fn paths_of_pair(alloc: Global, net: &Network, src: u32, dst: u32) -> usize
+    requires network { IsTrue (is_well_formed net.now) }
+    requires src { src < node_count net.now }
+    requires dst { dst < node_count net.now }
+{
+    if src == dst {
+        return 0;
+    }
+    match k_least(alloc, net, src, dst, PATHS) {
+        Ok(paths) => paths.len(),
+        Err(_) => 0,
+    }
+}
+
+fn paths_of_sources(alloc: Global, net: &Network, sources: u32) -> usize
+    requires network { IsTrue (is_well_formed net.now) }
+    requires nodes { node_count net.now ≡ 64 }
+    requires sources { sources ≤ 64 }
+{
+    let mut count = 0usize;
+    for src in 0..sources {
+        for dst in 0..NODES {
+            count = count.wrapping_add(paths_of_pair(alloc, net, src, dst));
+        }
+    }
+    count
+}
+
+fn print_links(rt: &HostRuntime, net: &Network) -> io::Result<()> {
+    for link in net.links.as_slice() {
+        let (tail, head, cost) = (link.tail, link.head, link.cost);
+        println!(rt; "{tail} {head} {cost}")?;
+    }
+    Ok(())
+}
+
+fn measure(rt: &HostRuntime, sources: u32, is_timed: bool) -> io::Result<()>
+    requires { sources ≤ 64 }
+{
+    let alloc = rt.alloc();
+    let net = network(alloc)?;
+    if net.names.as_slice().len() == 64 && well_formed(&net) {
+        if is_timed {
+            print_links(rt, &net)?;
+        }
+        let start = Instant::now(rt)?;
+        let count = paths_of_sources(alloc, &net, sources);
+        let microseconds = start.elapsed(rt)?.as_micros();
+        println!(rt; "{count}")?;
+        if is_timed {
+            println!(rt; "{microseconds}")?;
+        }
+    }
+    Ok(())
+}
+
+fn main(rt: HostRuntime) -> io::Result<()> {
+    let mut sources = 0;
+    let mut is_timed = false;
+    for word in env::args(&rt)?.skip(1) {
+        match word.parse::<u32>() {
+            Ok(number) => sources = number,
+            Err(_) => is_timed = word.as_str() == "time",
+        }
+    }
+    measure(&rt, sources.min(NODES), is_timed)
+}
