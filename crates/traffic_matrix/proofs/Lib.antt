@@ -1,0 +1,11 @@
+mod RowLemmas
+mod NodeLemmas
+mod TableLemmas
+mod DemandLemmas
+mod LimitLemmas
+mod GravityLemmas
+mod TextLemmas
+mod FieldText
+mod RowText
+mod Written
+mod ReadBack

@@ -1,0 +1,35 @@
+-- The text of a series, row by row.
+use Rattle.std.proofs.Common.{ℕ, ◌+◌, ◌<◌, ◌≡◌, ◌∙◌, refl, sym, ap, List, [], ◌∷◌, ◌++◌, length, get_or, append_assoc, append-nil, arith}
+use Rattle.std.specs.List.{flat_map, range_with_len}
+use Rattle.std.proofs.lemmas.Grind.{flat_map-append}
+use Rattle.std.proofs.lemmas.List.{map-id, get_or_default}
+use Rattle.std.proofs.lemmas.List.FromFn.{map-range_with_len_more}
+use Rattle.te_model.specs.declared.route.Pair.{Pair}
+use Rattle.te_model.specs.declared.demand.Matrix.{Matrix}
+use Rattle.traffic_matrix.specs.Text.{row_line, line_at, step_lines, lines_of, no_pair, no_matrix}
+
+range-more : (k : ℕ) → range_with_len 0 (k + 1) ≡ range_with_len 0 k ++ k ∷ []
+range-more k = sym (map-id (range_with_len 0 (k + 1))) ∙ map-range_with_len_more (λ (x : ℕ). x) 0 k k (omega arith) ∙ ap (λ (r : List ℕ). r ++ k ∷ []) (map-id (range_with_len 0 k))
+
+-- what stands before, and then one piece more
+pub pieces-more : (before : List ℕ) (f : ℕ → List ℕ) (k : ℕ) → (before ++ flat_map f (range_with_len 0 k)) ++ f k ≡ before ++ flat_map f (range_with_len 0 (k + 1))
+pieces-more before f k =
+    append_assoc before (flat_map f (range_with_len 0 k)) (f k)
+    ∙ ap (λ (r : List ℕ). before ++ r) (sym (ap (flat_map f) (range-more k) ∙ flat_map-append f (range_with_len 0 k) (k ∷ []) ∙ ap (λ (r : List ℕ). flat_map f (range_with_len 0 k) ++ r) (append-nil (f k))))
+
+-- the row of a place, by the names that stand there
+pub line-of : (names : List (List ℕ)) (pairs : List Pair) (step place demand : ℕ) (demands source target : List ℕ) → demand ≡ get_or demands place 0
+    → (get_or pairs place no_pair).src < length names → (get_or pairs place no_pair).dst < length names
+    → source ≡ get_or names (get_or pairs place no_pair).src source → target ≡ get_or names (get_or pairs place no_pair).dst target
+    → row_line step source target demand ≡ line_at names pairs step demands place
+line-of names pairs step place demand demands source target d s t is-s is-t =
+    let p = get_or pairs place no_pair in
+    let a : source ≡ get_or names p.src [] = is-s ∙ get_or_default names p.src source [] s in
+    let b : target ≡ get_or names p.dst [] = is-t ∙ get_or_default names p.dst target [] t in
+    rw (a, b, d) refl
+
+-- the rows of a step more
+pub step-more : (before text more demands : List ℕ) (names names' : List (List ℕ)) (pairs pairs' : List Pair) (steps : List Matrix) (k : ℕ) → more ≡ text ++ step_lines names pairs k demands
+    → text ≡ before ++ flat_map (lines_of names' pairs' steps) (range_with_len 0 k) → names ≡ names' → pairs ≡ pairs' → demands ≡ (get_or steps k no_matrix).demand
+    → more ≡ before ++ flat_map (lines_of names' pairs' steps) (range_with_len 0 (k + 1))
+step-more before text more demands names names' pairs pairs' steps k a b c d e = a ∙ rw (b, c, d, e) (pieces-more before (lines_of names' pairs' steps) k)
