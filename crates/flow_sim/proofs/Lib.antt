@@ -8,3 +8,4 @@ pub mod StateLaws
 pub mod StartLaws
 pub mod ResultLaws
 pub mod RatesLaws
+pub mod SampleLaws

@@ -4,3 +4,4 @@ pub mod Tables
 pub mod Traffic
 pub mod State
 pub mod Result
+pub mod Samples

@@ -15,3 +15,6 @@ mod tables;
 pub use fair::fair_share;
 pub use result::{PairResult, StepResult};
 pub use simulation::step;
+
+#[cfg(test)]
+mod tests;

@@ -1,28 +1,24 @@
-use Rattle.std.proofs.Common.{◌≤◌, ◌<◌, slice_index, length, arith, sym, ◌∙◌, refl}
-use Rattle.std.proofs.lemmas.List.FromFn.{fill_by_all}
-use Rattle.te_model.specs.Counting.{sum_below}
-use Rattle.te_model.proofs.ApportionLaws.{made_same, sum_is_below}
-use Rattle.flow_sim.specs.Fair.{share_at, fair, fair_level}
-use Rattle.flow_sim.proofs.Level.{level_fits, fair_all, fair_some}
+use Rattle.std.proofs.Common.{◌≤◌, sum, min, length, slice_index, arith, sym, ap, ◌∙◌}
+use Rattle.te_model.proofs.ApportionLaws.{sum_made, sum_is_below}
+use Rattle.flow_sim.specs.Fair.{fair}
+use Rattle.flow_sim.proofs.Level.{fair-sum, fair-le}
+use Rattle.flow_sim.proofs.TableLaws.{read_made}
 use Rattle.flow_sim.proofs.fair.fair_share.Goals as goal
 
-pub fill_shares-requires-clause-level : goal.fill_shares-requires-clause-level
-fill_shares-requires-clause-level c =
-    rw c.level_of-level.ensures (level_fits c.args.left (length c.args.arrivals.now) (slice_index c.args.arrivals.now))
-
-pub returns-then-total_of-left : goal.returns-then-total_of-left
-returns-then-total_of-left c =
-    let xs = c.args.arrivals.now in
-    let fits : sum_below (length xs) (slice_index xs) ≤ c.args.left = omega (arith, sum_is_below xs, c.total_of.ensures) in
-    c.copy_from_slice.ensures.after
-    ∙ fill_by_all (fair c.args.left (length xs) (slice_index xs)) xs (length xs) 0 refl
-    (λ k below. sym (fair_all c.args.left (length xs) (slice_index xs) k fits))
-
-pub returns-else-total_of-left : goal.returns-else-total_of-left
-returns-else-total_of-left c =
+pub returns-clause-sum : goal.returns-clause-sum
+returns-clause-sum c =
     let xs = c.args.arrivals.now in
     let n = length xs in
-    let over : c.args.left < sum_below n (slice_index xs) = omega (arith, sum_is_below xs, c.total_of.ensures) in
-    c.fill_shares.ensures
-    ∙ (rw c.level_of-level.ensures (made_same n (share_at c.args.left n (slice_index xs) (fair_level c.args.left n (slice_index xs)))
-    (fair c.args.left n (slice_index xs)) (λ k below. sym (fair_some c.args.left n (slice_index xs) k over))))
+    ap sum c.share_out.ensures
+    ∙ (sum_made (fair c.args.left n (slice_index xs)) n
+    ∙ (fair-sum c.args.left n (slice_index xs) ∙ ap (min c.args.left) (sym (sum_is_below xs))))
+
+pub returns-clause-within : goal.returns-clause-within
+returns-clause-within c = λ i inside.
+    let xs = c.args.arrivals.now in
+    let n = length xs in
+    omega (
+      arith,
+      read_made (fair c.args.left n (slice_index xs)) n i c.share_out.new.served c.share_out.ensures inside,
+      fair-le c.args.left n (slice_index xs) i,
+    )

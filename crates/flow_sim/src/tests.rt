@@ -1,0 +1,134 @@
+ghost use Rattle.std.specs.Prelude.{◌≡◌, IfOk, length};
+ghost use Rattle.flow_sim.specs.Samples.{link, four_nodes, two_ways};
+
+use super::*;
+use local_recovery::{Mode, recover};
+use routing::Routing;
+use std::alloc::{AllocError, Global};
+use te_model::{Items, Link, Matrix, Memory, Name, Network, Pair, PairRoutes, PathShare};
+
+fn link(tail: u32, head: u32, capacity: u64, cost: u32) -> Link
+    ensures { result ≡ link tail head capacity cost }
+{
+    Link {
+        tail,
+        head,
+        capacity,
+        cost,
+    }
+}
+
+/// The nodes s, t, x and y: a straight link from s to t, a way over x, and a narrow way over y to x.
+fn four_nodes(alloc: Global) -> Result<Network, AllocError>
+    ensures { IfOk result (λ n. n ≡ four_nodes) }
+{
+    let names = vec![in alloc;
+        Name::new("s".to_string(alloc)?),
+        Name::new("t".to_string(alloc)?),
+        Name::new("x".to_string(alloc)?),
+        Name::new("y".to_string(alloc)?),
+    ]?;
+    let links = vec![in alloc;
+        link(0, 1, 10, 1),
+        link(0, 2, 10, 1),
+        link(2, 1, 10, 1),
+        link(0, 3, 3, 3),
+        link(3, 2, 3, 3),
+    ]?;
+    Ok(Network {
+        names: Items::new(names),
+        links: Items::new(links),
+    })
+}
+
+/// Half of the demand from s to t on the straight link, and half over x.
+fn two_ways(alloc: Global) -> Result<Vec<PairRoutes>, AllocError>
+    ensures { IfOk result (λ r. r.items ≡ two_ways) }
+{
+    let direct = vec![in alloc; 0]?;
+    let around = vec![in alloc; 1, 2]?;
+    let paths = vec![in alloc;
+        PathShare {
+            links: Items::new(direct),
+            weight: 500_000
+        },
+        PathShare {
+            links: Items::new(around),
+            weight: 500_000
+        },
+    ]?;
+    let routes = vec![in alloc;
+        PairRoutes {
+            pair: Pair { src: 0, dst: 1 },
+            paths: Items::new(paths)
+        },
+    ]?;
+    Ok(routes)
+}
+
+/// A step with a demand of 12 on what is left of the two ways in the mode, where the marked links have failed.
+fn stepped(alloc: Global, mode: Mode, failed: &[bool]) -> Result<StepResult, Memory>
+    requires { length failed.now ≡ 5 }
+{
+    let net = four_nodes(alloc)?;
+    let routing = Routing {
+        routes: Items::new(two_ways(alloc)?),
+    };
+    let rates = recover(alloc, mode, &net, failed, &routing)?;
+    let demand = vec![in alloc; 12]?;
+    let matrix = Matrix {
+        demand: Items::new(demand),
+    };
+    let found = step(alloc, &net, failed, &rates, &matrix)?;
+    Ok(found)
+}
+
+/// Whether 12 units were offered, and so many delivered and lost on full links, on failed links and for want of a path.
+fn is_result(found: &StepResult, amounts: [u64; 4]) -> bool {
+    found.offered == 12
+        && found.delivered == amounts[0]
+        && found.lost_full == amounts[1]
+        && found.lost_failed == amounts[2]
+        && found.lost_no_path == amounts[3]
+}
+
+#[test]
+fn fair_shares(rt: HostRuntime) {
+    let mut served = [0, 0, 0];
+    fair_share(10, &[3, 8, 8], &mut served);
+    assert!(rt; served == [3, 4, 3]);
+    fair_share(19, &[3, 8, 8], &mut served);
+    assert!(rt; served == [3, 8, 8]);
+    let mut one = [7];
+    fair_share(0, &[3], &mut one);
+    assert!(rt; one == [0]);
+}
+
+#[test]
+fn steps(rt: HostRuntime) {
+    let alloc = rt.alloc();
+    let none = [false, false, false, false, false];
+    let around = [false, true, false, false, false];
+    let both = [true, true, false, false, false];
+    for (mode, failed, amounts) in [
+        (Mode::Keep, none, [12, 0, 0, 0]),
+        (Mode::Keep, around, [6, 0, 6, 0]),
+        (Mode::Scale, around, [10, 2, 0, 0]),
+        (Mode::Scale, both, [0, 0, 0, 12]),
+        (Mode::Bypass, around, [9, 3, 0, 0]),
+    ] {
+        match stepped(alloc, mode, &failed) {
+            Ok(found) => assert!(rt; is_result(&found, amounts)),
+            Err(_) => assert!(rt; false),
+        }
+    }
+}
+
+#[test]
+fn links_carry_what_they_serve(rt: HostRuntime) {
+    let around = [false, true, false, false, false];
+    match stepped(rt.alloc(), Mode::Bypass, &around) {
+        Ok(found) => assert!(rt; found.carried.as_slice() == [6, 0, 3, 3, 3].as_slice()),
+        Err(_) => assert!(rt; false),
+    }
+}
