@@ -1,2 +1,4 @@
 pub mod Once
+pub mod Owed
+pub mod Totals
 pub mod Texts

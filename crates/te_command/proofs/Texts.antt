@@ -1,54 +1,114 @@
--- What was found of a file gives its answer.
-use Rattle.std.proofs.Common.{◌≡◌, ℕ, ◌≤◌, List, length, Option, Some, None, Result, Ok, Err, IfOk, inl, inr, refl, arith}
+-- What was found of the files gives the answer.
+use Rattle.std.proofs.Common.{◌≡◌, ◌≢◌, ◌⊎◌, ℕ, ◌<◌, ◌≤◌, List, Option, Some, None, Result, Ok, Err, IfOk, IsErrOf, inl, inr, refl, arith}
 use Rattle.te_model.specs.declared.memory.Memory.{Memory}
 use Rattle.te_model.specs.declared.certificate.Certificate.{Certificate}
+use Rattle.te_model.specs.declared.network.Network.{Network}
 use Rattle.te_model.specs.Inequalities.{LinkFailure, first_failure}
-use Rattle.te_model.specs.Text.{Spells}
 use Rattle.ratio_checker.specs.Finding.{finding_of}
 use Rattle.ratio_checker.specs.declared.finding.Finding.{Finding}
 use Rattle.te_command.specs.declared.answer.Answer.{Answer}
-use Rattle.te_command.specs.declared.refusal.Refusal.{Refusal}
-use Rattle.te_command.specs.CheckText.{CheckText, IsRefusal, refused_line, file_limit}
-use Rattle.te_command.specs.Command.{check}
 use Rattle.te_command.specs.declared.answer.Fault.{Fault}
-use Rattle.te_command.specs.Meaning.{IsTold, Means, ReadFailed, status_of, text_of}
+use Rattle.te_command.specs.declared.refusal.Refusal.{Refusal}
+use Rattle.te_command.specs.declared.refusal.FileFault.{FileFault}
+use Rattle.te_command.specs.declared.refusal.FileFault.TheVariants.{Refused, Read, Memory as OutOfMemory}
+use Rattle.te_command.specs.Refusals.{IsCertificate, IsCertificateRefusal}
+use Rattle.te_command.specs.CheckText.{IsVerdict, IsNetworkVerdict, FileText, TopologyText}
+use Rattle.te_command.specs.Command.{Command, check, check_network, files_of}
+use Rattle.te_command.specs.Lines.{IsLineOf, IfRefused, IsRefusalLine}
+use Rattle.te_command.specs.Meaning.{IsRefusedIn, IsToldFile, IsTold, Means, IsRefusedFile, ReadFailed, status_of, text_of}
 use Rattle.te_ports.specs.Ports.{Rose, Told}
-use Rattle.te_command.specs.Lines.{IsLineOf}
+use Rattle.te_command.proofs.Once.{spelled_accepted}
 
 -- what the first failure gives
-line_of_failure : (file bytes : List ℕ) (c : Certificate) (failure : Option LinkFailure) (answer : Answer) → length bytes ≤ file_limit →
-    Spells bytes c → first_failure c ≡ failure → IsLineOf c (finding_of failure) answer →
-    CheckText file bytes (status_of answer) (text_of answer)
-line_of_failure file bytes c None answer fits spelled is line =
-    inl (line.0, record { certificate = c; fits = fits; spelled = spelled; holds = is; line_is = line.1 })
-line_of_failure file bytes c (Some failure) answer fits spelled is line =
-    inr (inl (line.0, record { certificate = c; failure = failure; fits = fits; spelled = spelled; fails = is; line_is = line.1 }))
+line_of_failure : (c : Certificate) (failure : Option LinkFailure) (answer : Answer) → first_failure c ≡ failure →
+    IsLineOf c (finding_of failure) answer → IsVerdict c (status_of answer) (text_of answer)
+line_of_failure c None answer is line = inl (line.0, record { holds = is; line_is = line.1 })
+line_of_failure c (Some failure) answer is line = inr (line.0, record { failure = failure; fails = is; line_is = line.1 })
 
--- the line of the finding is the answer of the file
-pub answer_found : (file bytes : List ℕ) (c : Certificate) (finding : Finding) (r : Result Answer Memory) → length bytes ≤ file_limit →
-    Spells bytes c → finding ≡ finding_of (first_failure c) → IfOk r (IsLineOf c finding) →
-    IfOk r (λ answer. CheckText file bytes (status_of answer) (text_of answer))
-answer_found file bytes c finding (Ok answer) fits spelled is line =
-    line_of_failure file bytes c (first_failure c) answer fits spelled refl (rw is at line)
-answer_found file bytes c finding (Err e) fits spelled is line = line
+-- the line of the finding is the answer on the certificate
+pub verdict_found : (c : Certificate) (finding : Finding) (r : Result Answer Memory) → finding ≡ finding_of (first_failure c) →
+    IfOk r (IsLineOf c finding) → IfOk r (λ answer. IsVerdict c (status_of answer) (text_of answer))
+verdict_found c finding (Ok answer) is line = line_of_failure c (first_failure c) answer refl (rw is at line)
+verdict_found c finding (Err e) is line = line
 
--- the line of a refusal is the answer of the file
-pub answer_refused : (file bytes : List ℕ) (refusal : Refusal) (r : Result Answer Memory) → IsRefusal bytes refusal →
-    IfOk r (λ answer. status_of answer ≡ 3) → IfOk r (λ answer. text_of answer ≡ refused_line file refusal) →
-    IfOk r (λ answer. CheckText file bytes (status_of answer) (text_of answer))
-answer_refused file bytes refusal (Ok answer) cause status line =
-    inr (inr (status, record { refusal = refusal; cause = cause; line_is = line }))
-answer_refused file bytes refusal (Err e) cause status line = status
+-- of the certificate's own network that is the answer
+pub verdict_same : (c : Certificate) (n : Network) (r : Result Answer Memory) → c.head.network ≡ n →
+    IfOk r (λ answer. IsVerdict c (status_of answer) (text_of answer)) → IfOk r (λ answer. IsNetworkVerdict c n (status_of answer) (text_of answer))
+verdict_same c n (Ok answer) same verdict = inl (same, verdict)
+verdict_same c n (Err e) same verdict = verdict
 
--- the answer of the file is what `check` means of it
-pub means_told : (file : List ℕ) (content : List ℕ → Option (List ℕ)) (r : Result Answer Fault) →
-    IfOk r (λ answer. Told (content file) (λ bytes. CheckText file bytes (status_of answer) (text_of answer))) →
+-- where a file is refused, that is its answer
+pub text_refused : {A : Type 0} (Cause : List ℕ → Refusal → Type 0) (Gives : List ℕ → A → Type 0) (Meant : A → ℕ → List ℕ → Type 0) →
+    (file : List ℕ) (told : Option (List ℕ)) (r : Result Answer Fault) (fault : FileFault) →
+    IfRefused fault (λ refusal. Told told (λ bytes. Cause bytes refusal)) → IfOk r (IsRefusalLine file fault) →
+    IfOk r (λ answer. Told told (λ bytes. FileText Cause Gives Meant file bytes (status_of answer) (text_of answer)))
+text_refused Cause Gives Meant file told (Err e) fault cause says = says
+text_refused Cause Gives Meant file told (Ok answer) (Refused refusal) cause says =
+    λ bytes is. inl (says.0, record { refusal = refusal; cause = cause bytes is; line_is = says.1 })
+text_refused Cause Gives Meant file told (Ok answer) Read cause says = absurd says
+text_refused Cause Gives Meant file told (Ok answer) OutOfMemory cause says = absurd says
+
+-- a certificate that is refused is the answer of each form of `check`
+pub check_refused : (file : List ℕ) (content : List ℕ → Option (List ℕ)) (r : Result Answer Fault) (fault : FileFault) →
+    IfRefused fault (λ refusal. Told (content file) (λ bytes. IsCertificateRefusal bytes refusal)) → IfOk r (IsRefusalLine file fault) →
     IfOk r (λ answer. IsTold (check file) content → Means (check file) content (status_of answer) (text_of answer))
-means_told file content (Ok answer) says = λ told. (told.0, told.1, says told.0 told.1)
-means_told file content (Err e) says = says
+check_refused file content (Err e) fault cause says = says
+check_refused file content (Ok answer) (Refused refusal) cause says =
+    λ told. (told.0, told.1, inl (says.0, record { refusal = refusal; cause = cause told.0 told.1; line_is = says.1 }))
+check_refused file content (Ok answer) Read cause says = absurd says
+check_refused file content (Ok answer) OutOfMemory cause says = absurd says
 
--- the one file of `check` is the first
+pub check_network_refused : (file topology : List ℕ) (content : List ℕ → Option (List ℕ)) (r : Result Answer Fault) (fault : FileFault) →
+    IfRefused fault (λ refusal. Told (content file) (λ bytes. IsCertificateRefusal bytes refusal)) → IfOk r (IsRefusalLine file fault) →
+    IfOk r (λ answer. IsTold (check_network file topology) content →
+    Means (check_network file topology) content (status_of answer) (text_of answer))
+check_network_refused file topology content (Err e) fault cause says = says
+check_network_refused file topology content (Ok answer) (Refused refusal) cause says =
+    λ told. (told.0.0, told.0.1, inl (says.0, record { refusal = refusal; cause = cause told.0.0 told.0.1; line_is = says.1 }))
+check_network_refused file topology content (Ok answer) Read cause says = absurd says
+check_network_refused file topology content (Ok answer) OutOfMemory cause says = absurd says
+
+-- what spells a certificate is told as no refused file
+not_refused : (told : Option (List ℕ)) (c : Certificate) → Told told (λ bytes. IsCertificate bytes c) → IsRefusedIn IsCertificateRefusal told → ⊥
+not_refused told c spelled refused = spelled_accepted refused.0 c refused.1 (spelled refused.0 refused.2) refused.3
+
+-- a certificate that is not refused needs a topology that is told
+topology_told : (told other : Option (List ℕ)) (c : Certificate) → Told told (λ bytes. IsCertificate bytes c) →
+    IsRefusedIn IsCertificateRefusal told ⊎ IsToldFile other → IsToldFile other
+topology_told told other c spelled (inl refused) = absurd (not_refused told c spelled refused)
+topology_told told other c spelled (inr rows) = rows
+
+-- the answer of the topology is that of both files
+pub check_network_found : (file topology : List ℕ) (content : List ℕ → Option (List ℕ)) (c : Certificate) (r : Result Answer Fault) →
+    Told (content file) (λ bytes. IsCertificate bytes c) →
+    IfOk r (λ answer. Told (content topology) (λ rows. TopologyText c topology rows (status_of answer) (text_of answer))) →
+    IfOk r (λ answer. IsTold (check_network file topology) content →
+    Means (check_network file topology) content (status_of answer) (text_of answer))
+check_network_found file topology content c (Err e) spelled says = says
+check_network_found file topology content c (Ok answer) spelled says =
+    λ told. let rows = topology_told (content file) (content topology) c spelled told.1 in
+    (told.0.0, told.0.1, inr (c, spelled told.0.0 told.0.1, (rows.0, rows.1, says rows.0 rows.1)))
+
+-- the certificate's file is the first of each form of `check`
 pub check_failed : (file : List ℕ) (content : List ℕ → Option (List ℕ)) (before now : List ℕ → ℕ) → Rose (before file) (now file) →
     ReadFailed (check file) content before now
 check_failed file content before now rose =
     record { place = 0; file = file; named = refl; rose = rose; accepted = λ earlier first. absurd (omega arith) }
+
+pub check_network_failed : (file topology : List ℕ) (content : List ℕ → Option (List ℕ)) (before now : List ℕ → ℕ) →
+    Rose (before file) (now file) → ReadFailed (check_network file topology) content before now
+check_network_failed file topology content before now rose =
+    record { place = 0; file = file; named = refl; rose = rose; accepted = λ earlier first. absurd (omega arith) }
+
+-- the first file alone stands before the second
+only_first : (file topology : List ℕ) (content : List ℕ → Option (List ℕ)) (c : Certificate) → Told (content file) (λ bytes. IsCertificate bytes c) →
+    (earlier : ℕ) → earlier < 1 → IsRefusedFile (check_network file topology) content earlier → ⊥
+only_first file topology content c spelled earlier first (inl refused) = not_refused (content file) c spelled refused.1
+only_first file topology content c spelled earlier first (inr refused) = omega (arith, refused.0)
+
+-- the topology's file is the second, and the certificate before it was not refused
+pub topology_failed : (file topology : List ℕ) (content : List ℕ → Option (List ℕ)) (before now : List ℕ → ℕ) (c : Certificate) →
+    Told (content file) (λ bytes. IsCertificate bytes c) → Rose (before topology) (now topology) →
+    ReadFailed (check_network file topology) content before now
+topology_failed file topology content before now c spelled rose =
+    record { place = 1; file = topology; named = refl; rose = rose; accepted = only_first file topology content c spelled }

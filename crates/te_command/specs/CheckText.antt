@@ -1,36 +1,15 @@
--- What a certificate's file answers to `check`: the line that is written, or why the file is refused.
-use Rattle.std.specs.Prelude.{◌≡◌, ◌<◌, ◌≤◌, ◌⊎◌, ℕ, List, [], ◌∷◌, ◌++◌, length, codes, Some, None}
+-- What the files of `check` answer: the line that is written, or which file is refused and why.
+use Rattle.std.specs.Prelude.{◌≡◌, ◌≢◌, ◌⊎◌, ℕ, List, [], ◌∷◌, ◌++◌, codes, Option, Some, None}
 use Rattle.std.specs.Fmt.{decimal}
 use Rattle.te_model.specs.declared.certificate.Certificate.{Certificate}
 use Rattle.te_model.specs.declared.demand.DemandSet.{DemandSet}
 use Rattle.te_model.specs.declared.demand.DemandSet.TheVariants.{All, Margin}
+use Rattle.te_model.specs.declared.network.Network.{Network}
 use Rattle.te_model.specs.Inequalities.{LinkFailure, first_failure, Holds}
 use Rattle.te_model.specs.Ratio.{IsObliviousRatio}
-use Rattle.te_model.specs.declared.limits.TheConstants.{FORMAT_1}
 use Rattle.te_model.specs.Text.{Spells}
-use Rattle.te_model.specs.Faults.{IsShapeFault, IsRuleFault}
 use Rattle.te_command.specs.declared.refusal.Refusal.{Refusal}
-use Rattle.te_command.specs.declared.refusal.Refusal.TheVariants.{TooLong, Shape, Rule}
-
--- the greatest certificate file, in bytes
-abbrev pub file_limit : ℕ
-file_limit = 134217728
-
--- why the bytes are refused: they are too many, or leave the grammar at a line, or spell what breaks a rule
-abbrev pub IsRefusal : List ℕ → Refusal → Type 0
-IsRefusal bytes TooLong = file_limit < length bytes
-IsRefusal bytes (Shape line) = (length bytes ≤ file_limit) × IsShapeFault FORMAT_1 bytes line
-IsRefusal bytes (Rule fault) = (length bytes ≤ file_limit) × IsRuleFault FORMAT_1 bytes fault
-
--- the words for it
-abbrev pub reason : Refusal → List ℕ
-reason TooLong = codes "too long"
-reason (Shape line) = codes "shape at line " ++ decimal line
-reason (Rule fault) = codes "rule V" ++ (decimal fault.number ++ (codes " at " ++ decimal fault.place))
-
--- the line that refuses a file, by its name as it was given
-abbrev pub refused_line : List ℕ → Refusal → List ℕ
-refused_line file refusal = codes "refused: " ++ (file ++ (codes ": " ++ (reason refusal ++ 10 ∷ [])))
+use Rattle.te_command.specs.Refusals.{IsCertificate, IsCertificateRefusal, IsTopology, IsTopologyRefusal, refused_line}
 
 -- the line of a yes: the ratio in millionths, and the demand set
 abbrev pub yes_line : ℕ → DemandSet → List ℕ
@@ -43,33 +22,59 @@ abbrev pub no_line : ℕ → ℕ → ℕ → List ℕ
 no_line link rule place =
     codes "no link " ++ (decimal link ++ (codes " rule I" ++ (decimal rule ++ (codes " place " ++ (decimal place ++ 10 ∷ [])))))
 
--- the bytes spell a certificate of which no inequality fails, and the line says so
-pub record SaysYes (bytes line : List ℕ) : Type 0 where
-  pub certificate : Certificate
-  pub fits : length bytes ≤ file_limit
-  pub spelled : Spells bytes certificate
+-- the line of a certificate of another network
+abbrev pub no_network_line : List ℕ
+no_network_line = codes "no network" ++ 10 ∷ []
+
+-- no inequality of the certificate fails, and the line says so
+pub record SaysYes (certificate : Certificate) (line : List ℕ) : Type 0 where
   pub holds : first_failure certificate ≡ None
   pub line_is : line ≡ yes_line certificate.head.ratio certificate.head.set
 
--- the bytes spell a certificate, and the line names the first inequality that fails
-pub record SaysNo (bytes line : List ℕ) : Type 0 where
-  pub certificate : Certificate
+-- the line names the first inequality of the certificate that fails
+pub record SaysNo (certificate : Certificate) (line : List ℕ) : Type 0 where
   pub failure : LinkFailure
-  pub fits : length bytes ≤ file_limit
-  pub spelled : Spells bytes certificate
   pub fails : first_failure certificate ≡ Some failure
   pub line_is : line ≡ no_line failure.link failure.rule failure.place
 
--- the bytes are refused, and the line says why
-pub record SaysRefused (file bytes line : List ℕ) : Type 0 where
+-- the bytes are refused for such a cause, and the line says why
+pub record SaysRefused (Cause : List ℕ → Refusal → Type 0) (file bytes line : List ℕ) : Type 0 where
   pub refusal : Refusal
-  pub cause : IsRefusal bytes refusal
+  pub cause : Cause bytes refusal
   pub line_is : line ≡ refused_line file refusal
 
--- the answer of the bytes of a file of this name: its status and its line
+-- the answer on a certificate: its status and its line
+abbrev pub IsVerdict : Certificate → ℕ → List ℕ → Type 0
+IsVerdict certificate status line = ((status ≡ 0) × SaysYes certificate line) ⊎ ((status ≡ 1) × SaysNo certificate line)
+
+-- the answer on a certificate which is to be of this network: names and links agree, in order
+abbrev pub IsNetworkVerdict : Certificate → Network → ℕ → List ℕ → Type 0
+IsNetworkVerdict certificate network status line =
+    ((certificate.head.network ≡ network) × IsVerdict certificate status line)
+    ⊎ ((certificate.head.network ≢ network) × (status ≡ 1) × (line ≡ no_network_line))
+
+-- the answer of the bytes of a file: they are refused for such a cause, or give a value which has this answer
+abbrev pub FileText : {A : Type 0} → (List ℕ → Refusal → Type 0) → (List ℕ → A → Type 0) → (A → ℕ → List ℕ → Type 0) →
+    List ℕ → List ℕ → ℕ → List ℕ → Type 0
+FileText {A} Cause Gives Answer file bytes status line =
+    ((status ≡ 3) × SaysRefused Cause file bytes line) ⊎ ((value : A) × Gives bytes value × Answer value status line)
+
+-- the answer of the bytes of a certificate's file of this name
 abbrev pub CheckText : List ℕ → List ℕ → ℕ → List ℕ → Type 0
-CheckText file bytes status line =
-    ((status ≡ 0) × SaysYes bytes line) ⊎ ((status ≡ 1) × SaysNo bytes line) ⊎ ((status ≡ 3) × SaysRefused file bytes line)
+CheckText file bytes = FileText IsCertificateRefusal IsCertificate IsVerdict file bytes
+
+-- the answer of the rows of a topology's file of this name, of whose network the certificate is to be
+abbrev pub TopologyText : Certificate → List ℕ → List ℕ → ℕ → List ℕ → Type 0
+TopologyText certificate file rows = FileText IsTopologyRefusal IsTopology (IsNetworkVerdict certificate) file rows
+
+-- a file is told, and its bytes have this answer
+abbrev pub ToldText : (List ℕ → ℕ → List ℕ → Type 0) → Option (List ℕ) → ℕ → List ℕ → Type 0
+ToldText Answer told status line = (bytes : List ℕ) × (told ≡ Some bytes) × Answer bytes status line
+
+-- the answer of the bytes of a certificate's file, and of a topology's file where the first is not refused
+abbrev pub CheckNetworkText : List ℕ → List ℕ → Option (List ℕ) → List ℕ → ℕ → List ℕ → Type 0
+CheckNetworkText file topology told bytes =
+    FileText IsCertificateRefusal IsCertificate (λ certificate. ToldText (TopologyText certificate topology) told) file bytes
 
 -- the bytes spell a certificate whose inequalities hold, and so its ratio is an oblivious ratio of its routing
 pub record ProvesRatio (bytes : List ℕ) : Type 0 where

@@ -1,4 +1,5 @@
 pub mod Command
+pub mod Refusals
 pub mod CheckText
 pub mod Meaning
 pub mod Run

@@ -1,20 +1,20 @@
-//! The command `check`: what a certificate's file answers.
-ghost use Rattle.std.specs.Prelude.{◌≡◌, ◌≢◌, ◌≤◌, ℕ, List, length, IfOk, IsErrOf, Err, string_bytes};
+//! The command `check`: what a certificate's file answers, alone and of a topology.
+ghost use Rattle.std.specs.Prelude.{◌≡◌, ◌≢◌, ◌≤◌, ℕ, List, IfOk, IsErrOf, Err, string_bytes};
+ghost use Rattle.te_model.specs.Validity.{IsValid};
 ghost use Rattle.te_ports.specs.Ports.{Rose, Told};
-ghost use Rattle.te_command.specs.CheckText.{CheckText, refused_line, yes_line, file_limit};
-ghost use Rattle.te_command.specs.Meaning.{status_of, text_of};
-ghost use Rattle.te_command.specs.Lines.{IsLineOf};
+ghost use Rattle.te_command.specs.Command.{check, check_network};
+ghost use Rattle.te_command.specs.Refusals.{refused_line};
+ghost use Rattle.te_command.specs.CheckText.{IsVerdict, IsNetworkVerdict, TopologyText, yes_line};
+ghost use Rattle.te_command.specs.Meaning.{IsTold, Means, ReadFailed, status_of, text_of};
+ghost use Rattle.te_command.specs.Lines.{IsLineOf, IsRefusalLine};
 
 use crate::answer::{Answer, Fault};
-use crate::refusal::Refusal;
-use cert_text::{CertFault, read};
+use crate::files::{certificate_in, network_in};
+use crate::refusal::{FileFault, Refusal};
 use ratio_checker::{Finding, verdict};
 use std::alloc::Global;
-use te_model::{Certificate, DemandSet, Memory};
-use te_ports::{Depot, LoadFault, load};
-
-/// The greatest certificate file, in bytes.
-pub const FILE_LIMIT: u64 = 134_217_728;
+use te_model::{Certificate, DemandSet, Memory, Network, same_network};
+use te_ports::Depot;
 
 // The line that refuses a file.
 fn refuse(alloc: Global, file: &str, refusal: Refusal) -> Result<Answer, Memory>
@@ -22,6 +22,19 @@ fn refuse(alloc: Global, file: &str, refusal: Refusal) -> Result<Answer, Memory>
     ensures line { IfOk result (λ answer. text_of answer ≡ refused_line file.now refusal) }
 {
     Ok(Answer::Refused(format!(in alloc; "refused: {file}: {refusal}\n")?))
+}
+
+// The answer where a file gave no value.
+fn without(alloc: Global, file: &str, fault: FileFault) -> Result<Answer, Fault>
+    ensures refused { IfOk result (λ answer. IsRefusalLine file.now fault answer) }
+    ensures read { IsErrOf result Fault.Read → fault ≡ FileFault.Read }
+    ensures unread { fault ≡ FileFault.Read → result ≡ Err Fault.Read }
+{
+    match fault {
+        FileFault::Refused(refusal) => Ok(refuse(alloc, file, refusal)?),
+        FileFault::Read => Err(Fault::Read),
+        FileFault::Memory => Err(Fault::Memory),
+    }
 }
 
 // The line of a yes.
@@ -51,34 +64,85 @@ fn line_of(alloc: Global, certificate: &Certificate, finding: Finding) -> Result
     }
 }
 
-// What the bytes of the file say.
-fn judge(alloc: Global, file: &str, bytes: &[u8]) -> Result<Answer, Memory>
-    requires { length bytes.now ≤ file_limit }
-    ensures { IfOk result (λ answer. CheckText file.now bytes.now (status_of answer) (text_of answer)) }
+// The answer on a certificate.
+fn judge(alloc: Global, certificate: &Certificate) -> Result<Answer, Memory>
+    requires { IsValid certificate.now }
+    ensures { IfOk result (λ answer. IsVerdict certificate.now (status_of answer) (text_of answer)) }
 {
-    match read(alloc, bytes) {
-        Ok(certificate) => line_of(alloc, &certificate, verdict(&certificate)),
-        Err(CertFault::Shape(line)) => refuse(alloc, file, Refusal::Shape(line)),
-        Err(CertFault::Rule(fault)) => refuse(alloc, file, Refusal::Rule(fault)),
-        Err(CertFault::Memory) => Err(Memory),
+    line_of(alloc, certificate, verdict(certificate))
+}
+
+// The answer on a certificate which is to be of this network.
+fn compare(alloc: Global, certificate: &Certificate, network: &Network) -> Result<Answer, Memory>
+    requires { IsValid certificate.now }
+    ensures { IfOk result (λ answer. IsNetworkVerdict certificate.now network.now (status_of answer) (text_of answer)) }
+{
+    if same_network(&certificate.head.network, network) {
+        judge(alloc, certificate)
+    } else {
+        Ok(Answer::No(format!(in alloc; "no network\n")?))
+    }
+}
+
+// The answer on a certificate which is to be of the network of the topology in this file.
+fn judge_in<D: Depot>(
+    alloc: Global,
+    depot: &mut D,
+    certificate: &Certificate,
+    topology: &str,
+) -> Result<Answer, Fault>
+    requires { IsValid certificate.now }
+    ensures told { IfOk result (λ answer. Told (D.content depot.old topology.now) (λ rows.
+        TopologyText certificate.now topology.now rows (status_of answer) (text_of answer))) }
+    ensures read { IsErrOf result Fault.Read → Rose (D.faults depot.old topology.now) (D.faults depot.new topology.now) }
+    ensures steady { result ≢ Err Fault.Read → D.faults depot.new ≡ D.faults depot.old }
+    ensures later { (other : List ℕ) → D.faults depot.old other ≤ D.faults depot.new other }
+    ensures content { D.content depot.new ≡ D.content depot.old }
+{
+    match network_in(alloc, depot, topology) {
+        Ok(network) => Ok(compare(alloc, certificate, &network)?),
+        Err(fault) => without(alloc, topology, fault),
     }
 }
 
 /// The answer of the certificate's file of this name.
 ///
 /// `Read` comes only where a read of this file failed in the call.
-pub fn check<D: Depot>(alloc: Global, depot: &mut D, file: &str) -> Result<Answer, Fault>
-    ensures told { IfOk result (λ answer. Told (D.content depot.old file.now)
-        (λ bytes. CheckText file.now bytes (status_of answer) (text_of answer))) }
-    ensures read { IsErrOf result Fault.Read → Rose (D.faults depot.old file.now) (D.faults depot.new file.now) }
+pub fn check<D: Depot>(alloc: Global, depot: &mut D, certificate: &str) -> Result<Answer, Fault>
+    ensures told { IfOk result (λ answer. IsTold (check certificate.now) (D.content depot.old) →
+        Means (check certificate.now) (D.content depot.old) (status_of answer) (text_of answer)) }
+    ensures read { IsErrOf result Fault.Read →
+        ReadFailed (check certificate.now) (D.content depot.old) (D.faults depot.old) (D.faults depot.new) }
     ensures steady { result ≢ Err Fault.Read → D.faults depot.new ≡ D.faults depot.old }
     ensures later { (other : List ℕ) → D.faults depot.old other ≤ D.faults depot.new other }
     ensures content { D.content depot.new ≡ D.content depot.old }
 {
-    match load(alloc, depot, file, FILE_LIMIT) {
-        Ok(bytes) => Ok(judge(alloc, file, &bytes)?),
-        Err(LoadFault::TooLong) => Ok(refuse(alloc, file, Refusal::TooLong)?),
-        Err(LoadFault::Failed) => Err(Fault::Read),
-        Err(LoadFault::Memory) => Err(Fault::Memory),
+    match certificate_in(alloc, depot, certificate) {
+        Ok(spelled) => Ok(judge(alloc, &spelled)?),
+        Err(fault) => without(alloc, certificate, fault),
+    }
+}
+
+/// The answer of the certificate's file of this name, whose network is to be that of the topology's file. The topology
+/// is read only where the certificate is not refused.
+///
+/// `Read` comes only where a read of one of the files failed in the call.
+pub fn check_network<D: Depot>(
+    alloc: Global,
+    depot: &mut D,
+    certificate: &str,
+    topology: &str,
+) -> Result<Answer, Fault>
+    ensures told { IfOk result (λ answer. IsTold (check_network certificate.now topology.now) (D.content depot.old) →
+        Means (check_network certificate.now topology.now) (D.content depot.old) (status_of answer) (text_of answer)) }
+    ensures read { IsErrOf result Fault.Read →
+        ReadFailed (check_network certificate.now topology.now) (D.content depot.old) (D.faults depot.old) (D.faults depot.new) }
+    ensures steady { result ≢ Err Fault.Read → D.faults depot.new ≡ D.faults depot.old }
+    ensures later { (other : List ℕ) → D.faults depot.old other ≤ D.faults depot.new other }
+    ensures content { D.content depot.new ≡ D.content depot.old }
+{
+    match certificate_in(alloc, depot, certificate) {
+        Ok(spelled) => judge_in(alloc, depot, &spelled, topology),
+        Err(fault) => without(alloc, certificate, fault),
     }
 }

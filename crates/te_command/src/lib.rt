@@ -4,6 +4,8 @@
 mod answer;
 mod check;
 mod command;
+mod files;
+pub mod laws;
 mod refusal;
 mod top;
 

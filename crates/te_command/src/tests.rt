@@ -1,10 +1,11 @@
 //! The commands over files and sinks in memory.
 use crate::run;
 use files::{
-    CUT, LEADING_ZERO, MANY_BLOCKS, MANY_NODES, MANY_PAIRS, MANY_PATHS, PARALLEL_LIGHT,
-    PARALLEL_WHOLE, PARALLEL_WITHOUT_SECOND, SMALLEST, SMALLEST_WITH_LESS, TRIANGLE_FOR_ALL,
-    TRIANGLE_FOR_ALL_WITH_LESS, TRIANGLE_FOR_MARGIN, TRIANGLE_SMALL_MARGIN, TRIANGLE_TWICE_A_NODE,
-    TRIANGLE_WITHOUT_MINUS, UNENDED, UNREACHED_HIGH, UNREACHED_TOO_LOW, WIDE_NODES,
+    CUT, LEADING_ZERO, MANY_BLOCKS, MANY_NODES, MANY_PAIRS, MANY_PATHS, NO_ROW, OTHER_CAPACITY,
+    OTHER_NAME, PARALLEL_LIGHT, PARALLEL_WHOLE, PARALLEL_WITHOUT_SECOND, SAME_NETWORK, SMALLEST,
+    SMALLEST_WITH_LESS, THREE_FIELDS, TRIANGLE_FOR_ALL, TRIANGLE_FOR_ALL_WITH_LESS,
+    TRIANGLE_FOR_MARGIN, TRIANGLE_SMALL_MARGIN, TRIANGLE_TWICE_A_NODE, TRIANGLE_WITHOUT_MINUS,
+    UNENDED, UNREACHED_HIGH, UNREACHED_TOO_LOW, WIDE_NODES,
 };
 use std::alloc::Global;
 use std::process::Abort;
@@ -13,11 +14,12 @@ use te_ports::{MemDepot, MemSink};
 
 mod files;
 
-/// A call and what it leaves. The file is given in parts.
+/// A call and what it leaves. The files are given in parts; a topology without parts is not there.
 #[derive(Clone, Copy, Debug)]
 struct Call<'a> {
     words: &'a [&'a str],
     file: &'a [&'a str],
+    topology: &'a [&'a str],
     failing_fetch: Option<u64>,
     failing_put: Option<u64>,
     room_of_err: usize,
@@ -30,6 +32,7 @@ fn check<'a>(file: &'a [&'a str], status: u8, out: &'a str, err: &'a str) -> Cal
     Call {
         words: &["check", "c"],
         file,
+        topology: &[],
         failing_fetch: None,
         failing_put: None,
         room_of_err: 200,
@@ -49,6 +52,15 @@ fn no<'a>(file: &'a [&'a str], line: &'a str) -> Call<'a> {
 
 fn refused<'a>(file: &'a [&'a str], message: &'a str) -> Call<'a> {
     check(file, 3, "", message)
+}
+
+/// The call with a topology too.
+fn of_network<'a>(topology: &'a [&'a str], call: Call<'a>) -> Call<'a> {
+    Call {
+        words: &["check", "c", "t"],
+        topology,
+        ..call
+    }
 }
 
 /// The parts as one text.
@@ -72,6 +84,9 @@ fn words_of(alloc: Global, words: &[&str]) -> Result<Vec<String>, Fail> {
 fn leaves(rt: &impl Abort, alloc: Global, call: &Call<'_>) -> Result<(), Fail> {
     let mut depot = MemDepot::new(alloc, 64)?;
     depot.add("c", joined(alloc, call.file)?.as_bytes())?;
+    if !call.topology.is_empty() {
+        depot.add("t", joined(alloc, call.topology)?.as_bytes())?;
+    }
     if let Some(fetch) = call.failing_fetch {
         depot.fail_at(fetch)?;
     }
@@ -95,6 +110,8 @@ const YES_TWICE: &str = "yes ratio 2000000 set all\n";
 const YES_MARGIN: &str = "yes ratio 1000000 set margin 1 1\n";
 
 const OVER_CAPACITY: &str = "no link 0 rule I4 place 0\n";
+
+const NO_NETWORK: &str = "no network\n";
 
 #[test]
 fn certificates_are_judged(rt: HostRuntime) -> Result<(), Fail> {
@@ -141,6 +158,30 @@ fn files_are_refused(rt: HostRuntime) -> Result<(), Fail> {
 }
 
 #[test]
+fn networks_are_compared(rt: HostRuntime) -> Result<(), Fail> {
+    let calls = [
+        of_network(SAME_NETWORK, yes(&[SMALLEST], YES)),
+        of_network(OTHER_CAPACITY, no(&[SMALLEST], NO_NETWORK)),
+        of_network(OTHER_NAME, no(&[SMALLEST], NO_NETWORK)),
+        of_network(SAME_NETWORK, no(SMALLEST_WITH_LESS, OVER_CAPACITY)),
+        // The network stands before the inequalities.
+        of_network(OTHER_CAPACITY, no(SMALLEST_WITH_LESS, NO_NETWORK)),
+        of_network(
+            THREE_FIELDS,
+            refused(&[SMALLEST], "refused: t: fields at row 2\n"),
+        ),
+        of_network(NO_ROW, refused(&[SMALLEST], "refused: t: empty\n")),
+        of_network(&[], check(&[SMALLEST], 4, "", "fault: read\n")),
+        // A certificate that is refused needs no topology.
+        of_network(&[], refused(&[], "refused: c: shape at line 1\n")),
+    ];
+    for call in &calls {
+        leaves(&rt, rt.alloc(), call)?;
+    }
+    Ok(())
+}
+
+#[test]
 fn faults_are_told(rt: HostRuntime) -> Result<(), Fail> {
     let whole = yes(&[SMALLEST], YES);
     let usage = Call {
@@ -176,6 +217,10 @@ fn faults_are_told(rt: HostRuntime) -> Result<(), Fail> {
         },
         Call {
             words: &["Check", "c"],
+            ..usage
+        },
+        Call {
+            words: &["check", "c", "t", "t"],
             ..usage
         },
         Call {

@@ -7,7 +7,7 @@ ghost use Rattle.te_command.specs.Meaning.{IsTold, Means, MeansRatio, ReadFailed
 ghost use Rattle.te_command.specs.Run.{texts, message, OfCommand, OfToldCommand, Writes, WritesPart, Says, SaysSome, Answers};
 
 use crate::answer::{Answer, Fault};
-use crate::check::check;
+use crate::check::{check, check_network};
 use crate::command::{Command, command_of};
 use std::alloc::Global;
 use te_ports::{Depot, Sink, put_all};
@@ -50,7 +50,13 @@ fn answer<D: Depot>(alloc: Global, depot: &mut D, command: Command<'_>) -> Resul
     ensures later { (other : List ℕ) → D.faults depot.old other ≤ D.faults depot.new other }
     ensures content { D.content depot.new ≡ D.content depot.old }
 {
-    check(alloc, depot, command.certificate())
+    match command {
+        Command::Check { certificate } => check(alloc, depot, certificate),
+        Command::CheckNetwork {
+            certificate,
+            topology,
+        } => check_network(alloc, depot, certificate, topology),
+    }
 }
 
 /// Does all that the program does, and answers its status. The words are the arguments without the program's name.
@@ -84,7 +90,8 @@ pub fn run<D: Depot, O: Sink, E: Sink>(
     ensures refused { result ≡ 3 → OfToldCommand (texts words.now) (D.content depot.old) (λ command.
         SaysSome (Means command (D.content depot.old) 3) (E.written err.old) (E.written err.new) (E.faults err.old) (E.faults err.new)) }
 
-    // A yes is a proof: the stated ratio is an oblivious ratio of the routing that the told file spells.
+    // A yes is a proof: the stated ratio is an oblivious ratio of the routing that the told file spells, on the network of
+    // the told topology where one is given.
     ensures oblivious { result ≡ 0 → OfToldCommand (texts words.now) (D.content depot.old) (λ command.
         MeansRatio command (D.content depot.old)) }
 

@@ -137,3 +137,18 @@ pub const MANY_BLOCKS: &[&str] = &[
     SMALLEST_HEAD,
     "ratio 1000000\nblocks 512\n0 1000000 1 1\n1\n0 0 1\nend\n",
 ];
+
+/// The header of a topology, and the row of the link of the smallest certificate.
+const HEADER: &str = "source,target,capacity,cost\n";
+
+const ROW: &str = "a,b,10,1\n";
+
+pub const SAME_NETWORK: &[&str] = &[HEADER, ROW];
+
+pub const OTHER_CAPACITY: &[&str] = &[HEADER, "a,b,11,1\n"];
+
+pub const OTHER_NAME: &[&str] = &[HEADER, "a,c,10,1\n"];
+
+pub const THREE_FIELDS: &[&str] = &[HEADER, ROW, "a,b,10\n"];
+
+pub const NO_ROW: &[&str] = &[HEADER];
