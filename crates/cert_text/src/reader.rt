@@ -2,7 +2,7 @@
 ghost use Rattle.std.specs.Prelude.{◌≡◌, ◌+◌, ◌<◌, ◌≤◌, ◌^◌, ◌++◌, length, Ok, Err, if◌then◌else◌, ◌*◌, [], OnOk, IfOk, IfErr, slice_index, ◌==◌, string_bytes, true};
 ghost use Rattle.std.specs.Option.{SomeIff};
 ghost use Rattle.std.specs.List.{list_all};
-ghost use Rattle.te_model.specs.Network.{is_name_byte as is_name_byte_of, is_name};
+ghost use Rattle.te_model.specs.Network.{is_name_byte, is_name};
 ghost use Rattle.te_model.specs.Shape.{is_count};
 ghost use Rattle.cert_text.specs.Fits.{AreWords};
 ghost use Rattle.cert_text.specs.Place.{Place, place, Reads, ReadsAs, Passes, Appends};
@@ -11,13 +11,7 @@ ghost use Rattle.cert_text.specs.Reading.{byte_at, word_at, line_end_at, number_
 use crate::cursor::Cursor;
 use crate::fault::Stop;
 use std::alloc::Global;
-use te_model::Name;
-
-fn is_name_byte(b: u8) -> bool
-    ensures { result ≡ is_name_byte_of b }
-{
-    b.is_ascii_alphanumeric() || b == b'_' || b == b'.' || b == b'-'
-}
+use te_model::{Name, is_name_byte};
 
 // The number with one digit more, if it is in range.
 fn with_digit(value: u64, digit: u8) -> Option<u64>
@@ -182,7 +176,7 @@ impl<C: Cursor> Reader<C> {
     #[tactic(auto, using(crate::proofs::Digits::letters_more, crate::proofs::Digits::longer))]
     fn name_text(&mut self, alloc: Global) -> Result<String, Stop>
         ensures short { IfOk result (λ t. length (string_bytes t) ≤ 32) }
-        ensures letters { IfOk result (λ t. list_all is_name_byte_of (string_bytes t) ≡ true) }
+        ensures letters { IfOk result (λ t. list_all is_name_byte (string_bytes t) ≡ true) }
         ensures told { C.is_told self.new.source → C.is_told self.old.source }
         ensures reads { C.is_told self.new.source →
             ReadsAs (λ t. string_bytes t) result (place self.new.line (C.rest self.new.source))

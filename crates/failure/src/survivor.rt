@@ -5,7 +5,7 @@ ghost use Rattle.te_model.specs.Network.{is_well_formed, link_at, link_count};
 ghost use Rattle.failure.specs.Survivor.{surviving_links, survivor_of};
 
 use std::alloc::Global;
-use te_model::{Items, Link, Memory, Name, Network};
+use te_model::{Items, Link, Memory, Network, copy_names};
 
 /// The nodes and the links that have not failed, and for each of these links its number in the network before.
 #[derive(Drop)]
@@ -59,15 +59,4 @@ fn links_at(alloc: Global, net: &Network, numbers: &[u32]) -> Result<Vec<Link>, 
         kept.push(links[*number as usize])?;
     }
     Ok(kept)
-}
-
-// The same names.
-fn copy_names(alloc: Global, names: &[Name]) -> Result<Items<Name>, Memory>
-    ensures { IfOk result (λ copy. copy ≡ names.now) }
-{
-    let mut copy = Vec::new(alloc);
-    for name in names {
-        copy.push(Name::new(String::from_str(alloc, name.as_str())?))?;
-    }
-    Ok(Items::new(copy))
 }
