@@ -7,14 +7,16 @@ use Rattle.std.proofs.lemmas.Slice.Eq.{bytes_eq-Decides}
 use Rattle.std.specs.Str.{bytes_eq}
 use Rattle.te_model.specs.declared.network.Link.{Link}
 use Rattle.te_model.specs.declared.network.Network.{Network}
-use Rattle.te_model.specs.Network.{is_name, is_well_formed}
+use Rattle.te_model.specs.Network.{is_name, is_well_formed, link_count}
 use Rattle.tables.specs.Field.{digits_from, is_number_within}
 use Rattle.tables.proofs.FieldFacts.{within-bounds}
 use Rattle.topology.proofs.WellFormed.{IsLink, WellFormed, well-formed}
 use Rattle.topology.specs.declared.fault.TopologyFault.{TopologyFault}
 use Rattle.topology.specs.declared.fault.TopologyFault.TheVariants as fault
 use Rattle.topology.specs.Numbering.{with_name, number_in}
-use Rattle.topology.specs.Topology.{Entry, entry_of, entry_of_fields, with_link, within, with_entry, with_rows, then_rows, of_records, is_header}
+use Rattle.tables.specs.Rows.{and_then, fold_table, records_of}
+use Rattle.tables.proofs.RowFacts.{table-keep}
+use Rattle.topology.specs.Topology.{Entry, entry_of, entry_of_fields, with_link, within, with_row, is_header, no_links, closed, topology_of}
 use Rattle.topology.proofs.NumberLemmas.{named}
 
 -- what a row says, where it is accepted
@@ -114,33 +116,17 @@ linked net e w i nodes links =
     }
 
 -- one row
-row-sound : (net more : Network) (row : ℕ) (o : Result Entry TopologyFault) → ((e : Entry) → o ≡ Ok e → IsEntry e) → WellFormed net → with_entry net row o ≡ Ok more → WellFormed more
+row-sound : (net more : Network) (row : ℕ) (o : Result Entry TopologyFault) → ((e : Entry) → o ≡ Ok e → IsEntry e) → WellFormed net
+    → and_then (λ e. within row (with_link net e)) o ≡ Ok more → WellFormed more
 row-sound net more row (Ok e) said w h =
     let (same, nodes, links) = limits row (with_link net e) more h in
     subst WellFormed same (linked net e w (said e refl) nodes links)
 row-sound net more row (Err f) said w h = cc h
 
-end-sound : (b : Bool) (net more : Network) → ◌≡◌ {A = Result Network TopologyFault} (if b then Ok net else Err fault.Empty) (Ok more) → (net ≡ more) × (b ≡ true)
-end-sound true net more h = (cc h, refl)
-end-sound false net more h = cc h
+row-keeps : (net more : Network) (row : ℕ) (r : List (List ℕ)) → WellFormed net → with_row net row r ≡ Ok more → WellFormed more
+row-keeps net more row r w h = row-sound net more row (entry_of row r) (entry-said row r) w h
 
--- a network with a link
-abbrev Finished : Network → Type 0
-Finished net = WellFormed net × (0 < length net.links)
-
-rows-sound : (net more : Network) (row : ℕ) (rows : List (List (List ℕ))) → WellFormed net → with_rows net row rows ≡ Ok more → Finished more
-unfolding with_rows
-rows-sound net more row [] w h =
-    let (same, some) = end-sound (nat_lt 0 (length net.links)) net more h in
-    subst Finished same (w, grind (arith, nat_tests))
-rows-sound net more row (r ∷ rs) w h = next (with_entry net row (entry_of row r)) refl (λ n. rows-sound n more (row + 1) rs) h
-  where
-    next : (o : Result Network TopologyFault) → with_entry net row (entry_of row r) ≡ o → ((n : Network) → WellFormed n → with_rows n (row + 1) rs ≡ Ok more → Finished more)
-        → then_rows (λ n. with_rows n (row + 1) rs) o ≡ Ok more → Finished more
-    next (Ok n) e go k = go n (row-sound net n row (entry_of row r) (entry-said row r) w e) k
-    next (Err f) e go k = cc k
-
-nothing : WellFormed (record { names = []; links = [] })
+nothing : WellFormed no_links
 nothing = record {
   names = λ k d l. absurd (omega arith);
   distinct = λ i j l h. absurd (omega arith);
@@ -149,12 +135,27 @@ nothing = record {
   few_links = omega arith;
 }
 
--- the network that the records of a file make
-pub records-sound : (rows : List (List (List ℕ))) (net : Network) → of_records rows ≡ Ok net → is_well_formed net ≡ true
-unfolding of_records
-records-sound [] net h = cc h
-records-sound (r ∷ rs) net h = go (is_header r) h
-  where
-    go : (b : Bool) → ◌≡◌ {A = Result Network TopologyFault} (if b then with_rows (record { names = []; links = [] }) 1 rs else Err fault.Header) (Ok net) → is_well_formed net ≡ true
-    go true k = let (sound, some) = rows-sound (record { names = []; links = [] }) net 1 rs nothing k in well-formed net sound some
-    go false k = cc k
+-- a well formed network with a link
+abbrev pub Finished : Network → Type 0
+Finished net = WellFormed net × (0 < length net.links)
+
+end-sound : (b : Bool) (made net : Network) → nat_lt 0 (length made.links) ≡ b
+    → ◌≡◌ {A = Result Network TopologyFault} (if b then Ok made else Err fault.Empty) (Ok net) → WellFormed made → Finished net
+end-sound true made net some h w = subst Finished (cc h) (w, grind (arith, nat_tests))
+end-sound false made net some h w = cc h
+
+table-sound : (o : Result Network TopologyFault) (net : Network) → ((made : Network) → o ≡ Ok made → WellFormed made) → and_then closed o ≡ Ok net → Finished net
+table-sound (Ok made) net sound h = end-sound (nat_lt 0 (length made.links)) made net refl h (sound made refl)
+table-sound (Err f) net sound h = cc h
+
+-- the network that a file makes
+pub topology-finished : (bytes : List ℕ) (net : Network) → topology_of bytes ≡ Ok net → Finished net
+topology-finished bytes net h =
+    table-sound (fold_table is_header fault.Header with_row no_links (records_of bytes)) net
+    (λ made is. table-keep with_row is_header fault.Header no_links WellFormed row-keeps made (records_of bytes) nothing is) h
+
+pub topology-sound : (bytes : List ℕ) (net : Network) → topology_of bytes ≡ Ok net → is_well_formed net ≡ true
+topology-sound bytes net h = let (sound, some) = topology-finished bytes net h in well-formed net sound some
+
+pub topology-has-links : (bytes : List ℕ) (net : Network) → topology_of bytes ≡ Ok net → 1 ≤ link_count net
+topology-has-links bytes net h = let (sound, some) = topology-finished bytes net h in some

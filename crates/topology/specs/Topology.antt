@@ -1,10 +1,10 @@
 -- The network that the rows of a topology make, or the first fault.
-use Rattle.std.specs.Prelude.{ℕ, ◌+◌, ◌^◌, List, [], ◌∷◌, ◌++◌, length, Bool, false, not, ◌&&◌, ◌||◌, nat_lt, Result, Ok, Err, codes, if◌then◌else◌}
+use Rattle.std.specs.Prelude.{ℕ, ◌^◌, List, [], ◌∷◌, ◌++◌, length, Bool, false, not, ◌&&◌, ◌||◌, nat_lt, Result, Ok, Err, codes, if◌then◌else◌}
 use Rattle.std.specs.Str.{bytes_eq}
-use Rattle.csv.specs.Reading.{default_config, strip_bom, records}
 use Rattle.te_model.specs.declared.network.Network.{Network}
 use Rattle.te_model.specs.Network.{is_name}
 use Rattle.tables.specs.Field.{is_number_within, digits_from}
+use Rattle.tables.specs.Rows.{and_then, fold_table, records_of}
 use Rattle.topology.specs.declared.fault.TopologyFault.{TopologyFault}
 use Rattle.topology.specs.declared.fault.TopologyFault.TheVariants as fault
 use Rattle.topology.specs.Numbering.{with_name, number_in}
@@ -45,36 +45,21 @@ with_link net e = record {
 abbrev pub within : ℕ → Network → Result Network TopologyFault
 within row net = if nat_lt 64 (length net.names) || nat_lt 512 (length net.links) then Err (fault.TooMany row) else Ok net
 
-abbrev pub with_entry : Network → ℕ → Result Entry TopologyFault → Result Network TopologyFault
-with_entry net row (Ok e) = within row (with_link net e)
-with_entry net row (Err f) = Err f
-
 -- what a row adds to the network that the rows before it made, or the first of its faults
 abbrev pub with_row : Network → ℕ → List (List ℕ) → Result Network TopologyFault
-with_row net row fields = with_entry net row (entry_of row fields)
+with_row net row fields = and_then (λ e. within row (with_link net e)) (entry_of row fields)
 
 -- a network that has a link
 abbrev pub closed : Network → Result Network TopologyFault
 closed net = if nat_lt 0 (length net.links) then Ok net else Err fault.Empty
 
-abbrev pub then_rows : (Network → Result Network TopologyFault) → Result Network TopologyFault → Result Network TopologyFault
-then_rows more (Ok net) = more net
-then_rows more (Err e) = Err e
-
--- what the rows add in turn, from the row of this number on, or the first fault of the first row that has one
-unfoldable pub with_rows : Network → ℕ → List (List (List ℕ)) → Result Network TopologyFault
-with_rows net row [] = closed net
-with_rows net row (r ∷ rs) = then_rows (λ more. with_rows more (row + 1) rs) (with_row net row r)
-
 abbrev pub is_header : List (List ℕ) → Bool
 is_header (a ∷ b ∷ c ∷ d ∷ []) = bytes_eq a (codes "source") && bytes_eq b (codes "target") && bytes_eq c (codes "capacity") && bytes_eq d (codes "cost")
 is_header _ = false
 
--- the network that the records of a file make, or the first fault
-unfoldable pub of_records : List (List (List ℕ)) → Result Network TopologyFault
-of_records [] = Err fault.Header
-of_records (h ∷ rows) = if is_header h then with_rows (record { names = []; links = [] }) 1 rows else Err fault.Header
+abbrev pub no_links : Network
+no_links = record { names = []; links = [] }
 
--- the same of the bytes of a file
+-- the network that the rows of a topology file make, or the first fault of the first row that has one
 abbrev pub topology_of : List ℕ → Result Network TopologyFault
-topology_of bytes = of_records (records default_config (strip_bom bytes))
+topology_of bytes = and_then closed (fold_table is_header fault.Header with_row no_links (records_of bytes))

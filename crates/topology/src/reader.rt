@@ -1,7 +1,7 @@
 //! Reading a topology.
 
 ghost use Rattle.std.specs.Prelude.{◌≡◌, ◌≢◌, ◌≤◌, ◌+◌, OnOk, IfErr, Ok, Err, length, IfOk, IsTrue};
-ghost use Rattle.te_model.specs.Network.{is_well_formed};
+ghost use Rattle.te_model.specs.Network.{is_well_formed, link_count};
 ghost use Rattle.topology.specs.declared.fault.TopologyFault.{TopologyFault};
 ghost use Rattle.topology.specs.declared.fault.TopologyFault.TheVariants as fault;
 ghost use Rattle.topology.specs.Topology.{topology_of, with_link, within, is_header};
@@ -16,13 +16,14 @@ use te_model::{Items, Link, MAX_LINKS, MAX_NODES, Network};
 /// Reads a topology: the header `source,target,capacity,cost`, and then a row for each link.
 ///
 /// Nodes are numbered in the order of their first appearance, the source of a row before its target, and links
-/// in the order of the rows. A repeated row is a parallel link. The network is well formed.
+/// in the order of the rows. A repeated row is a parallel link. The network is well formed and has a link.
 ///
 /// An error is the fault of the first offending row, by the order of [`TopologyFault`]; `Header` stands before
 /// all of them, and `Empty` comes where there is no row.
 pub fn read(alloc: Global, bytes: &[u8]) -> Result<Network, TopologyFault>
     ensures network { IfOk result (λ net. topology_of bytes.now ≡ Ok net) }
     ensures well_formed { IfOk result (λ net. IsTrue (is_well_formed net)) }
+    ensures links { IfOk result (λ net. 1 ≤ link_count net) }
     ensures refused { IfErr result (λ e. e ≢ fault.Memory → topology_of bytes.now ≡ Err e) }
 {
     let mut rows = Rows::new(alloc, bytes);
