@@ -1,8 +1,8 @@
 -- What is found in a list that ascends by a number of each element.
-use Rattle.std.proofs.Common.{◌≡◌, ℕ, zero, suc, ◌+◌, ◌<◌, ◌≤◌, Bool, true, false, cond, Some, None, List, [], ◌∷◌, length, get_or, drop, arith, refl, ap, sym, ◌∙◌, subst, ◌==◌, nat_lt, inl, inr}
+use Rattle.std.proofs.Common.{◌≡◌, ℕ, zero, suc, ◌+◌, ◌<◌, ◌≤◌, cond, Some, None, List, [], ◌∷◌, length, get_or, arith, refl, ap, sym, ◌∙◌, subst, ◌==◌, inl, inr}
 use Rattle.std.specs.Prelude.{find}
-use Rattle.std.specs.List.{prefix_len, slice_get}
-use Rattle.std.proofs.lemmas.Bool.{cases_lt, cases_eq, eq-eqb, ne_eqb, ltb-true, ltb-false}
+use Rattle.std.specs.List.{slice_get}
+use Rattle.std.proofs.lemmas.Bool.{cases_lt, cases_eq, eq-eqb, ne_eqb}
 use Rattle.ratio_checker.specs.Ascending.{AscendsFrom}
 
 pub ascends_lower : {X : Type 0} (number : X → ℕ) (low lower : ℕ) (xs : List X) → lower ≤ low → AscendsFrom number low xs → AscendsFrom number lower xs
@@ -91,33 +91,3 @@ find_stands number e (y ∷ ys) d x found =
           let r = find_stands number e ys d x (sym (find_later number e y ys other) ∙ found) in
           (record { place = suc r.0.place; within = let h = r.0.within in omega arith; is = r.0.is }, r.1)
     ]
-
--- from the first place whose number is not below `low` on, the list ascends from `low`, and finds what it found
-pub record GoesOn {X : Type 0} (number : X → ℕ) (low : ℕ) (xs later : List X) : Type 0 where
-  pub ascends : AscendsFrom number low later
-  pub same : (e : ℕ) → low ≤ e → find (λ x. number x == e) later ≡ find (λ x. number x == e) xs
-
-skipped : {X : Type 0} (number : X → ℕ) (low : ℕ) (x : X) (xs later : List X) → number x < low → GoesOn number low xs later → GoesOn number low (x ∷ xs) later
-skipped number low x xs later before rest = record {
-  ascends = rest.ascends;
-  same = λ e above. rest.same e above ∙ sym (find_later number e x xs (λ same. omega arith));
-}
-
--- what is left after the elements below `low`
-pub goes_on : {X : Type 0} (number : X → ℕ) (lowest low : ℕ) (xs : List X) → AscendsFrom number lowest xs →
-    GoesOn number low xs (drop (prefix_len (λ x. nat_lt (number x) low) xs) xs)
-goes_on number lowest low [] ascends = record { ascends = tt; same = λ e above. refl }
-goes_on number lowest low (x ∷ xs) ascends =
-    go (nat_lt (number x) low) refl (goes_on number (number x + 1) low xs ascends.1)
-  where
-    go : (b : Bool) → nat_lt (number x) low ≡ b → GoesOn number low xs (drop (prefix_len (λ y. nat_lt (number y) low) xs) xs) →
-        GoesOn number low (x ∷ xs) (drop (cond b (1 + prefix_len (λ y. nat_lt (number y) low) xs) 0) (x ∷ xs))
-    go true is rest =
-        let before : number x < low = ltb-true _ _ is in
-        let n = prefix_len (λ y. nat_lt (number y) low) xs in
-        let next : suc n ≡ 1 + n = omega arith in
-        subst (λ k. GoesOn number low (x ∷ xs) (drop k (x ∷ xs))) next
-        (skipped number low x xs (drop n xs) before rest)
-    go false is rest =
-        let above : low ≤ number x = ltb-false _ _ is in
-        record { ascends = (above, ascends.1); same = λ e high. refl }

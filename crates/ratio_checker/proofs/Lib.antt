@@ -1,7 +1,10 @@
 pub mod Ascending
 pub mod WeightOn
 pub mod RowFailures
-pub mod ShareFailures
+pub mod AddedWeights
+pub mod SourceRows
+pub mod UncoveredLinks
+pub mod SimplePaths
 pub mod Sizes
 pub mod Absent
 pub mod Validity

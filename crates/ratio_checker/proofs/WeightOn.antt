@@ -1,7 +1,7 @@
 -- The weights of paths that hold a link, one path after another.
-use Rattle.std.proofs.Common.{◌≡◌, ℕ, ◌+◌, ◌<◌, ◌≤◌, Bool, true, false, List, length, get_or, take, arith, subst, sym, ap, ◌∙◌}
+use Rattle.std.proofs.Common.{◌≡◌, ℕ, ◌+◌, ◌<◌, ◌≤◌, Bool, true, false, List, length, get_or, take, arith, subst, sym}
 use Rattle.std.specs.Prelude.{sum_by, if◌then◌else◌}
-use Rattle.std.proofs.lemmas.List.Sums.{sum_by_more, sum_by_more_le_part, sum_by-le-sum_by, sum_by-take-le}
+use Rattle.std.proofs.lemmas.List.Sums.{sum_by_more, sum_by_more_le_part, sum_by-le-sum_by}
 use Rattle.te_model.specs.declared.route.PathShare.{PathShare}
 use Rattle.te_model.specs.Path.{has_number, weight_on}
 
@@ -24,20 +24,6 @@ weight_on_more_le paths e i s below is =
     let P : PathShare → Type 0 = λ t. weight_on (take i paths) e + t.weight ≤ sum_by (λ t. t.weight) paths in
     subst P (sym is) h
 
-pub weight_on_more_with : (paths : List PathShare) (e i : ℕ) (s : PathShare) → i < length paths → s ≡ get_or paths i s →
-    has_number s.links e ≡ true → weight_on (take (i + 1) paths) e ≡ weight_on (take i paths) e + s.weight
-weight_on_more_with paths e i s below is h =
-    weight_on_more paths e i s below is ∙ ap (λ b. weight_on (take i paths) e + (if b then s.weight else 0)) h
-
-pub weight_on_more_without : (paths : List PathShare) (e i : ℕ) (s : PathShare) → i < length paths → s ≡ get_or paths i s →
-    has_number s.links e ≡ false → weight_on (take (i + 1) paths) e ≡ weight_on (take i paths) e
-weight_on_more_without paths e i s below is h =
-    weight_on_more paths e i s below is ∙ (ap (λ b. weight_on (take i paths) e + (if b then s.weight else 0)) h ∙ (omega arith))
-
 pub weight_on_le : (paths : List PathShare) (e : ℕ) → weight_on paths e ≤ sum_by (λ t. t.weight) paths
 weight_on_le paths e =
     sum_by-le-sum_by (λ t. if has_number t.links e then t.weight else 0) (λ t. t.weight) paths (λ t. if_le (has_number t.links e) t.weight)
-
-pub weight_on_take_le : (paths : List PathShare) (e i : ℕ) → weight_on (take i paths) e ≤ sum_by (λ t. t.weight) paths
-weight_on_take_le paths e i =
-    omega (arith, weight_on_le (take i paths) e, sum_by-take-le (λ t. t.weight) paths i)

@@ -1,30 +1,11 @@
 //! I4: the capacity of the link, times the ratio, pays for the weights.
-ghost use Rattle.std.specs.Prelude.{◌≡◌, ℕ, ◌*◌, ◌^◌, ◌<◌, ◌≤◌};
+ghost use Rattle.std.specs.Prelude.{◌≡◌, ℕ, ◌^◌, ◌<◌, ◌≤◌};
 ghost use Rattle.te_model.specs.declared.limits.TheConstants.{FORMAT_1};
 ghost use Rattle.te_model.specs.Network.{link_count, capacity_of};
-ghost use Rattle.te_model.specs.Certificate.{weight_of};
-ghost use Rattle.te_model.specs.Inequalities.{weighted_capacity, pays_weights};
+ghost use Rattle.te_model.specs.Inequalities.{pays_weights};
 ghost use Rattle.te_model.specs.Bounds.{HasSmallNumbers};
 
-use crate::numbers::number_at;
-use te_model::{Block, Network, RATIO_UNIT, SHARE_UNIT, ceil_div};
-
-// The sum of capacities by weights.
-fn weighted_capacity(network: &Network, block: &Block) -> u128
-    requires links { link_count network.now ≤ FORMAT_1.links }
-    requires capacities { (h : ℕ) → capacity_of network.now h ≤ 2 ^ 32 }
-    requires weights { (h : ℕ) → weight_of block.now h ≤ 2 ^ 28 }
-    ensures sum { result ≡ weighted_capacity network.now block.now }
-    ensures bound { result ≤ FORMAT_1.links * 2 ^ 60 }
-{
-    let links = network.links.as_slice();
-    let weights = block.weights.as_slice();
-    let mut total: u128 = 0;
-    for h in 0..links.len() {
-        total += links[h].capacity as u128 * number_at(weights, h) as u128;
-    }
-    total
-}
+use te_model::{Block, Network, RATIO_UNIT, SHARE_UNIT, ceil_div, weighted_capacity};
 
 // The ratio pays for the weights. The products of both sides would not fit 128 bits, so one side is divided.
 #[tactic(auto, using(crate::proofs::Sizes::sizes))]

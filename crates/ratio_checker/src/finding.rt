@@ -1,9 +1,9 @@
 //! What is found of a certificate: the inequalities of each link, in order, and the first that fails.
-ghost use Rattle.std.specs.Prelude.{◌≡◌, ℕ, ◌<◌, ◌↔◌, ◌+◌, All};
+ghost use Rattle.std.specs.Prelude.{◌≡◌, ℕ, ◌↔◌, All};
 ghost use Rattle.te_model.specs.declared.certificate.Head.{Head};
 ghost use Rattle.te_model.specs.Network.{link_count};
-ghost use Rattle.te_model.specs.Certificate.{block_of, empty_block};
-ghost use Rattle.te_model.specs.Inequalities.{block_failure, first_failure, Holds};
+ghost use Rattle.te_model.specs.Certificate.{block_of};
+ghost use Rattle.te_model.specs.Inequalities.{block_failure, shares_failure, first_failure, Holds};
 ghost use Rattle.te_model.specs.First.{IsFirstFailure};
 ghost use Rattle.te_model.specs.Ratio.{IsObliviousRatio};
 ghost use Rattle.te_model.specs.Validity.{IsValid};
@@ -11,10 +11,11 @@ ghost use Rattle.ratio_checker.specs.Ascending.{AscendsFrom};
 ghost use Rattle.ratio_checker.specs.Finding.{finding_of};
 ghost use Rattle.ratio_checker.specs.Checked.{CanCheckHead, CanCheckBlock};
 
+use crate::blocks::blocks_after;
 use crate::capacity::pays_weights;
 use crate::margin::keeps_margin;
 use crate::potentials::potentials_failure;
-use crate::shares::{first_share, shares_failure};
+use crate::shares::{fault_on, first_uncovered};
 use te_model::{Block, Certificate, Head, InequalityFault};
 
 /// What is found of a certificate.
@@ -28,19 +29,23 @@ pub enum Finding {
     No { link: u32, rule: u8, place: u64 },
 }
 
-// The first inequality that fails of what the block says of its link.
-fn block_failure(head: &Head, block: &Block) -> Option<InequalityFault>
+// The first inequality that fails of what the block says of its link, where `shares` is what fails of I2.
+fn block_failure(
+    head: &Head,
+    block: &Block,
+    shares: Option<InequalityFault>,
+) -> Option<InequalityFault>
     requires head { CanCheckHead head.now }
     requires block { CanCheckBlock head.now block.now }
+    requires shares { shares ≡ shares_failure head.now.routes block.now }
     ensures { result ≡ block_failure head.now block.now }
 {
     let failure = potentials_failure(&head.network, block);
     if failure.is_some() {
         return failure;
     }
-    let failure = shares_failure(head.routes.as_slice(), block);
-    if failure.is_some() {
-        return failure;
+    if shares.is_some() {
+        return shares;
     }
     if !keeps_margin(&head.set, block) {
         return Some(InequalityFault {
@@ -57,37 +62,22 @@ fn block_failure(head: &Head, block: &Block) -> Option<InequalityFault>
     None
 }
 
-// The first inequality that fails of a link without a block.
-fn absent_failure(head: &Head, link: u32) -> Option<InequalityFault>
-    requires { CanCheckHead head.now }
-    ensures { result ≡ block_failure head.now (empty_block link) }
-{
-    first_share(head.routes.as_slice(), link)
-}
-
-// The first inequality that fails of the link, whose block is the first if it is there.
-fn link_failure(head: &Head, blocks: &[Block], link: u32) -> Option<InequalityFault>
+// The first inequality that fails of the link, whose block is the first if it is there. Of a link without a block only I2 can fail.
+fn link_failure(
+    head: &Head,
+    blocks: &[Block],
+    link: u32,
+    shares: Option<InequalityFault>,
+) -> Option<InequalityFault>
     requires head { CanCheckHead head.now }
     requires blocks { All (CanCheckBlock head.now) blocks.now }
     requires ascend { AscendsFrom (λ b. b.link) link blocks.now }
+    requires shares { shares ≡ shares_failure head.now.routes (block_of blocks.now link) }
     ensures { result ≡ block_failure head.now (block_of blocks.now link) }
 {
     match blocks.first() {
-        Some(block) if block.link == link => block_failure(head, block),
-        _ => absent_failure(head, link),
-    }
-}
-
-// The blocks of later links.
-fn blocks_after(blocks: &[Block], link: u32) -> &[Block]
-    requires { AscendsFrom (λ b. b.link) link blocks.now }
-    ensures ascend { AscendsFrom (λ b. b.link) (link + 1) result.now }
-    ensures same { (e : ℕ) → link < e → block_of result.now e ≡ block_of blocks.now e }
-    ensures rest { (head : Head) → All (CanCheckBlock head) blocks.now → All (CanCheckBlock head) result.now }
-{
-    match blocks.first() {
-        Some(block) if block.link == link => &blocks[1..],
-        _ => blocks,
+        Some(block) if block.link == link => block_failure(head, block, shares),
+        _ => shares,
     }
 }
 
@@ -97,9 +87,10 @@ fn first_finding(cert: &Certificate) -> Finding
     ensures { result ≡ finding_of (first_failure cert.now) }
 {
     let mut blocks = cert.blocks.as_slice();
+    let uncovered = first_uncovered(&cert.head, blocks);
     for e in 0..cert.head.network.links.as_slice().len() {
         let link = e as u32;
-        if let Some(failure) = link_failure(&cert.head, blocks, link) {
+        if let Some(failure) = link_failure(&cert.head, blocks, link, fault_on(uncovered, link)) {
             return Finding::No {
                 link,
                 rule: failure.number,

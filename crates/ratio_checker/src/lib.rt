@@ -1,10 +1,11 @@
 //! The verdict on a certificate of an oblivious ratio: whether the inequalities that it states hold of every link.
 #![tactic(auto)]
 
+mod blocks;
 mod capacity;
 pub mod finding;
+mod link_shares;
 mod margin;
-mod numbers;
 mod potentials;
 mod rows;
 mod shares;

@@ -5,8 +5,7 @@ ghost use Rattle.te_model.specs.Counting.{sum_below};
 ghost use Rattle.te_model.specs.Inequalities.{keeps_margin};
 ghost use Rattle.te_model.specs.Bounds.{HasSmallNumbers, HasSmallMargin};
 
-use crate::numbers::number_at;
-use te_model::{Block, DemandSet, Items, Matrix};
+use te_model::{Block, DemandSet, Items, Matrix, number_at};
 
 // The sum of base numbers by the square of the factor by the numbers.
 #[tactic(auto, using(crate::proofs::Sizes::margin_term))]

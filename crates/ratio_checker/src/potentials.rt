@@ -6,8 +6,7 @@ ghost use Rattle.te_model.specs.Certificate.{row_of};
 ghost use Rattle.te_model.specs.Inequalities.{row_failure, potentials_failure};
 ghost use Rattle.ratio_checker.specs.Ascending.{AscendsFrom};
 
-use crate::numbers::number_at;
-use te_model::{Block, InequalityFault, Network, Row};
+use te_model::{Block, InequalityFault, Network, Row, number_at};
 
 // Along the link, the potential rises by the link's weight at most.
 fn rises_within(network: &Network, weights: &[u64], row: &[u64], h: usize) -> bool

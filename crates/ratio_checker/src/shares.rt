@@ -1,93 +1,117 @@
-//! I2: the share of each pair on the link is covered by the distance from its source to its destination.
-ghost use Rattle.std.specs.Prelude.{◌≡◌, ℕ, ◌^◌, ◌<◌, ◌≤◌, length, sum_by};
+//! I2: the share of each pair on each link is covered by the distance from its source to its destination.
+ghost use Rattle.std.specs.Prelude.{◌≡◌, ℕ, ◌+◌, ◌*◌, ◌<◌, ◌≤◌, nat_le, length, All};
 ghost use Rattle.te_model.specs.declared.units.TheConstants.{SHARE_UNIT};
-ghost use Rattle.te_model.specs.Path.{has_number, weight_on, routes_at, source_of, destination_of};
-ghost use Rattle.te_model.specs.Certificate.{potential, empty_block};
-ghost use Rattle.te_model.specs.Inequalities.{covers_share, shares_failure};
+ghost use Rattle.te_model.specs.Counting.{first_below, unless};
+ghost use Rattle.te_model.specs.Network.{link_count};
+ghost use Rattle.te_model.specs.Path.{weight_on, routes_at};
+ghost use Rattle.te_model.specs.Certificate.{block_of, potential, plus_of, minus_of};
+ghost use Rattle.te_model.specs.Inequalities.{covers_share};
 ghost use Rattle.te_model.specs.Bounds.{HasSmallNumbers};
 ghost use Rattle.ratio_checker.specs.Ascending.{AscendsFrom};
+ghost use Rattle.ratio_checker.specs.Checked.{CanCheckHead, CanCheckBlock};
+ghost use Rattle.ratio_checker.specs.Uncovered.{IsFirstUncovered, fault_on};
 
-use crate::numbers::number_at;
-use crate::rows::{potentials_of, rows_from};
-use te_model::{Block, InequalityFault, PairRoutes, PathShare};
+use crate::blocks::blocks_after;
+use crate::link_shares::shares_by_link;
+use crate::rows::potentials_of;
+use te_model::{Block, Head, InequalityFault, Pair, number_at};
 
-// Whether the path holds the link.
-fn holds_link(path: &PathShare, link: u32) -> bool
-    ensures { result ≡ has_number path.now.links link }
-{
-    path.links.as_slice().contains(&link)
+// A link, and a pair whose share on it is not covered.
+#[derive(Clone, Copy)]
+pub struct Uncovered {
+    pub link: u32,
+    pub pair: u64,
 }
 
-// The weights of those paths that hold the link.
-#[tactic(auto, using(crate::proofs::WeightOn::weight_on_more_with, crate::proofs::WeightOn::weight_on_more_without, crate::proofs::WeightOn::weight_on_more_le, crate::proofs::WeightOn::weight_on_take_le))]
-fn weight_on(paths: &[PathShare], link: u32) -> u64
-    requires { sum_by (λ s. s.weight) paths.now < 2 ^ 64 }
-    ensures sum { result ≡ weight_on paths.now link }
-    ensures bound { result ≤ sum_by (λ s. s.weight) paths.now }
-{
-    let mut total = 0;
-    for path in paths {
-        if holds_link(path, link) {
-            total += path.weight;
-        }
-    }
-    total
-}
-
-// The share of the pair is covered, where `distance` is the potential of its destination in the row of its source.
-#[tactic(auto, using(crate::proofs::Sizes::sizes))]
-fn covers_share(routes: &[PairRoutes], block: &Block, p: usize, distance: u64) -> bool
-    requires pair { p < length routes.now }
-    requires shares { sum_by (λ s. s.weight) (routes_at routes.now p).paths ≤ SHARE_UNIT }
+// The share of the pair on the link of the block is covered. Most pairs have none, and then no potential is read.
+#[tactic(auto, using(crate::proofs::Sizes::sizes, crate::proofs::Absent::covers_nothing))]
+fn covers_share(block: &Block, pair: Pair, p: usize, share: u64) -> bool
+    requires share { share ≤ SHARE_UNIT }
     requires block { HasSmallNumbers block.now }
-    requires distance { distance ≡ potential block.now (source_of routes.now p) (destination_of routes.now p) }
-    ensures { result ≡ covers_share routes.now block.now p }
+    requires rows { AscendsFrom (λ r. r.source) 0 block.now.rows }
+    ensures { result ≡ nat_le (share * block.now.b + block.now.a * minus_of block.now p)
+        (block.now.a * (potential block.now pair.src pair.dst + plus_of block.now p)) }
 {
-    let share = weight_on(routes[p].paths.as_slice(), block.link);
     let plus = number_at(block.plus.as_slice(), p);
     let minus = number_at(block.minus.as_slice(), p);
+    if share == 0 && minus <= plus {
+        return true;
+    }
+    let row = potentials_of(block.rows.as_slice(), pair.src);
+    let distance = number_at(row, pair.dst as usize);
     let left = share as u128 * block.b as u128 + block.a as u128 * minus as u128;
     let right = block.a as u128 * (distance as u128 + plus as u128);
     left <= right
 }
 
-// The first pair whose share is not covered. Pairs and rows ascend by their sources, so one walk serves both.
-#[tactic(auto, using(crate::proofs::ShareFailures::shares_failure_found))]
-pub fn shares_failure(routes: &[PairRoutes], block: &Block) -> Option<InequalityFault>
-    requires shares { (p : ℕ) → sum_by (λ s. s.weight) (routes_at routes.now p).paths ≤ SHARE_UNIT }
-    requires block { HasSmallNumbers block.now }
-    requires rows { AscendsFrom (λ r. r.source) 0 block.now.rows }
-    requires pairs { (p q : ℕ) → p ≤ q → q < length routes.now → source_of routes.now p ≤ source_of routes.now q }
-    ensures { result ≡ shares_failure routes.now block.now }
+// The share of the pair on the link, whose block is the first if it is there, is covered.
+fn covers_link(head: &Head, blocks: &[Block], link: u32, p: usize, share: u64) -> bool
+    requires head { CanCheckHead head.now }
+    requires blocks { All (CanCheckBlock head.now) blocks.now }
+    requires ascend { AscendsFrom (λ b. b.link) link blocks.now }
+    requires pair { p < length head.now.routes }
+    requires share { share ≡ weight_on (routes_at head.now.routes p).paths link }
+    ensures { result ≡ covers_share head.now.routes (block_of blocks.now link) p }
 {
-    let mut rows = block.rows.as_slice();
-    for p in 0..routes.len() {
-        let pair = routes[p].pair;
-        rows = rows_from(rows, pair.src);
-        let distance = number_at(potentials_of(rows, pair.src), pair.dst as usize);
-        if !covers_share(routes, block, p, distance) {
-            return Some(InequalityFault {
-                number: 2,
-                place: p as u64,
-            });
+    match blocks.first() {
+        Some(block) if block.link == link => {
+            covers_share(block, head.routes.as_slice()[p].pair, p, share)
         }
+        _ => share == 0,
+    }
+}
+
+// The first link below the limit on which the share of the pair is not covered.
+fn uncovered_link(head: &Head, blocks: &[Block], p: usize, limit: usize) -> Option<u32>
+    requires head { CanCheckHead head.now }
+    requires blocks { All (CanCheckBlock head.now) blocks.now }
+    requires ascend { AscendsFrom (λ b. b.link) 0 blocks.now }
+    requires pair { p < length head.now.routes }
+    requires limit { limit ≤ link_count head.now.network }
+    ensures { result ≡ first_below limit (λ e. unless (covers_share head.now.routes (block_of blocks.now e) p) e) }
+{
+    let shares = shares_by_link(head.routes.as_slice()[p].paths.as_slice());
+    let mut rest = blocks;
+    for e in 0..limit {
+        let link = e as u32;
+        if !covers_link(head, rest, link, p, shares[e]) {
+            return Some(link);
+        }
+        rest = blocks_after(rest, link);
     }
     None
 }
 
-// The first pair with a share above 0, on a link without a block.
-#[tactic(auto, using(crate::proofs::Absent::covers_by_no_share))]
-pub fn first_share(routes: &[PairRoutes], link: u32) -> Option<InequalityFault>
-    requires { (p : ℕ) → sum_by (λ s. s.weight) (routes_at routes.now p).paths ≤ SHARE_UNIT }
-    ensures { result ≡ shares_failure routes.now (empty_block link) }
+// The first link on which the share of some pair is not covered, and the first such pair.
+pub fn first_uncovered(head: &Head, blocks: &[Block]) -> Option<Uncovered>
+    requires head { CanCheckHead head.now }
+    requires blocks { All (CanCheckBlock head.now) blocks.now }
+    requires ascend { AscendsFrom (λ b. b.link) 0 blocks.now }
+    ensures { IsFirstUncovered head.now.routes blocks.now (link_count head.now.network) (length head.now.routes) result }
 {
-    for p in 0..routes.len() {
-        if weight_on(routes[p].paths.as_slice(), link) != 0 {
-            return Some(InequalityFault {
-                number: 2,
-                place: p as u64,
+    let mut first = None;
+    let mut limit = head.network.links.as_slice().len();
+    for p in 0..head.routes.as_slice().len() {
+        if let Some(link) = uncovered_link(head, blocks, p, limit) {
+            first = Some(Uncovered {
+                link,
+                pair: p as u64,
             });
+            limit = link as usize;
         }
     }
-    None
+    first
+}
+
+// What fails of I2 on the link, where nothing fails of it on the links before.
+pub fn fault_on(first: Option<Uncovered>, link: u32) -> Option<InequalityFault>
+    ensures { result ≡ fault_on first link }
+{
+    match first {
+        Some(found) if found.link == link => Some(InequalityFault {
+            number: 2,
+            place: found.pair,
+        }),
+        _ => None,
+    }
 }
