@@ -5,3 +5,7 @@ pub mod Splits
 pub mod Quotients
 pub mod Normalizing
 pub mod Merged
+pub mod LowestPaths
+pub mod Decomposing
+pub mod TakingOff
+mod Thirds

@@ -4,4 +4,5 @@ pub mod Utilisation
 pub mod Merge
 pub mod Normal
 pub mod Loops
+pub mod Decomposition
 pub mod Samples

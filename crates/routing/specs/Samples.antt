@@ -24,3 +24,14 @@ two_ways = record {
   pair = record { src = 0; dst = 1 };
   paths = weighted (0 ∷ []) 750000 ∷ weighted (1 ∷ 2 ∷ []) 250000 ∷ [];
 } ∷ []
+
+-- the nodes s, t, x, y and z, with links from s to each of x, y and z, and from each of these to t
+abbrev pub three_middles : Network
+three_middles = record {
+  names = codes "s" ∷ codes "t" ∷ codes "x" ∷ codes "y" ∷ codes "z" ∷ [];
+  links = link 0 2 ∷ link 0 3 ∷ link 0 4 ∷ link 2 1 ∷ link 3 1 ∷ link 4 1 ∷ [];
+}
+
+-- a third of a million over each of x, y and z
+abbrev pub thirds : List ℕ
+thirds = 333334 ∷ 333333 ∷ 333333 ∷ 333334 ∷ 333333 ∷ 333333 ∷ []

@@ -3,9 +3,11 @@
 //! - `Routing`: its shares, loads and greatest utilisation.
 //! - `merge`: equal paths taken together. `normalize`: weights scaled to the unit.
 //! - `cut_loops`: a walk without its loops.
+//! - `decompose`: a flow taken apart into weighted paths.
 #![tactic(auto)]
 
 mod copy;
+mod decomposition;
 mod law;
 mod loops;
 mod merging;
@@ -13,6 +15,7 @@ mod normal;
 mod order;
 mod routes;
 
+pub use decomposition::decompose;
 pub use law::shares_are_flows;
 pub use loops::cut_loops;
 pub use merging::merge;
