@@ -1,0 +1,5 @@
+pub mod Equal
+pub mod Laws
+pub mod Next
+pub mod Rule
+pub mod Samples

@@ -1,0 +1,95 @@
+//! The demand of each pair follows the equal split of its flow.
+ghost use Rattle.std.specs.Prelude.{◌≡◌};
+ghost use Rattle.ecmp_split.specs.Rule.{IsMultipathSplit};
+
+use crate::splitting::split;
+use routing::{Routing, decompose};
+use scheme::{Oblivious, PairSplit, Scheme, SchemeFault, fixed_routing};
+use std::alloc::Global;
+use te_model::{Matrix, Memory, Network, Pair, Pairs, PathShare};
+
+/// Equal-cost multipath: the paths of a pair are those of its equal split, taken apart.
+#[derive(Clone, Copy, Debug, PartialEq, Eq)]
+pub struct Ecmp;
+
+/// The routing of `Ecmp` for a network and its pairs.
+#[derive(Drop)]
+pub struct EcmpPlan {
+    pub routing: Routing,
+}
+
+impl PairSplit for Ecmp {
+    ghost limit = { 1024 };
+
+    ghost splits = { λ _. IsMultipathSplit };
+
+    fn split(
+        &self,
+        alloc: Global,
+        net: &Network,
+        pair: Pair,
+    ) -> Result<Option<Vec<PathShare>>, Memory> {
+        match split(alloc, net, pair)? {
+            Some(flow) => {
+                let paths = decompose(alloc, net, pair, &flow)?;
+                Ok(Some(paths))
+            }
+            None => Ok(None),
+        }
+    }
+}
+
+impl Scheme for Ecmp {
+    ghost use Rattle.scheme.specs.Fixed.{IsRoutingBy, IsFixedRouting};
+
+    type Plan = EcmpPlan;
+
+    type Note = ();
+
+    ghost PATHS = { 1024 };
+
+    ghost is_plan = { λ _ net pairs plan. IsRoutingBy IsMultipathSplit 1024 net pairs plan.routing.routes };
+
+    ghost relates = { λ _ net _ plan _ routes _. IsFixedRouting IsMultipathSplit net plan.routing.routes routes };
+
+    const PATHS: u32 = 1024;
+
+    fn prepare(
+        &self,
+        alloc: Global,
+        net: &Network,
+        pairs: &Pairs,
+    ) -> Result<EcmpPlan, SchemeFault> {
+        let routing = fixed_routing(alloc, self, net, pairs)?;
+        Ok(EcmpPlan { routing })
+    }
+
+    fn route(
+        &self,
+        alloc: Global,
+        _net: &Network,
+        plan: &EcmpPlan,
+        _matrix: &Matrix,
+    ) -> Result<(Routing, ()), Memory> {
+        let routing = plan.routing.copy(alloc)?;
+        Ok((routing, ()))
+    }
+}
+
+impl Oblivious for Ecmp {
+    ghost use Rattle.std.specs.Prelude.{refl};
+
+    ghost fixed_routes = { λ _ plan. plan.routing.routes };
+
+    fn fixed<'a>(&self, plan: &'a EcmpPlan) -> &'a Routing {
+        &plan.routing
+    }
+
+    ghost fixed_routing = { λ _ net pairs plan is. is.routing };
+
+    ghost fixed_few = { λ _ net pairs plan is. is.few };
+
+    ghost fixed_related = { λ _ net pairs plan demand is has. (tt, record { same = refl; by_rule = is.by_rule }) };
+
+    ghost fixed_only = { λ _ net pairs plan demand routes note is related. related.same };
+}

@@ -1,0 +1,12 @@
+//! What holds of equal splits.
+ghost use Rattle.ecmp_split.specs.Laws.{EqualSplitsAreOne, MultipathSplitsAreOne};
+
+/// No two flows are equal splits between the same nodes: the definition determines the flow.
+pub fn equal_splits_are_one()
+    ensures { EqualSplitsAreOne }
+{}
+
+/// The rule of `Ecmp` gives each pair one list of weighted paths.
+pub fn multipath_splits_are_one()
+    ensures { MultipathSplitsAreOne }
+{}

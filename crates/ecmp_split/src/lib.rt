@@ -1,0 +1,20 @@
+//! Equal-cost multipath: flows that are split equally over the next links of least-cost paths, and
+//! the scheme that routes each pair by them (RFC 2328, section 16.1; RFC 2991).
+//!
+//! - `split`: the flow of one pair. `equal_splits_are_one`: no other flow is split so.
+//! - `Ecmp`: the scheme, whose paths are those of that flow. `multipath_splits_are_one`: no other
+//!   paths are.
+#![tactic(auto)]
+
+mod ecmp;
+mod law;
+mod least_cost;
+mod next;
+mod splitting;
+
+pub use ecmp::{Ecmp, EcmpPlan};
+pub use law::{equal_splits_are_one, multipath_splits_are_one};
+pub use splitting::split;
+
+#[cfg(test)]
+mod tests;

@@ -1,0 +1,75 @@
+//! The flow of one pair, split equally over the next links at each node.
+ghost use Rattle.std.specs.Prelude.{◌≡◌, ◌<◌, ◌≤◌, ℕ, IfOk, IfNone, IfSome, IsTrue, length, slice_index};
+ghost use Rattle.te_model.specs.declared.units.TheConstants.{SHARE_UNIT};
+ghost use Rattle.te_model.specs.Network.{is_well_formed, link_count, node_count};
+ghost use Rattle.routing.specs.Decomposition.{IsAcyclicFlow};
+ghost use Rattle.scheme.specs.Reach.{IsPairOf};
+ghost use Rattle.shortest_path.specs.Paths.{HasPath};
+ghost use Rattle.ecmp_split.specs.Equal.{IsEqualSplit, equal_part, next_part};
+
+use crate::least_cost::costs_to;
+use crate::next::{NextLinks, nearest_first, next_links};
+use std::alloc::Global;
+use te_model::{Memory, Network, Pair, SHARE_UNIT};
+
+/// One of `count` equal parts of the units. The units left over go to the first parts.
+fn equal_part(units: u64, count: u64, place: u64) -> u64
+    requires some { 0 < count }
+    requires units { units ≤ SHARE_UNIT }
+    ensures { result ≡ equal_part units count place }
+{
+    units / count + u64::from(place < units % count)
+}
+
+/// Splits one million units at the source over the next links, and again at each node that they
+/// reach. The links of the farthest nodes come first, so that all units have arrived at a node
+/// before one leaves it.
+fn share_out(
+    alloc: Global,
+    net: &Network,
+    sums: &[Option<u64>],
+    src: u32,
+) -> Result<Vec<u64>, Memory>
+    requires network { IsTrue (is_well_formed net.now) }
+    requires sums { length sums.now ≡ node_count net.now }
+    requires src { src < node_count net.now }
+    ensures count { IfOk result (λ flow. length flow.items ≡ link_count net.now) }
+    ensures parts { IfOk result (λ flow. (h : ℕ) → h < link_count net.now → slice_index flow.items h ≡ next_part net.now sums.now (slice_index flow.items) src h) }
+{
+    let links = net.links.as_slice();
+    let NextLinks { list, counts } = next_links(alloc, net, sums)?;
+    let mut waiting = nearest_first(list)?;
+    let mut flow: Vec<u64> = vec![in alloc; 0; links.len()]?;
+    let mut arrived: Vec<u64> = vec![in alloc; 0; sums.len()]?;
+    arrived[src as usize] = SHARE_UNIT;
+    while let Some(next) = waiting.pop() {
+        let link = links[next.link as usize];
+        let tail = link.tail as usize;
+        let part = equal_part(arrived[tail], counts[tail], next.place);
+        flow[next.link as usize] = part;
+        arrived[link.head as usize] += part;
+    }
+    Ok(flow)
+}
+
+/// The flow of one million units from the source of the pair to its destination that is split
+/// equally over the next links of least-cost paths at each node, or `None` exactly where no path
+/// leads there. Units that do not divide go to the links of lower number.
+///
+/// The flow has one number for each link. `Memory` comes where memory is wanting.
+pub fn split(alloc: Global, net: &Network, pair: Pair) -> Result<Option<Vec<u64>>, Memory>
+    requires network { IsTrue (is_well_formed net.now) }
+    requires pair { IsPairOf net.now pair }
+    ensures none { IfOk result (λ o. IfNone o (HasPath net.now pair.src pair.dst → ⊥)) }
+    ensures reached { IfOk result (λ o. IfSome o (λ _. HasPath net.now pair.src pair.dst)) }
+    ensures count { IfOk result (λ o. IfSome o (λ flow. length flow.items ≡ link_count net.now)) }
+    ensures split { IfOk result (λ o. IfSome o (λ flow. IsEqualSplit net.now pair.src pair.dst (slice_index flow.items))) }
+    ensures flow { IfOk result (λ o. IfSome o (λ flow. IsAcyclicFlow net.now (slice_index flow.items) SHARE_UNIT pair.src pair.dst)) }
+{
+    let sums = costs_to(alloc, net, pair.dst)?;
+    if sums[pair.src as usize].is_none() {
+        return Ok(None);
+    }
+    let flow = share_out(alloc, net, &sums, pair.src)?;
+    Ok(Some(flow))
+}
