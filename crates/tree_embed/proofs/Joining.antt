@@ -1,0 +1,81 @@
+-- Least paths between neighbours of a chain, one after the other.
+use Rattle.std.proofs.Common.{◌≡◌, ℕ, zero, suc, ◌+◌, ◌-◌, ◌<◌, ◌≤◌, true, ◌&&◌, List, [], ◌∷◌, ◌++◌, Some, None, length, take, slice_index, nat_lt, ◌==◌, arith, refl, ap, sym, ◌∙◌, subst}
+use Rattle.std.proofs.lemmas.Bool.{and_from, and_parts, eqb-true, eq-eqb}
+use Rattle.std.proofs.lemmas.List.{append_assoc, append-nil}
+use Rattle.te_model.specs.declared.network.Network.{Network}
+use Rattle.te_model.specs.Network.{link_count, tail_of, head_of}
+use Rattle.te_model.specs.Path.{chains}
+use Rattle.shortest_path.specs.Paths.{IsLeastPath}
+use Rattle.routing.specs.Loops.{end_of}
+use Rattle.tree_embed.specs.TreePaths.{AreJoined}
+use Rattle.tree_embed.proofs.Distances.{chains_of_path}
+
+-- one neighbour more
+join_more : (net : Network) (lengths chain : List ℕ) (k : ℕ) (walk path : List ℕ) → suc k < length chain → AreJoined net lengths (take (suc k) chain) walk →
+    IsLeastPath net lengths (slice_index chain k) (slice_index chain (suc k)) (Some path) → AreJoined net lengths (take (suc (suc k)) chain) (walk ++ path)
+join_more net lengths [] k walk path below is least = absurd (omega arith)
+join_more net lengths (u ∷ []) k walk path below is least = absurd (omega arith)
+join_more net lengths (u ∷ v ∷ chain) zero walk path below is least =
+    (path, [], least, refl, ap (λ l. l ++ path) is ∙ sym (append-nil path))
+join_more net lengths (u ∷ v ∷ chain) (suc k) walk path below (first, rest, one, more, is) least = (
+  first,
+  rest ++ path,
+  one,
+  join_more net lengths (v ∷ chain) k rest path (omega arith) more least,
+  ap (λ l. l ++ path) is ∙ append_assoc first rest path,
+)
+
+-- where no least path leads on, there is no walk
+join_none : (net : Network) (lengths chain : List ℕ) (k : ℕ) → suc k < length chain →
+    IsLeastPath net lengths (slice_index chain k) (slice_index chain (suc k)) None → (walk : List ℕ) → AreJoined net lengths chain walk → ⊥
+join_none net lengths [] k below none walk is = absurd (omega arith)
+join_none net lengths (u ∷ []) k below none walk is = absurd (omega arith)
+join_none net lengths (u ∷ v ∷ chain) zero below none walk (first, rest, one, more, is) = none first (chains_of_path net u v first one.0)
+join_none net lengths (u ∷ v ∷ chain) (suc k) below none walk (first, rest, one, more, is) =
+    join_none net lengths (v ∷ chain) k (omega arith) none rest more
+
+-- the same by the place of the second of the two neighbours
+pub join_step : (net : Network) (lengths chain : List ℕ) (i : ℕ) (walk path new : List ℕ) → 1 ≤ i → i < length chain →
+    AreJoined net lengths (take i chain) walk → IsLeastPath net lengths (slice_index chain (i - 1)) (slice_index chain i) (Some path) → new ≡ walk ++ path →
+    AreJoined net lengths (take (i + 1) chain) new
+join_step net lengths chain i walk path new some below is least extended =
+    let e : i ≡ suc (i - 1) = omega arith in
+    let f : suc (suc (i - 1)) ≡ i + 1 = omega arith in
+    let inside : suc (i - 1) < length chain = omega arith in
+    subst (AreJoined net lengths (take (i + 1) chain)) (sym extended)
+    (subst (λ k. AreJoined net lengths (take k chain) (walk ++ path)) f
+    (join_more net lengths chain (i - 1) walk path inside (subst (λ k. AreJoined net lengths (take k chain) walk) e is)
+    (subst (λ k. IsLeastPath net lengths (slice_index chain (i - 1)) (slice_index chain k) (Some path)) e least)))
+
+pub join_stops : (net : Network) (lengths chain : List ℕ) (i : ℕ) → 1 ≤ i → i < length chain →
+    IsLeastPath net lengths (slice_index chain (i - 1)) (slice_index chain i) None → (walk : List ℕ) → AreJoined net lengths chain walk → ⊥
+join_stops net lengths chain i some below least =
+    let e : i ≡ suc (i - 1) = omega arith in
+    let inside : suc (i - 1) < length chain = omega arith in
+    join_none net lengths chain (i - 1) inside (subst (λ k. IsLeastPath net lengths (slice_index chain (i - 1)) (slice_index chain k) None) e least)
+
+-- the last node of a chain
+abbrev pub last_of : ℕ → List ℕ → ℕ
+last_of u [] = u
+last_of u (v ∷ chain) = last_of v chain
+
+chains-append : (net : Network) (s u t : ℕ) (p q : List ℕ) → chains net s u p ≡ true → chains net u t q ≡ true → chains net s t (p ++ q) ≡ true
+chains-append net s u t [] q one two = subst (λ v. chains net v t q ≡ true) (sym (eqb-true s u one)) two
+chains-append net s u t (h ∷ hs) q one two =
+    let parts = and_parts (nat_lt h (link_count net) && tail_of net h == s) (chains net (head_of net h) u hs) one in
+    and_from (nat_lt h (link_count net) && tail_of net h == s) (chains net (head_of net h) t (hs ++ q)) parts.0
+    (chains-append net (head_of net h) u t hs q parts.1 two)
+
+-- the walk leads from the first node of the chain to the last
+pub joined_chains : (net : Network) (lengths : List ℕ) (u : ℕ) (chain walk : List ℕ) → AreJoined net lengths (u ∷ chain) walk →
+    chains net u (last_of u chain) walk ≡ true
+joined_chains net lengths u [] walk is = subst (λ w. chains net u u w ≡ true) (sym is) (eq-eqb u u refl)
+joined_chains net lengths u (v ∷ chain) walk (first, rest, one, more, is) =
+    subst (λ w. chains net u (last_of v chain) w ≡ true) (sym is)
+    (chains-append net u v (last_of v chain) first rest (chains_of_path net u v first one.0) (joined_chains net lengths v chain rest more))
+
+-- links that chain to a node end there
+pub chains_end : (net : Network) (s t : ℕ) (walk : List ℕ) → chains net s t walk ≡ true → end_of net s walk ≡ t
+chains_end net s t [] chain = eqb-true s t chain
+chains_end net s t (h ∷ hs) chain =
+    chains_end net (head_of net h) t hs (and_parts (nat_lt h (link_count net) && tail_of net h == s) (chains net (head_of net h) t hs) chain).1

@@ -1,0 +1,141 @@
+-- An embedding and two nodes have one tree path.
+use Rattle.std.proofs.Common.{inl, inr, ◌≡◌, ℕ, zero, suc, ◌+◌, ◌<◌, ◌≤◌, Bool, true, false, List, [], ◌∷◌, ◌++◌, Option, Some, None, map, reverse, nat_eq, nat_lt, slice_index, arith, refl, ap, sym, ◌∙◌, subst}
+use Rattle.std.specs.Prelude.{MatchBool}
+use Rattle.std.specs.List.{dedup, range_with_len}
+use Rattle.std.proofs.lemmas.Bool.{cases_order}
+use Rattle.te_model.specs.declared.network.Network.{Network}
+use Rattle.te_model.specs.Network.{node_count, head_of}
+use Rattle.te_model.proofs.ListOrder.{list_below-irrefl, list_below-trans}
+use Rattle.shortest_path.specs.Paths.{IsBelow, IsLeastPath}
+use Rattle.routing.specs.Loops.{IsCut}
+use Rattle.tree_embed.specs.declared.centers.TheConstants.{TOP_LEVEL}
+use Rattle.tree_embed.specs.Embedding.{Embedding}
+use Rattle.tree_embed.specs.Centers.{AreCenters, IsCenter, IsFirst, IsWithin, radius}
+use Rattle.tree_embed.specs.Chains.{IsChain, IsLowestShared, Share, centers_between, centers_down, centers_up}
+use Rattle.tree_embed.specs.TreePaths.{AreJoined, IsJoin, IsPathFor, IsTreePath}
+use Rattle.tree_embed.proofs.Distances.{chains_of_path}
+
+first_only : (P : ℕ → Type 0) (order : List ℕ) (c d : ℕ) → IsFirst P order c → IsFirst P order d → c ≡ d
+first_only P order c d (has_c, (k, in_k, is_k, before_k)) (has_d, (j, in_j, is_j, before_j)) = elim (cases_order k j) [
+  | inl e ↦ sym is_k ∙ ap (slice_index order) e ∙ is_j
+  | inr other ↦ elim other [
+    | inl lt ↦ absurd (before_j k lt (subst P (sym is_k) has_c))
+    | inr gt ↦ absurd (before_k j gt (subst P (sym is_j) has_d))
+  ]
+]
+
+center_only : (e : Embedding) (level v c d : ℕ) → IsCenter e level v c → IsCenter e level v d → c ≡ d
+center_only e level v c d one two = go (nat_lt level TOP_LEVEL) one two
+  where
+    go : (b : Bool) → MatchBool b (IsFirst (λ u. IsWithin e.network e.lengths (radius e.scale level) u v) e.order c) (c ≡ slice_index e.order 0) →
+        MatchBool b (IsFirst (λ u. IsWithin e.network e.lengths (radius e.scale level) u v) e.order d) (d ≡ slice_index e.order 0) → c ≡ d
+    go true one' two' = first_only (λ u. IsWithin e.network e.lengths (radius e.scale level) u v) e.order c d one' two'
+    go false one' two' = one' ∙ sym two'
+
+-- two choices of centers agree at node v
+abbrev AgreeAt : (ℕ → ℕ → ℕ) → (ℕ → ℕ → ℕ) → ℕ → Type 0
+AgreeAt center other v = (level : ℕ) → level ≤ TOP_LEVEL → center level v ≡ other level v
+
+agree_at : (e : Embedding) (center other : ℕ → ℕ → ℕ) → AreCenters e center → AreCenters e other → (v : ℕ) → v < node_count e.network → AgreeAt center other v
+agree_at e center other one two v below level few =
+    center_only e level v (center level v) (other level v) (one level v few below) (two level v few below)
+
+share_agree : (center other : ℕ → ℕ → ℕ) (v w level : ℕ) → AgreeAt center other v → AgreeAt center other w → Share center v w level → Share other v w level
+share_agree center other v w level at_v at_w share l low high = sym (at_v l high) ∙ share l low high ∙ at_w l high
+
+agree_back : (center other : ℕ → ℕ → ℕ) (v : ℕ) → AgreeAt center other v → AgreeAt other center v
+agree_back center other v at level few = sym (at level few)
+
+lowest_only : (center other : ℕ → ℕ → ℕ) (v w a b : ℕ) → AgreeAt center other v → AgreeAt center other w →
+    IsLowestShared center v w a → IsLowestShared other v w b → a ≡ b
+lowest_only center other v w a b at_v at_w one two = elim (cases_order a b) [
+  | inl e ↦ e
+  | inr differ ↦ elim differ [
+    | inl lt ↦ absurd (two.lowest a lt (share_agree center other v w a at_v at_w one.shared))
+    | inr gt ↦ absurd (one.lowest b gt (share_agree other center v w b (agree_back center other v at_v) (agree_back center other w at_w) two.shared))
+  ]
+]
+
+map_agree : (f g : ℕ → ℕ) (start n : ℕ) → ((i : ℕ) → i < start + n → f i ≡ g i) → map f (range_with_len start n) ≡ map g (range_with_len start n)
+map_agree f g start zero same = refl
+map_agree f g start (suc n) same =
+    ap (λ x. x ∷ map f (range_with_len (start + 1) n)) (same start (omega arith))
+    ∙ ap (λ l. g start ∷ l) (map_agree f g (start + 1) n (λ i below. same i (omega arith)))
+
+up_agree : (center other : ℕ → ℕ → ℕ) (v a : ℕ) → AgreeAt center other v → a ≤ TOP_LEVEL → centers_up center v a ≡ centers_up other v a
+up_agree center other v a at few = map_agree (λ l. center l v) (λ l. other l v) 1 a (λ i below. at i (omega arith))
+
+between_agree : (center other : ℕ → ℕ → ℕ) (v w a : ℕ) → AgreeAt center other v → AgreeAt center other w → a ≤ TOP_LEVEL →
+    centers_between center v w a ≡ centers_between other v w a
+between_agree center other v w zero at_v at_w few = ap (λ x. x ∷ []) (at_v 0 few)
+between_agree center other v w (suc a) at_v at_w few =
+    ap (λ l. l ++ centers_down center w a) (up_agree center other v (suc a) at_v few)
+    ∙ ap (λ l. centers_up other v (suc a) ++ reverse l) (up_agree center other w a at_w (omega arith))
+
+pub chain_only : (e : Embedding) (v w : ℕ) → v < node_count e.network → w < node_count e.network → (chain chain' : List ℕ) →
+    IsChain e v w chain → IsChain e v w chain' → chain ≡ chain'
+chain_only e v w below_v below_w chain chain' (center, are, (a, lowest, is)) (other, are', (b, lowest', is')) =
+    let at_v : AgreeAt center other v = agree_at e center other are are' v below_v in
+    let at_w : AgreeAt center other w = agree_at e center other are are' w below_w in
+    let same : a ≡ b = lowest_only center other v w a b at_v at_w lowest lowest' in
+    is
+    ∙ ap (λ l. dedup nat_eq (v ∷ (l ++ w ∷ []))) (between_agree center other v w a at_v at_w lowest.level ∙ ap (centers_between other v w) same)
+    ∙ sym is'
+
+below_both : (lengths p q : List ℕ) → IsBelow lengths p q → IsBelow lengths q p → ⊥
+below_both lengths p q one two = elim one [
+  | inl lt ↦ elim two [ inl gt ↦ omega (arith, lt, gt) | inr same ↦ omega (arith, lt, same.0) ]
+  | inr same ↦ elim two [
+    | inl gt ↦ omega (arith, gt, same.0)
+    | inr same' ↦ list_below-irrefl p (list_below-trans p q p same.1 same'.1)
+  ]
+]
+
+pub least_only : (net : Network) (lengths : List ℕ) (s t : ℕ) (p q : Option (List ℕ)) → IsLeastPath net lengths s t p → IsLeastPath net lengths s t q → p ≡ q
+least_only net lengths s t None None one two = refl
+least_only net lengths s t None (Some q) one two = absurd (one q (chains_of_path net s t q two.0))
+least_only net lengths s t (Some p) None one two = absurd (two p (chains_of_path net s t p one.0))
+least_only net lengths s t (Some p) (Some q) one two = elim (one.1 q (chains_of_path net s t q two.0)) [
+  | inl e ↦ ap Some (sym e)
+  | inr below ↦ elim (two.1 p (chains_of_path net s t p one.0)) [
+    | inl e ↦ ap Some e
+    | inr above ↦ absurd (below_both lengths p q below above)
+  ]
+]
+
+joined_only : (net : Network) (lengths chain walk walk' : List ℕ) → AreJoined net lengths chain walk → AreJoined net lengths chain walk' → walk ≡ walk'
+joined_only net lengths [] walk walk' one two = one ∙ sym two
+joined_only net lengths (u ∷ []) walk walk' one two = one ∙ sym two
+joined_only net lengths (u ∷ v ∷ chain) walk walk' (p, r, least, more, is) (p', r', least', more', is') =
+    let some : ◌≡◌ {A = Option (List ℕ)} (Some p) (Some p') = least_only net lengths u v (Some p) (Some p') least least' in
+    let same : p ≡ p' = cc in
+    is ∙ ap (λ l. l ++ r) same ∙ ap (λ l. p' ++ l) (joined_only net lengths (v ∷ chain) r r' more more') ∙ sym is'
+
+join_only : (net : Network) (lengths chain : List ℕ) (walk walk' : Option (List ℕ)) → IsJoin net lengths chain walk → IsJoin net lengths chain walk' → walk ≡ walk'
+join_only net lengths chain None None one two = refl
+join_only net lengths chain None (Some w) one two = absurd (one w two)
+join_only net lengths chain (Some w) None one two = absurd (two w one)
+join_only net lengths chain (Some w) (Some w') one two = ap Some (joined_only net lengths chain w w' one two)
+
+pub cut_only : (net : Network) (s : ℕ) (walk cut cut' : List ℕ) → IsCut net s walk cut → IsCut net s walk cut' → cut ≡ cut'
+cut_only net s walk [] [] one two = refl
+cut_only net s walk [] (k ∷ cut') one (rest, at, more) = cc
+cut_only net s walk (h ∷ cut) [] (rest, at, more) two = cc
+cut_only net s walk (h ∷ cut) (k ∷ cut') (rest, at, more) (rest', at', more') =
+    let both : ◌≡◌ {A = List ℕ} (h ∷ rest) (k ∷ rest') = sym at ∙ at' in
+    let first : h ≡ k = cc in
+    let later : rest ≡ rest' = cc in
+    let on = subst (λ l. IsCut net (head_of net k) l cut) later (subst (λ j. IsCut net (head_of net j) rest cut) first more) in
+    ap (λ j. j ∷ cut) first ∙ ap (λ l. k ∷ l) (cut_only net (head_of net k) rest' cut cut' on more')
+
+path_only : (net : Network) (lengths : List ℕ) (s t : ℕ) (walk p q : Option (List ℕ)) → IsPathFor net lengths s t walk p → IsPathFor net lengths s t walk q → p ≡ q
+path_only net lengths s t None p q one two = least_only net lengths s t p q one two
+path_only net lengths s t (Some walk) p q (cut, is, e) (cut', is', e') = e ∙ ap Some (cut_only net s walk cut cut' is is') ∙ sym e'
+
+pub tree_path_only : (e : Embedding) (s t : ℕ) → s < node_count e.network → t < node_count e.network → (p q : Option (List ℕ)) →
+    IsTreePath e s t p → IsTreePath e s t q → p ≡ q
+tree_path_only e s t below_s below_t p q (chain, walk, is, join, path) (chain', walk', is', join', path') =
+    let same : chain ≡ chain' = chain_only e s t below_s below_t chain chain' is is' in
+    let joined : IsJoin e.network e.lengths chain' walk = subst (λ c. IsJoin e.network e.lengths c walk) same join in
+    let walks : walk ≡ walk' = join_only e.network e.lengths chain' walk walk' joined join' in
+    path_only e.network e.lengths s t walk' p q (subst (λ w. IsPathFor e.network e.lengths s t w p) walks path) path'

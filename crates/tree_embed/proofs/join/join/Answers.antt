@@ -1,0 +1,22 @@
+use Rattle.std.proofs.Common.{◌≡◌, ◌-◌, ◌++◌, slice_index, subst, rules}
+use Rattle.shortest_path.specs.Least.{links_of}
+use Rattle.shortest_path.specs.Paths.{IsLeastPath}
+use Rattle.tree_embed.proofs.Joining.{join_step, join_stops}
+use Rattle.tree_embed.proofs.join.join.Goals as goal
+
+pub returns-in-None : goal.returns-in-None
+returns-in-None c =
+    let chain = c.args.chain.now in
+    let i = c.loop-i.i in
+    join_stops c.args.net.now c.args.lengths.now chain i c.loop-i.auto.i c.loop-i-test.true
+    (subst (λ o. IsLeastPath c.args.net.now c.args.lengths.now (slice_index chain (i - 1)) (slice_index chain i) (links_of o)) c.in-None.is c.in_ok-path.ensures)
+
+pub loop-i-preserved : goal.loop-i-preserved
+loop-i-preserved c =
+    let chain = c.args.chain.now in
+    let i = c.loop-i.i in
+    let extended : c.extend_from_slice.new.self.items ≡ c.loop-i.walk.items ++ c.in-Some.path.links = search rules in
+    join_step c.args.net.now c.args.lengths.now chain i c.loop-i.walk.items c.in-Some.path.links c.extend_from_slice.new.self.items
+    c.loop-i.auto.i c.loop-i-test.true c.loop-i.invariant
+    (subst (λ o. IsLeastPath c.args.net.now c.args.lengths.now (slice_index chain (i - 1)) (slice_index chain i) (links_of o)) c.in-Some.is c.in_ok-path.ensures)
+    extended

@@ -1,0 +1,5 @@
+use Rattle.tree_embed.proofs.Distances.{SumsSoFar}
+use Rattle.tree_embed.proofs.sums.sums_of.Given as goal
+
+abbrev pub invariant-loop-node : goal.invariant-loop-node
+invariant-loop-node l = SumsSoFar l.net l.lengths l.node l.sums.items

@@ -1,0 +1,6 @@
+pub mod Embedding
+pub mod Centers
+pub mod Chains
+pub mod TreePaths
+pub mod Tables
+pub mod Samples
