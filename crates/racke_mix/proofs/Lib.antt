@@ -1,0 +1,13 @@
+mod Words
+mod Greatest
+mod EachLink
+mod LinkLimits
+mod Ordering
+mod Putting
+mod PathLinks
+mod Loading
+mod Lengths
+mod Multiplying
+mod Mixing
+mod EvenSplits
+mod TreeSplits

@@ -1,0 +1,42 @@
+use Rattle.std.proofs.Common.{◌≡◌, ℕ, ◌+◌, ◌<◌, List, length, get_or, replicate, arith, ap, ◌∙◌, rules}
+use Rattle.std.specs.Prelude.{if◌then◌else◌}
+use Rattle.te_model.specs.declared.network.Link.{Link}
+use Rattle.te_model.specs.Network.{capacity_of, link_count}
+use Rattle.te_model.specs.Path.{has_number}
+use Rattle.shortest_path.proofs.Settling.{written_whole}
+use Rattle.shortest_path.proofs.Sound.{sound}
+use Rattle.racke_mix.proofs.LinkLimits.{capacity_small}
+use Rattle.racke_mix.proofs.Loading.{loads_done, loads_more, loads_none, loads_small}
+use Rattle.racke_mix.proofs.loads.loads_of.Goals as goal
+
+pub loop-h-init : goal.loop-h-init
+loop-h-init c =
+    let links = c.as_slice-links.result.now in
+    let are : c.in_ok-loads.loads.items ≡ replicate (length links) 0 = search rules in
+    loads_none c.args.net.now c.args.tree.now (length links) c.in_ok-loads.loads.items (ap (λ (ls : List Link). length ls) c.as_slice-links.ensures) are
+
+pub loop-h-preserved : goal.loop-h-preserved
+loop-h-preserved c =
+    let net = c.args.net.now in
+    let h = c.loop-h.h in
+    let inside : h < link_count net = omega (arith, c.loop-h-test.true, ap (λ (ls : List Link). length ls) c.as_slice-links.ensures) in
+    let old = c.loop-h.loads.items in
+    let value : c.deref_mut.result.now ≡ old = c.deref_mut.ensures.value in
+    let kept : length c.add_link.new.loads ≡ length old = c.add_link.auto.loads ∙ ap (λ (l : List ℕ). length l) value in
+    let (path, is, puts) = c.in_ok-add_link.ensures in
+    let whole = written_whole c.loop-h.loads.len c.add_link.new.loads old kept c.loop-h.loads.ok.0 in
+    rw whole (loads_more net c.args.tree.now h old c.add_link.new.loads path c.loop-h.invariant kept is (capacity_small net h c.requires.network inside)
+    (λ e. puts e ∙ ap (λ (l : List ℕ). get_or l e 0 + (if has_number path e then capacity_of net h else 0)) value))
+
+pub returns-clause-loads : goal.returns-clause-loads
+returns-clause-loads c =
+    let net = c.args.net.now in
+    let done : c.loop-h.h ≡ link_count net = omega (arith, c.loop-h-test.false, c.loop-h.auto.h-end, ap (λ (ls : List Link). length ls) c.as_slice-links.ensures) in
+    loads_done net c.args.tree.now c.loop-h.h c.loop-h.loads.items c.loop-h.invariant done
+
+pub returns-clause-small : goal.returns-clause-small
+returns-clause-small c =
+    let net = c.args.net.now in
+    let few = (sound net c.requires.network).few_links in
+    let done : c.loop-h.h ≡ link_count net = omega (arith, c.loop-h-test.false, c.loop-h.auto.h-end, ap (λ (ls : List Link). length ls) c.as_slice-links.ensures) in
+    loads_small net c.args.tree.now c.loop-h.h c.loop-h.loads.items c.loop-h.invariant (omega (arith, done, few))

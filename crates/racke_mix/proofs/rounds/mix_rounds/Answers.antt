@@ -1,0 +1,33 @@
+use Rattle.std.proofs.Common.{◌≡◌, ℕ, ◌+◌, ◌++◌, ◌∷◌, [], List, length, ap, sym, ◌∙◌, subst, rules}
+use Rattle.racke_mix.specs.declared.round.Round.{Round}
+use Rattle.racke_mix.specs.Growth.{grown}
+use Rattle.racke_mix.specs.Mix.{IsRoundBy}
+use Rattle.racke_mix.proofs.Loading.{loads_count}
+use Rattle.racke_mix.proofs.Mixing.{RoundsSoFar, rounds_more}
+use Rattle.racke_mix.proofs.rounds.mix_rounds.Goals as goal
+
+pub grow-requires-clause-loads : goal.grow-requires-clause-loads
+grow-requires-clause-loads c =
+    ap (λ (l : List ℕ). length l) c.deref-in-loop-tree.ensures.value
+    ∙ loads_count c.args.net.now c.in_ok-round.round.tree c.in_ok-loads.loads.items c.in_ok-loads.ensures.loads
+
+pub loop-tree-preserved : goal.loop-tree-preserved
+loop-tree-preserved c =
+    let net = c.args.net.now in
+    let seed = c.args.seed in
+    let j = c.loop-tree._tree in
+    let multipliers = c.loop-tree.multipliers.items in
+    let next = c.in_ok-multipliers-2.multipliers.items in
+    let loads = c.in_ok-loads.loads.items in
+    let rounds = c.loop-tree.rounds.items in
+    let round = c.in_ok-round.round in
+    let grows : next ≡ grown net loads multipliers =
+    c.in_ok-multipliers-2.ensures
+    ∙ (ap (λ (l : List ℕ). grown net l c.deref-in-loop-tree-2.result.now) c.deref-in-loop-tree.ensures.value
+    ∙ ap (λ (m : List ℕ). grown net loads m) c.deref-in-loop-tree-2.ensures.value)
+    in
+    let is = subst (λ (m : List ℕ). IsRoundBy net c.loop-tree.rng m round) c.deref.ensures.value c.in_ok-round.ensures.round in
+    let pushed : c.push.new.self.items ≡ rounds ++ round ∷ [] = search rules in
+    subst (λ (rs : List Round). RoundsSoFar net seed (j + 1) c.draw_round.new.rng next rs) (sym pushed)
+    (rounds_more net seed j c.loop-tree.rng c.draw_round.new.rng multipliers loads next rounds round c.loop-tree.invariant is c.in_ok-round.ensures.state
+    c.in_ok-loads.ensures.loads grows)
