@@ -1,10 +1,9 @@
 -- A greater number never balances more easily.
-use Rattle.std.proofs.Common.{◌≡◌, ℕ, ◌+◌, ◌-◌, ◌*◌, ◌^◌, ◌<◌, ◌≤◌, true, false, Bool, List, length, arith, slice_index, refl}
+use Rattle.std.proofs.Common.{◌≡◌, ℕ, ◌*◌, ◌^◌, ◌<◌, ◌≤◌, true, false, Bool, List, length, arith, slice_index, refl}
 use Rattle.std.proofs.lemmas.Bool.{leb-true, le-leb}
 use Rattle.std.proofs.Math.Nat.{mul-le-mul_left}
 use Rattle.std.proofs.lemmas.Nat.{mul-le}
 use Rattle.te_model.specs.declared.units.TheConstants.{SHARE_UNIT}
-use Rattle.te_model.specs.Counting.{sum_below}
 use Rattle.te_model.proofs.Sums.{sum_below-le, sum_below-same}
 use Rattle.routing.proofs.Quotients.{quotient_up-enough, quotient_up-least}
 use Rattle.ratio_certificate.specs.Best.{asked, added, taken_back, balances}

@@ -1,30 +1,24 @@
 -- Best blocks are valid.
-use Rattle.std.proofs.Common.{◌≡◌, ℕ, suc, ◌+◌, ◌*◌, ◌^◌, ◌<◌, ◌≤◌, Bool, true, false, ◌&&◌, List, [], ◌∷◌, length, arith, refl, ap, sym, subst, ◌∙◌, get_or, slice_index, nat_le, nat_lt, ◌==◌}
-use Rattle.std.specs.Prelude.{All, IsTrue}
+use Rattle.std.proofs.Common.{◌≡◌, ℕ, ◌+◌, ◌*◌, ◌^◌, ◌<◌, ◌≤◌, true, ◌&&◌, List, [], ◌∷◌, length, arith, ap, sym, subst, ◌∙◌, get_or, slice_index, nat_le, nat_lt}
+use Rattle.std.specs.Prelude.{All}
 use Rattle.std.specs.List.{list_all}
 use Rattle.std.proofs.lemmas.Bool.{and_parts, and_from, ltb-true, lt-ltb, le-leb, eq-eqb}
 use Rattle.std.proofs.lemmas.Bool.Decides.{nat_tests}
 use Rattle.std.proofs.lemmas.List.Elements.{All-get_or, All-head, All-tail}
-use Rattle.std.proofs.Math.Nat.{mul-le-mul_right}
-use Rattle.te_model.specs.declared.network.Network.{Network}
-use Rattle.te_model.specs.declared.route.PairRoutes.{PairRoutes}
 use Rattle.te_model.specs.declared.certificate.Row.{Row}
 use Rattle.te_model.specs.declared.certificate.Block.{Block}
 use Rattle.te_model.specs.declared.certificate.Head.{Head}
 use Rattle.te_model.specs.declared.demand.DemandSet.{DemandSet}
 use Rattle.te_model.specs.declared.demand.DemandSet.TheVariants.{All as AllMatrices, Margin}
-use Rattle.te_model.specs.declared.limits.TheConstants.{FORMAT_1}
 use Rattle.te_model.specs.declared.units.TheConstants.{SHARE_UNIT}
 use Rattle.te_model.specs.Network.{node_count, link_count, is_well_formed}
 use Rattle.te_model.specs.Certificate.{empty_row}
-use Rattle.te_model.specs.Path.{share, source_of, destination_of}
-use Rattle.te_model.specs.Shape.{is_word, are_words, is_row_of, is_shaped_row, has_one_each, is_shaped_block}
-use Rattle.te_model.specs.Validity.{is_small, rows_ascend, has_block_numbers, has_small_numbers, IsValidBlock}
-use Rattle.shortest_path.specs.Paths.{ArePotentials}
+use Rattle.te_model.specs.Path.{source_of, destination_of}
+use Rattle.te_model.specs.Shape.{is_word, are_words, is_row_of, is_shaped_row, has_one_each}
+use Rattle.te_model.specs.Validity.{is_small, rows_ascend, IsValidBlock}
 use Rattle.routing.proofs.Splits.{share-le, splits_of}
-use Rattle.ratio_certificate.specs.Best.{asked, added, taken_back, IsBestScale, IsBestBlock}
-use Rattle.ratio_certificate.specs.Conditions.{IsRoutingWithin, IsSetWithin}
-use Rattle.ratio_certificate.specs.Tables.{AreValues, ArePairDistances}
+use Rattle.ratio_certificate.specs.Best.{IsBestScale, IsBestBlock}
+use Rattle.ratio_certificate.specs.Conditions.{IsRoutingWithin}
 use Rattle.ratio_certificate.proofs.Balances.{asked-small}
 use Rattle.ratio_certificate.proofs.Distances.{potentials_count}
 use Rattle.ratio_certificate.proofs.HeadValid.{all_tests, joins_nodes, few_nodes}

@@ -1,8 +1,8 @@
 -- Certificates of starting blocks are valid, and their inequalities hold.
-use Rattle.std.proofs.Common.{◌≡◌, ℕ, zero, suc, ◌+◌, ◌*◌, ◌^◌, ◌<◌, ◌≤◌, ◌⊎◌, Bool, true, false, ◌||◌, cond, List, [], ◌∷◌, ◌++◌, Option, Some, None, length, arith, refl, ap, sym, subst, ◌∙◌, inl, inr, nat_lt, ◌==◌, get_or, slice_index, replicate}
+use Rattle.std.proofs.Common.{◌≡◌, ℕ, zero, suc, ◌+◌, ◌*◌, ◌^◌, ◌<◌, ◌≤◌, ◌⊎◌, Bool, true, false, ◌||◌, cond, List, [], ◌∷◌, ◌++◌, Some, length, arith, refl, ap, sym, subst, ◌∙◌, inl, inr, nat_lt, ◌==◌, get_or, slice_index}
 use Rattle.std.specs.Prelude.{All, IsTrue, find, unwrap_or}
 use Rattle.std.specs.List.{list_any}
-use Rattle.std.proofs.lemmas.Bool.{cases_lt, cases_Bool, eqb-true, eq-eqb, le-leb, lt-ltb}
+use Rattle.std.proofs.lemmas.Bool.{cases_lt, eqb-true, eq-eqb, le-leb, lt-ltb}
 use Rattle.std.proofs.lemmas.List.{get_or_append_left, get_or_push, length-append, length-replicate, get_or-replicate}
 use Rattle.std.proofs.lemmas.List.Elements.{All-nil, All-head, All-tail, All-get_or, All-from_get_or}
 use Rattle.te_model.specs.declared.network.Network.{Network}
@@ -12,19 +12,17 @@ use Rattle.te_model.specs.declared.certificate.Head.{Head}
 use Rattle.te_model.specs.declared.certificate.Certificate.{Certificate}
 use Rattle.te_model.specs.declared.demand.DemandSet.{DemandSet}
 use Rattle.te_model.specs.declared.demand.DemandSet.TheVariants.{All as AllMatrices, Margin}
-use Rattle.te_model.specs.declared.limits.TheConstants.{FORMAT_1}
-use Rattle.te_model.specs.declared.units.TheConstants.{SHARE_UNIT}
-use Rattle.te_model.specs.Network.{node_count, link_count, is_well_formed}
+use Rattle.te_model.specs.Network.{link_count, is_well_formed}
 use Rattle.te_model.specs.Path.{share}
 use Rattle.te_model.specs.Certificate.{block_of, empty_block}
-use Rattle.te_model.specs.Inequalities.{covers_share, keeps_margin, pays_weights, BlockHolds, Holds}
-use Rattle.te_model.specs.Validity.{block_at, link_before, follows, AscendByLink, IsValid, IsValidBlock, HasValidParts}
+use Rattle.te_model.specs.Inequalities.{keeps_margin, pays_weights, BlockHolds, Holds}
+use Rattle.te_model.specs.Validity.{block_at, AscendByLink, IsValid, IsValidBlock}
 use Rattle.te_model.proofs.Sums.{sum_below-zero}
 use Rattle.te_model.proofs.ValidParts.{valid_parts}
 use Rattle.routing.proofs.Splits.{share-le, splits_of}
 use Rattle.ratio_certificate.specs.Best.{IsBestBlock}
 use Rattle.ratio_certificate.specs.Conditions.{IsRoutingWithin, IsSetWithin}
-use Rattle.ratio_certificate.specs.Made.{AreStartingBlocks, HasBlock, HasShare, IsStartingBlock, starting_weights}
+use Rattle.ratio_certificate.specs.Made.{AreStartingBlocks, HasShare, IsStartingBlock, starting_weights}
 use Rattle.ratio_certificate.specs.Need.{HasNumbers, IsGreatestNeed}
 use Rattle.ratio_certificate.proofs.BlockValid.{best_valid}
 use Rattle.ratio_certificate.proofs.HeadValid.{made_head}

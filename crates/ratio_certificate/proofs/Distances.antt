@@ -1,22 +1,18 @@
 -- The distances of the pairs of a routing, and how great they are.
-use Rattle.std.proofs.Common.{◌≡◌, ℕ, suc, ◌+◌, ◌*◌, ◌^◌, ◌<◌, ◌≤◌, Bool, true, false, ◌&&◌, ◌||◌, not, List, [], ◌∷◌, Option, Some, None, length, map, max, arith, refl, ap, sym, subst, ◌∙◌, inl, inr, nat_lt, ◌==◌, get_or, slice_index, slice_index_or, sum_by}
+use Rattle.std.proofs.Common.{◌≡◌, ℕ, ◌^◌, ◌<◌, ◌≤◌, true, List, [], ◌∷◌, Option, Some, None, length, arith, ap, sym, subst, ◌∙◌, get_or, slice_index, slice_index_or, sum_by}
 use Rattle.std.specs.Prelude.{All, IsTrue, unwrap_or}
-use Rattle.std.proofs.lemmas.Bool.{cases_lt, and_parts, ltb-true, eqb-true}
-use Rattle.std.proofs.lemmas.Bool.Decides.{nat_tests}
+use Rattle.std.proofs.lemmas.Bool.{and_parts}
 use Rattle.std.proofs.lemmas.List.{get_or-map, length-map}
-use Rattle.std.proofs.lemmas.List.Elements.{All-head, All-tail, All-get_or}
+use Rattle.std.proofs.lemmas.List.Elements.{All-head, All-get_or}
 use Rattle.te_model.specs.declared.network.Network.{Network}
 use Rattle.te_model.specs.declared.route.PathShare.{PathShare}
 use Rattle.te_model.specs.declared.route.PairRoutes.{PairRoutes}
 use Rattle.te_model.specs.declared.units.TheConstants.{SHARE_UNIT}
-use Rattle.te_model.specs.Counting.{count_below}
-use Rattle.te_model.specs.Network.{node_count, link_count, tail_of, head_of}
-use Rattle.te_model.specs.Path.{chains, is_path, is_distinct, has_number, nodes_visited, routes_at, no_routes, source_of, destination_of}
+use Rattle.te_model.specs.Network.{node_count, link_count}
+use Rattle.te_model.specs.Path.{chains, is_path, is_distinct, nodes_visited, routes_at, no_routes, source_of, destination_of}
 use Rattle.te_model.specs.PathRouting.{IsPathSplit, IsPathRouting}
 use Rattle.te_model.specs.Laws.{PairsJoinNodes}
-use Rattle.te_model.proofs.Counts.{count_below-either, count_below-none, count_below-bound}
-use Rattle.te_model.proofs.Sums.{sum_below-pick}
-use Rattle.shortest_path.specs.Paths.{sum_along, IsDistance, AreDistances, ArePotentials, greatest}
+use Rattle.shortest_path.specs.Paths.{IsDistance, ArePotentials, greatest}
 use Rattle.ratio_certificate.specs.Metric.{IsMetric}
 use Rattle.ratio_certificate.specs.Tables.{ArePairDistances, AreValues, IsTable, row_at}
 

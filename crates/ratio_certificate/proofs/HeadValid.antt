@@ -1,32 +1,30 @@
 -- The head of a made certificate is valid.
-use Rattle.std.proofs.Common.{◌≡◌, ℕ, zero, suc, ◌+◌, ◌*◌, ◌^◌, ◌<◌, ◌≤◌, Bool, true, false, ◌&&◌, List, [], ◌∷◌, Option, None, length, arith, refl, ap, sym, subst, ◌∙◌, get_or, slice_index, nat_le, nat_lt, ◌==◌, sum_by}
-use Rattle.std.specs.Prelude.{All, IsTrue, not}
+use Rattle.std.proofs.Common.{◌≡◌, ℕ, zero, suc, ◌+◌, ◌^◌, ◌<◌, ◌≤◌, Bool, true, ◌&&◌, List, [], ◌∷◌, None, length, arith, refl, ap, get_or, nat_lt, ◌==◌, sum_by}
+use Rattle.std.specs.Prelude.{IsTrue}
 use Rattle.std.specs.List.{list_all}
 use Rattle.std.proofs.lemmas.Bool.{and_parts, and_from, ltb-true, lt-ltb, le-leb, eqb-true, ne_eqb}
 use Rattle.std.proofs.lemmas.Bool.Decides.{nat_tests}
-use Rattle.std.proofs.lemmas.List.Elements.{All-from_get_or, All-get_or, All-head, All-tail}
+use Rattle.std.proofs.lemmas.List.Elements.{All-from_get_or, All-get_or}
 use Rattle.std.proofs.lemmas.List.Sums.{get_or-le-sum_by}
 use Rattle.te_model.specs.declared.network.Network.{Network}
 use Rattle.te_model.specs.declared.route.PathShare.{PathShare}
 use Rattle.te_model.specs.declared.route.PairRoutes.{PairRoutes}
 use Rattle.te_model.specs.declared.certificate.Head.{Head}
-use Rattle.te_model.specs.declared.certificate.RuleFault.{RuleFault}
 use Rattle.te_model.specs.declared.demand.DemandSet.{DemandSet}
 use Rattle.te_model.specs.declared.demand.DemandSet.TheVariants.{All as AllMatrices, Margin}
 use Rattle.te_model.specs.declared.limits.TheConstants.{FORMAT_1}
 use Rattle.te_model.specs.declared.units.TheConstants.{SHARE_UNIT}
-use Rattle.te_model.specs.Counting.{or_else, first_some, first_below, unless}
-use Rattle.te_model.specs.Network.{node_count, link_count, tail_of, head_of, no_link, is_name, is_new_name, is_sound_link, is_well_formed}
+use Rattle.te_model.specs.Counting.{unless}
+use Rattle.te_model.specs.Network.{node_count, link_count, tail_of, head_of, no_link, is_new_name, is_sound_link, is_well_formed}
 use Rattle.te_model.specs.Laws.{LinksJoinNodes}
 use Rattle.te_model.specs.Path.{chains, is_path, is_distinct, nodes_visited, routes_at, no_routes, source_of, destination_of}
 use Rattle.te_model.specs.PathRouting.{IsPathSplit}
-use Rattle.te_model.specs.Shape.{is_word, are_words, is_count, is_row_of, is_shaped_link, is_shaped_network, is_shaped_path, is_shaped_pair, is_shaped_set, is_shaped_head}
-use Rattle.te_model.specs.Validity.{fault_at, rule_fault, is_sound_pair, has_sound_paths, has_ascending_paths, has_whole_weight, with_first, has_margin_numbers, has_base_number, has_ratio, first_seven, faults_from, head_fault, IsValidHead}
+use Rattle.te_model.specs.Shape.{is_word, are_words, is_shaped_link, is_shaped_network, is_shaped_path, is_shaped_pair, is_shaped_set}
+use Rattle.te_model.specs.Validity.{fault_at, rule_fault, is_sound_pair, has_sound_paths, has_ascending_paths, has_whole_weight, with_first, has_margin_numbers, has_base_number, IsValidHead}
 use Rattle.te_model.proofs.Searches.{first_below_none, all_below_at}
 use Rattle.te_model.proofs.SoundLinks.{sound_links}
 use Rattle.te_model.proofs.Tests.{all_to_tests}
 use Rattle.te_model.proofs.PathRoutings.{path_routing}
-use Rattle.routing.specs.Routes.{HasFewPaths}
 use Rattle.ratio_certificate.specs.Conditions.{IsRoutingWithin, IsSetWithin}
 use Rattle.ratio_certificate.proofs.Lengths.{path_short}
 

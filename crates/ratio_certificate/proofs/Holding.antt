@@ -1,5 +1,5 @@
 -- The inequalities hold of a best block whose need is paid for.
-use Rattle.std.proofs.Common.{◌≡◌, ℕ, ◌+◌, ◌-◌, ◌*◌, ◌<◌, ◌≤◌, ◌⊎◌, Bool, true, false, ◌||◌, cond, List, [], ◌∷◌, Option, Some, None, length, arith, refl, ap, sym, subst, ◌∙◌, inl, inr, nat_lt, nat_le, ◌==◌, slice_index}
+use Rattle.std.proofs.Common.{◌≡◌, ℕ, ◌+◌, ◌-◌, ◌*◌, ◌<◌, ◌≤◌, ◌⊎◌, Bool, true, false, ◌||◌, cond, List, [], ◌∷◌, Some, length, arith, refl, ap, sym, subst, ◌∙◌, inl, inr, ◌==◌, slice_index}
 use Rattle.std.specs.Prelude.{All, IsTrue, find, unwrap_or}
 use Rattle.std.specs.List.{list_any}
 use Rattle.std.proofs.lemmas.Bool.{cases_lt, eqb-true, le-leb, leb-true, lt-ltb}
@@ -12,16 +12,15 @@ use Rattle.te_model.specs.declared.certificate.Head.{Head}
 use Rattle.te_model.specs.declared.demand.DemandSet.{DemandSet}
 use Rattle.te_model.specs.declared.demand.DemandSet.TheVariants.{All as AllMatrices, Margin}
 use Rattle.te_model.specs.declared.units.TheConstants.{SHARE_UNIT}
-use Rattle.te_model.specs.Counting.{sum_below}
-use Rattle.te_model.specs.Network.{node_count, link_count, tail_of, head_of}
+use Rattle.te_model.specs.Network.{link_count, tail_of, head_of}
 use Rattle.te_model.specs.Path.{share, source_of, destination_of, routes_at, no_routes}
 use Rattle.te_model.specs.PathRouting.{IsPathSplit}
-use Rattle.te_model.specs.Certificate.{row_of, empty_row, potential, weight_of, plus_of, minus_of}
+use Rattle.te_model.specs.Certificate.{row_of, empty_row, potential, plus_of, minus_of}
 use Rattle.te_model.specs.Inequalities.{covers_share, keeps_margin, pays_weights, BlockHolds}
 use Rattle.te_model.proofs.Sums.{sum_below-same}
-use Rattle.shortest_path.specs.Paths.{ArePotentials, IsDistance}
+use Rattle.shortest_path.specs.Paths.{ArePotentials}
 use Rattle.routing.proofs.Quotients.{quotient_up-enough}
-use Rattle.ratio_certificate.specs.Best.{asked, added, taken_back, balances, needs_row, IsSource, AreRows, IsBestForAll, IsBestForMargin, IsBestScale, IsBestBlock}
+use Rattle.ratio_certificate.specs.Best.{asked, added, taken_back, needs_row, IsBestBlock}
 use Rattle.ratio_certificate.specs.Conditions.{IsRoutingWithin, IsSetWithin}
 use Rattle.ratio_certificate.proofs.Distances.{distance_known, distance_unique, path_of_pair}
 

@@ -1,6 +1,6 @@
 -- How long paths are, and how great distances and potentials.
-use Rattle.std.proofs.Common.{◌≡◌, ℕ, suc, ◌+◌, ◌*◌, ◌^◌, ◌<◌, ◌≤◌, Bool, true, false, ◌&&◌, ◌||◌, List, [], ◌∷◌, Option, Some, None, length, map, max, arith, refl, ap, sym, subst, ◌∙◌, inl, inr, nat_lt, ◌==◌, get_or, slice_index, slice_index_or}
-use Rattle.std.specs.Prelude.{All, IsTrue, unwrap_or, not, if◌then◌else◌}
+use Rattle.std.proofs.Common.{◌≡◌, ℕ, suc, ◌+◌, ◌*◌, ◌<◌, ◌≤◌, true, false, ◌&&◌, List, [], ◌∷◌, Option, Some, None, length, arith, refl, ap, sym, subst, ◌∙◌, inl, inr, nat_lt, ◌==◌, get_or, slice_index, slice_index_or}
+use Rattle.std.specs.Prelude.{All, unwrap_or, not}
 use Rattle.std.proofs.lemmas.Bool.{cases_lt, and_parts, ltb-true, eqb-true}
 use Rattle.std.proofs.lemmas.Bool.Decides.{nat_tests}
 use Rattle.std.proofs.lemmas.List.{get_or-map, length-map, get_or_past}
@@ -13,7 +13,7 @@ use Rattle.te_model.specs.Laws.{LinksJoinNodes}
 use Rattle.te_model.specs.Path.{chains, is_path, is_distinct, has_number, nodes_visited}
 use Rattle.te_model.proofs.Counts.{count_below-either, count_below-none, count_below-bound}
 use Rattle.te_model.proofs.Sums.{sum_below-pick}
-use Rattle.shortest_path.specs.Paths.{sum_along, IsDistance, AreDistances, ArePotentials, greatest}
+use Rattle.shortest_path.specs.Paths.{sum_along, IsDistance, ArePotentials, greatest}
 use Rattle.ratio_certificate.proofs.Shares.{listed_small}
 
 -- of n numbers, as many stand in a list without repetitions as it is long

@@ -7,6 +7,7 @@ pub mod Balances
 pub mod RowsMade
 pub mod Distances
 pub mod Shares
+pub mod Crossed
 pub mod NoBest
 pub mod Lengths
 pub mod Holding

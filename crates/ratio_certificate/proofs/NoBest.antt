@@ -1,5 +1,5 @@
 -- Where there is no best scale there is no best block.
-use Rattle.std.proofs.Common.{◌≡◌, ℕ, ◌<◌, ◌≤◌, true, false, List, Some, length, arith, slice_index, sym, ◌∙◌, subst}
+use Rattle.std.proofs.Common.{◌≡◌, ℕ, ◌<◌, true, false, List, Some, length, arith, sym, ◌∙◌}
 use Rattle.std.specs.Prelude.{Result, Ok, Err, Option, None, IfOk, IfNone}
 use Rattle.te_model.specs.declared.memory.Memory.{Memory}
 use Rattle.te_model.specs.declared.network.Network.{Network}
@@ -8,7 +8,7 @@ use Rattle.te_model.specs.declared.certificate.Block.{Block}
 use Rattle.te_model.specs.declared.demand.DemandSet.{DemandSet}
 use Rattle.te_model.specs.declared.demand.DemandSet.TheVariants.{All, Margin}
 use Rattle.te_model.specs.Path.{share, source_of, destination_of}
-use Rattle.ratio_certificate.specs.Best.{balances, IsBestBlock}
+use Rattle.ratio_certificate.specs.Best.{IsBestBlock}
 use Rattle.ratio_certificate.specs.Conditions.{IsSetWithin}
 use Rattle.ratio_certificate.specs.Margin.{HasNoScale}
 use Rattle.ratio_certificate.specs.Tables.{ArePairDistances}

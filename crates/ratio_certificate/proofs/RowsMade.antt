@@ -1,36 +1,80 @@
 -- Rows that are made source by source.
-use Rattle.std.proofs.Common.{◌≡◌, ℕ, suc, ◌+◌, ◌<◌, ◌≤◌, Bool, true, false, ◌||◌, ◌&&◌, List, [], ◌∷◌, ◌++◌, length, arith, refl, ap, sym, subst, ◌∙◌, inl, inr, nat_lt, ◌==◌, slice_index_or, get_or, set}
+use Rattle.std.proofs.Common.{◌≡◌, ℕ, ◌+◌, ◌<◌, Bool, true, false, ◌&&◌, List, [], ◌∷◌, ◌++◌, length, arith, refl, ap, sym, subst, ◌∙◌, inl, inr, nat_lt, ◌==◌, set, replicate, get_or}
 use Rattle.std.specs.Prelude.{All, IsTrue}
 use Rattle.std.specs.List.{list_any}
-use Rattle.std.proofs.lemmas.Bool.{cases_lt, lt-ltb, eq-eqb, eqb-true, and_from, and_parts}
-use Rattle.std.proofs.lemmas.List.Elements.{All-nil, All-cons, All-head, All-tail}
+use Rattle.std.proofs.lemmas.Bool.{cases_eq, cases_lt, lt-ltb, eq-eqb, and_from, and_parts}
+use Rattle.std.proofs.lemmas.List.{get_or-replicate, get_or-set_same, get_or-set_other, length-replicate, length-set}
+use Rattle.std.proofs.lemmas.List.Elements.{All-nil, All-head, All-tail}
 use Rattle.te_model.specs.declared.network.Network.{Network}
 use Rattle.te_model.specs.declared.route.PairRoutes.{PairRoutes}
 use Rattle.te_model.specs.declared.certificate.Row.{Row}
 use Rattle.te_model.specs.declared.demand.DemandSet.{DemandSet}
 use Rattle.te_model.specs.Path.{source_of}
 use Rattle.te_model.specs.Validity.{rows_ascend}
+use Rattle.te_model.proofs.Tests.{get_or_past}
 use Rattle.shortest_path.specs.Paths.{ArePotentials}
 use Rattle.te_model.specs.Network.{node_count}
 use Rattle.ratio_certificate.specs.Best.{needs_row, IsSource, AreRows}
+use Rattle.ratio_certificate.specs.Marks.{AreSourceMarks}
 use Rattle.ratio_certificate.specs.Tables.{IsTable, row_at}
 use Rattle.ratio_certificate.proofs.Pushed.{all_append, all_weaker, any_append, any_last}
 
--- pair p is one of node i that needs a row
-abbrev pub asks : List PairRoutes → DemandSet → (ℕ → ℕ) → ℕ → ℕ → Bool
-asks routes wanted shares i p = source_of routes p == i && needs_row wanted (shares p)
+pub no_marks : (nodes : ℕ) (routes : List PairRoutes) (wanted : DemandSet) (shares : ℕ → ℕ) → AreSourceMarks nodes 0 routes wanted shares (replicate nodes false)
+no_marks nodes routes wanted shares = record {
+  count = length-replicate nodes false;
+  marked = λ i is. let none = unmarked i in cc;
+  complete = λ p below. absurd (omega arith);
+}
+  where
+    unmarked : (i : ℕ) → get_or (replicate nodes false) i false ≡ false
+    unmarked i = elim (cases_lt i nodes) [
+      | inl lt ↦ get_or-replicate nodes i false false lt
+      | inr ge ↦ get_or_past (replicate nodes false) i false (omega (arith, ge, length-replicate nodes false))
+    ]
 
-pub source_found : (routes : List PairRoutes) (wanted : DemandSet) (shares : ℕ → ℕ) (i p : ℕ) → p < length routes → asks routes wanted shares i p ≡ true →
-    IsSource routes wanted shares i
-source_found routes wanted shares i p below is =
-    let both = and_parts (source_of routes p == i) (needs_row wanted (shares p)) is in
-    (p, below, eqb-true (source_of routes p) i both.0, both.1)
+pub mark_added : (nodes p : ℕ) (routes : List PairRoutes) (wanted : DemandSet) (shares : ℕ → ℕ) (marks : List Bool) → p < length routes → source_of routes p < nodes →
+    IsTrue (needs_row wanted (shares p)) → AreSourceMarks nodes p routes wanted shares marks →
+    AreSourceMarks nodes (p + 1) routes wanted shares (set marks (source_of routes p) true)
+mark_added nodes p routes wanted shares marks below inside needs are =
+    let s = source_of routes p in
+    let same : get_or (set marks s true) s false ≡ true = get_or-set_same marks s true false (omega (arith, inside, are.count)) in
+    record {
+      count = length-set marks s true ∙ are.count;
+      marked = λ i is. elim (cases_eq i s) [
+        | inl e ↦ (p, below, sym e, needs)
+        | inr ne ↦ are.marked i (sym (get_or-set_other marks s i true false ne) ∙ is)
+      ];
+      complete = λ q less asks. elim (cases_eq (source_of routes q) s) [
+        | inl e ↦ subst (λ i. get_or (set marks s true) i false ≡ true) (sym e) same
+        | inr ne ↦ get_or-set_other marks s (source_of routes q) true false ne ∙ are.complete q (earlier q less ne) asks
+      ];
+    }
+  where
+    earlier : (q : ℕ) → q < p + 1 → (source_of routes q ≡ source_of routes p → ⊥) → q < p
+    earlier q less ne = elim (cases_lt q p) [
+      | inl lt ↦ lt
+      | inr ge ↦ let e : q ≡ p = omega (arith, ge, less) in absurd (ne (ap (source_of routes) e))
+    ]
 
-pub no_source : (routes : List PairRoutes) (wanted : DemandSet) (shares : ℕ → ℕ) (i : ℕ) → ((p : ℕ) → p < length routes → asks routes wanted shares i p ≡ false) →
-    IsSource routes wanted shares i → ⊥
-no_source routes wanted shares i none (p, below, is, needs) =
-    let asked : asks routes wanted shares i p ≡ true = and_from _ _ (eq-eqb (source_of routes p) i is) needs in
-    let out = none p below in
+pub mark_left_out : (nodes p : ℕ) (routes : List PairRoutes) (wanted : DemandSet) (shares : ℕ → ℕ) (marks : List Bool) → needs_row wanted (shares p) ≡ false →
+    AreSourceMarks nodes p routes wanted shares marks → AreSourceMarks nodes (p + 1) routes wanted shares marks
+mark_left_out nodes p routes wanted shares marks needs are = record {
+  count = are.count;
+  marked = are.marked;
+  complete = λ q less asks. elim (cases_lt q p) [
+    | inl lt ↦ are.complete q lt asks
+    | inr ge ↦
+        let e : q ≡ p = omega (arith, ge, less) in
+        let contrary : false ≡ true = sym needs ∙ subst (λ k. needs_row wanted (shares k) ≡ true) e asks in
+        cc
+  ];
+}
+
+-- a node without a mark is no source
+pub no_source : (nodes : ℕ) (routes : List PairRoutes) (wanted : DemandSet) (shares : ℕ → ℕ) (marks : List Bool) (i : ℕ) →
+    AreSourceMarks nodes (length routes) routes wanted shares marks → get_or marks i false ≡ false → IsSource routes wanted shares i → ⊥
+no_source nodes routes wanted shares marks i are none (p, below, is, needs) =
+    let marked = subst (λ j. get_or marks j false ≡ true) is (are.complete p below needs) in
     cc
 
 rows_ascend-append : (rows : List Row) (r : Row) → rows_ascend rows ≡ true → All (λ s. s.source < r.source) rows → rows_ascend (rows ++ r ∷ []) ≡ true

@@ -1,6 +1,5 @@
 -- The shares on a link, and the numbers of a margin.
-use Rattle.std.proofs.Common.{◌≡◌, ℕ, ◌^◌, ◌<◌, ◌≤◌, List, length, get_or, slice_index, arith, inl, inr, subst, sym}
-use Rattle.std.specs.Prelude.{All, nat_le}
+use Rattle.std.proofs.Common.{◌≡◌, ℕ, ◌^◌, ◌<◌, ◌≤◌, List, length, slice_index, arith, inl, inr}
 use Rattle.std.proofs.lemmas.Bool.{cases_lt}
 use Rattle.std.proofs.lemmas.Bool.Decides.{nat_tests}
 use Rattle.std.proofs.lemmas.List.Elements.{All-get_or}
@@ -14,7 +13,7 @@ use Rattle.te_model.specs.PathRouting.{IsPathRouting}
 use Rattle.te_model.proofs.Tests.{get_or_past}
 use Rattle.routing.proofs.Splits.{share-le, splits_of}
 use Rattle.ratio_certificate.specs.Conditions.{IsSetWithin}
-use Rattle.ratio_certificate.specs.Margin.{AreMarginNumbers, AreScalable}
+use Rattle.ratio_certificate.specs.Margin.{AreScalable}
 use Rattle.ratio_certificate.specs.Tables.{AreValues}
 
 -- what each listed number is at most, every number is at most, also past the end

@@ -1,5 +1,5 @@
 -- Products fit 128 bits.
-use Rattle.std.proofs.Common.{◌≡◌, ℕ, ◌+◌, ◌-◌, ◌*◌, ◌^◌, ◌<◌, ◌≤◌, arith}
+use Rattle.std.proofs.Common.{ℕ, ◌-◌, ◌*◌, ◌^◌, ◌<◌, ◌≤◌, arith}
 use Rattle.std.proofs.lemmas.Nat.{mul-le}
 
 pub cost_fits : (a w : ℕ) → a ≤ 2 ^ 36 → w ≤ 512 * 2 ^ 60 → a * 1000000 * w < 2 ^ 128

@@ -1,22 +1,21 @@
 -- Under the starting weights every link with a share has a best block, and its need is below 10^19.
-use Rattle.std.proofs.Common.{◌≡◌, ℕ, zero, suc, ◌+◌, ◌-◌, ◌*◌, ◌^◌, ◌<◌, ◌≤◌, Bool, true, false, List, [], length, arith, refl, ap, sym, subst, ◌∙◌, inl, inr, slice_index, replicate}
-use Rattle.std.specs.Prelude.{All, IsTrue}
-use Rattle.std.proofs.lemmas.Bool.{cases_lt, le-leb, leb-true}
-use Rattle.std.proofs.lemmas.List.{get_or-replicate, length-replicate}
-use Rattle.std.proofs.Math.Nat.{mul-le-mul_left}
+use Rattle.std.proofs.Common.{◌≡◌, ℕ, zero, suc, ◌*◌, ◌^◌, ◌<◌, ◌≤◌, true, false, List, length, arith, ap, sym, ◌∙◌, inl, inr, slice_index}
+use Rattle.std.specs.Prelude.{IsTrue}
+use Rattle.std.proofs.lemmas.Bool.{cases_lt, le-leb}
+use Rattle.std.proofs.lemmas.List.{get_or-replicate}
 use Rattle.std.proofs.lemmas.Nat.{mul-le}
 use Rattle.te_model.specs.declared.network.Network.{Network}
 use Rattle.te_model.specs.declared.route.PairRoutes.{PairRoutes}
 use Rattle.te_model.specs.declared.certificate.Block.{Block}
 use Rattle.te_model.specs.declared.demand.DemandSet.{DemandSet}
 use Rattle.te_model.specs.declared.demand.DemandSet.TheVariants.{All as AllMatrices, Margin}
-use Rattle.te_model.specs.declared.units.TheConstants.{RATIO_UNIT, SHARE_UNIT}
+use Rattle.te_model.specs.declared.units.TheConstants.{SHARE_UNIT}
 use Rattle.te_model.specs.Counting.{sum_below}
 use Rattle.te_model.specs.Network.{link_count, capacity_of, is_well_formed}
-use Rattle.te_model.specs.Path.{share, source_of, destination_of}
+use Rattle.te_model.specs.Path.{source_of, destination_of}
 use Rattle.te_model.specs.Inequalities.{weighted_capacity, pays_weights}
 use Rattle.te_model.proofs.Sums.{sum_below-zero, sum_below-le}
-use Rattle.ratio_certificate.specs.Best.{asked, added, taken_back, balances, IsBestScale, IsBestBlock}
+use Rattle.ratio_certificate.specs.Best.{added, balances, IsBestBlock}
 use Rattle.ratio_certificate.specs.Conditions.{IsRoutingWithin, IsSetWithin}
 use Rattle.ratio_certificate.specs.Made.{starting_weights}
 use Rattle.ratio_certificate.specs.Margin.{HasNoScale}

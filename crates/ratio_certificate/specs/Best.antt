@@ -1,6 +1,6 @@
 -- Best blocks: of a link and given weights the block whose a / b is as small as the shares on the link allow
 -- (the dual of the linear program of Applegate and Cohen, 2003, with its weights held fast).
-use Rattle.std.specs.Prelude.{◌≡◌, ℕ, ◌+◌, ◌-◌, ◌*◌, ◌^◌, ◌<◌, ◌≤◌, Bool, true, false, IsTrue, List, [], length, slice_index, nat_lt, nat_le, ◌==◌, All}
+use Rattle.std.specs.Prelude.{◌≡◌, ℕ, ◌-◌, ◌*◌, ◌^◌, ◌<◌, ◌≤◌, Bool, true, false, IsTrue, List, [], length, slice_index, nat_lt, nat_le, ◌==◌, All}
 use Rattle.std.specs.List.{list_any}
 use Rattle.te_model.specs.declared.network.Network.{Network}
 use Rattle.te_model.specs.declared.route.PairRoutes.{PairRoutes}

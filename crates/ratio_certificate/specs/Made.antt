@@ -1,5 +1,5 @@
 -- Made certificates: the best blocks of the starting weights (after Applegate and Cohen, 2003).
-use Rattle.std.specs.Prelude.{◌≡◌, ℕ, ◌<◌, ◌≤◌, IsTrue, List, length, replicate, All, ◌==◌}
+use Rattle.std.specs.Prelude.{ℕ, ◌<◌, ◌≤◌, IsTrue, List, length, replicate, All, ◌==◌}
 use Rattle.std.specs.List.{list_any}
 use Rattle.te_model.specs.declared.network.Network.{Network}
 use Rattle.te_model.specs.declared.route.PairRoutes.{PairRoutes}

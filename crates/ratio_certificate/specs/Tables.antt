@@ -3,7 +3,7 @@ use Rattle.std.specs.Prelude.{◌≡◌, ℕ, ◌<◌, List, [], Some, length, s
 use Rattle.te_model.specs.declared.network.Network.{Network}
 use Rattle.te_model.specs.declared.route.PairRoutes.{PairRoutes}
 use Rattle.te_model.specs.Network.{node_count}
-use Rattle.te_model.specs.Path.{source_of, destination_of, share}
+use Rattle.te_model.specs.Path.{source_of, destination_of}
 use Rattle.shortest_path.specs.Paths.{IsDistance, ArePotentials}
 
 -- the least sum of weights from the source to the destination of each pair

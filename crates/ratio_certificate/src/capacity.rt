@@ -8,26 +8,7 @@ ghost use Rattle.te_model.specs.Inequalities.{weighted_capacity};
 ghost use Rattle.te_model.specs.Validity.{has_block_numbers, has_small_numbers};
 ghost use Rattle.ratio_certificate.specs.Need.{HasNumbers, IsGreatestNeed, IsNeed};
 
-use te_model::{Block, Network, RATIO_UNIT, SHARE_UNIT, ceil_div};
-
-/// The sum of capacities by weights.
-#[tactic(auto, using(crate::proofs::Sizes::sizes))]
-fn weighted_capacity(net: &Network, block: &Block) -> u128
-    requires links { link_count net.now ≤ FORMAT_1.links }
-    requires capacities { (h : ℕ) → capacity_of net.now h ≤ 2 ^ 32 }
-    requires count { length block.now.weights ≡ link_count net.now }
-    requires weights { (h : ℕ) → weight_of block.now h ≤ 2 ^ 28 }
-    ensures sum { result ≡ weighted_capacity net.now block.now }
-    ensures bound { result ≤ FORMAT_1.links * 2 ^ 60 }
-{
-    let links = net.links.as_slice();
-    let weights = block.weights.as_slice();
-    let mut total: u128 = 0;
-    for h in 0..links.len() {
-        total += links[h].capacity as u128 * weights[h] as u128;
-    }
-    total
-}
+use te_model::{Block, Network, RATIO_UNIT, SHARE_UNIT, ceil_div, weighted_capacity};
 
 /// The need of a block whose numbers are small. One side is divided, so that every product fits.
 #[tactic(auto, using(crate::proofs::Sizes::sizes))]

@@ -7,7 +7,8 @@
 
 mod best;
 mod capacity;
-mod copy;
+mod crossing;
+mod crossings;
 mod making;
 mod margin;
 mod metric;

@@ -2,20 +2,23 @@
 ghost use Rattle.std.specs.Prelude.{◌≡◌, ◌<◌, ◌≤◌, ◌^◌, ℕ, IfOk, IfSome, IfNone, All, IsTrue, false, true, length, slice_index};
 ghost use Rattle.te_model.specs.Inequalities.{Holds};
 ghost use Rattle.te_model.specs.Network.{is_well_formed, link_count};
+ghost use Rattle.te_model.specs.Path.{share};
 ghost use Rattle.te_model.specs.Validity.{AscendByLink, IsValid};
 ghost use Rattle.te_model.specs.declared.certificate.Block.{Block};
 ghost use Rattle.ratio_certificate.specs.Conditions.{IsRoutingWithin, IsSetWithin};
+ghost use Rattle.ratio_certificate.specs.Crossings.{weight_of, AreCrossings};
 ghost use Rattle.ratio_certificate.specs.Made.{starting_weights, AreStartingBlocks, HasBlock, HasShare, IsStartingBlock};
 ghost use Rattle.ratio_certificate.specs.Metric.{IsMetric};
 ghost use Rattle.ratio_certificate.specs.Need.{IsGreatestNeed};
 
 use crate::best::best_block;
 use crate::capacity::greatest_need;
-use crate::copy::copy_of;
-use crate::metric::{Metric, metric_of, shares_of};
+use crate::crossing::{Crossing, Crossings};
+use crate::crossings::{crossings_of, shares_by};
+use crate::metric::{Metric, metric_of};
 use routing::Routing;
 use std::alloc::Global;
-use te_model::{Block, Certificate, DemandSet, Head, Items, Memory, Network};
+use te_model::{Block, Certificate, DemandSet, Head, Items, Memory, Network, copy_network};
 
 /// The weight of every link from which a certificate starts.
 const STARTING_WEIGHT: u64 = 1 << 20;
@@ -41,17 +44,19 @@ fn starting_block(
     routing: &Routing,
     set: &DemandSet,
     link: u32,
+    crossings: &[Crossing],
 ) -> Result<Option<Block>, Memory>
     requires network { IsTrue (is_well_formed net.now) }
     requires metric { IsMetric net.now routing.now.routes metric.now }
     requires weights { metric.now.weights ≡ starting_weights net.now }
     requires routing { IsRoutingWithin net.now routing.now.routes }
     requires set { IsSetWithin (length routing.now.routes) set.now }
+    requires crossings { (q : ℕ) → weight_of crossings.now q ≡ share routing.now.routes q link }
     ensures link { IfOk result (λ o. IfSome o (λ b. b.link ≡ link)) }
     ensures best { IfOk result (λ o. IfSome o (λ b. IsStartingBlock net.now routing.now.routes set.now b)) }
     ensures none { IfOk result (λ o. IfNone o (HasShare routing.now.routes link → ⊥)) }
 {
-    let shares = shares_of(alloc, routing, link)?;
+    let shares = shares_by(alloc, crossings, routing.routes.as_slice().len())?;
     if has_share(&shares) {
         best_block(alloc, net, metric, routing, set, link, &shares)
     } else {
@@ -66,17 +71,27 @@ fn starting_blocks(
     metric: &Metric,
     routing: &Routing,
     set: &DemandSet,
+    table: &[Crossings],
 ) -> Result<Vec<Block>, Memory>
     requires network { IsTrue (is_well_formed net.now) }
     requires metric { IsMetric net.now routing.now.routes metric.now }
     requires weights { metric.now.weights ≡ starting_weights net.now }
     requires routing { IsRoutingWithin net.now routing.now.routes }
     requires set { IsSetWithin (length routing.now.routes) set.now }
+    requires table { AreCrossings net.now routing.now.routes table.now }
     ensures { IfOk result (λ b. AreStartingBlocks (link_count net.now) net.now routing.now.routes set.now b.items) }
 {
     let mut blocks = Vec::new(alloc);
     for e in 0..net.links.as_slice().len() {
-        match starting_block(alloc, net, metric, routing, set, e as u32)? {
+        match starting_block(
+            alloc,
+            net,
+            metric,
+            routing,
+            set,
+            e as u32,
+            table[e].as_slice(),
+        )? {
             Some(block) => blocks.push(block)?,
             None => {}
         }
@@ -111,9 +126,10 @@ pub fn make(
     let links = net.links.as_slice().len();
     let weights = vec![in alloc; STARTING_WEIGHT; links]?;
     let metric = metric_of(alloc, net, routing, weights)?;
-    let blocks = starting_blocks(alloc, net, &metric, routing, &set)?;
+    let table = crossings_of(alloc, net, routing)?;
+    let blocks = starting_blocks(alloc, net, &metric, routing, &set, &table)?;
     let ratio = greatest_need(net, &blocks) as u64;
-    let network = copy_of(alloc, net)?;
+    let network = copy_network(alloc, net)?;
     let routes = routing.copy(alloc)?.routes;
     Ok(Certificate {
         head: Head {

@@ -1,14 +1,16 @@
 //! The rows of a best block.
-ghost use Rattle.std.specs.Prelude.{◌≡◌, ◌<◌, ◌≤◌, ◌&&◌, ◌==◌, IfOk, IfSome, IfNone, false, true, length, slice_index};
+ghost use Rattle.std.specs.Prelude.{◌≡◌, ◌<◌, ◌≤◌, ℕ, IfOk, IfSome, IfNone, false, true, length, slice_index, slice_index_or};
 ghost use Rattle.te_model.specs.Laws.{PairsJoinNodes};
-ghost use Rattle.ratio_certificate.specs.Best.{needs_row, AreRows, IsSource};
+ghost use Rattle.te_model.specs.Path.{source_of};
+ghost use Rattle.ratio_certificate.specs.Best.{needs_row, AreRows};
+ghost use Rattle.ratio_certificate.specs.Marks.{AreSourceMarks};
 ghost use Rattle.ratio_certificate.specs.Metric.{IsMetric};
 ghost use Rattle.ratio_certificate.specs.Tables.{row_at};
 
 use crate::metric::Metric;
 use routing::Routing;
 use std::alloc::Global;
-use te_model::{DemandSet, Items, Memory, Network, PairRoutes, Row};
+use te_model::{DemandSet, Items, Memory, Network, Row};
 
 /// Whether the source of a pair with this share has a row.
 fn needs_row(set: &DemandSet, share: u64) -> bool
@@ -20,26 +22,26 @@ fn needs_row(set: &DemandSet, share: u64) -> bool
     }
 }
 
-/// Whether the pair of this share is one of the node that needs a row.
-fn asks_for_row(route: &PairRoutes, set: &DemandSet, share: u64, node: u32) -> bool
-    ensures { result ≡ (route.now.pair.src == node && needs_row set.now share) }
-{
-    route.pair.src == node && needs_row(set, share)
-}
-
-/// Whether the node is the source of a pair that needs a row.
-fn is_source(routing: &Routing, set: &DemandSet, shares: &[u64], node: u32) -> bool
-    requires { length shares.now ≡ length routing.now.routes }
-    ensures some { result ≡ true → IsSource routing.now.routes set.now (slice_index shares.now) node }
-    ensures none { result ≡ false → IsSource routing.now.routes set.now (slice_index shares.now) node → ⊥ }
+/// Which nodes are the source of a pair that needs a row.
+fn sources_of(
+    alloc: Global,
+    nodes: usize,
+    routing: &Routing,
+    set: &DemandSet,
+    shares: &[u64],
+) -> Result<Vec<bool>, Memory>
+    requires shares { length shares.now ≡ length routing.now.routes }
+    requires pairs { (p : ℕ) → p < length routing.now.routes → source_of routing.now.routes p < nodes }
+    ensures { IfOk result (λ m. AreSourceMarks nodes (length routing.now.routes) routing.now.routes set.now (slice_index shares.now) m.items) }
 {
     let routes = routing.routes.as_slice();
+    let mut marks = vec![in alloc; false; nodes]?;
     for p in 0..routes.len() {
-        if asks_for_row(&routes[p], set, shares[p], node) {
-            return true;
+        if needs_row(set, shares[p]) {
+            marks[routes[p].pair.src as usize] = true;
         }
     }
-    false
+    Ok(marks)
 }
 
 /// The row of a node by the table of potentials.
@@ -55,22 +57,20 @@ fn row_of(alloc: Global, table: &[Items<u64>], node: usize) -> Result<Row, Memor
     })
 }
 
-/// The row of a node if it is the source of a pair that needs one.
-fn row_if_asked(
+/// The row of a node if it is marked.
+fn row_if_marked(
     alloc: Global,
     table: &[Items<u64>],
-    routing: &Routing,
-    set: &DemandSet,
-    shares: &[u64],
+    marks: &[bool],
     node: usize,
 ) -> Result<Option<Row>, Memory>
     requires inside { node < length table.now }
     requires few { length table.now ≤ 64 }
-    requires shares { length shares.now ≡ length routing.now.routes }
-    ensures some { IfOk result (λ o. IfSome o (λ r. (r ≡ record { source = node; potential = row_at table.now node }) × IsSource routing.now.routes set.now (slice_index shares.now) node)) }
-    ensures none { IfOk result (λ o. IfNone o (IsSource routing.now.routes set.now (slice_index shares.now) node → ⊥)) }
+    requires marks { length marks.now ≡ length table.now }
+    ensures some { IfOk result (λ o. IfSome o (λ r. (r ≡ record { source = node; potential = row_at table.now node }) × (slice_index_or marks.now node false ≡ true))) }
+    ensures none { IfOk result (λ o. IfNone o (slice_index_or marks.now node false ≡ false)) }
 {
-    if is_source(routing, set, shares, node as u32) {
+    if marks[node] {
         let row = row_of(alloc, table, node)?;
         Ok(Some(row))
     } else {
@@ -93,9 +93,11 @@ pub fn rows_of(
     requires shares { length shares.now ≡ length routing.now.routes }
     ensures { IfOk result (λ r. AreRows net.now metric.now.weights routing.now.routes set.now (slice_index shares.now) r.items) }
 {
+    let nodes = net.names.as_slice().len();
+    let marks = sources_of(alloc, nodes, routing, set, shares)?;
     let mut rows = Vec::new(alloc);
-    for i in 0..net.names.as_slice().len() {
-        match row_if_asked(alloc, metric.table.as_slice(), routing, set, shares, i)? {
+    for i in 0..nodes {
+        match row_if_marked(alloc, metric.table.as_slice(), &marks, i)? {
             Some(row) => rows.push(row)?,
             None => {}
         }

@@ -1,5 +1,4 @@
-use Rattle.std.proofs.Common.{List, ℕ, length, slice_index, subst}
-use Rattle.ratio_certificate.specs.Margin.{HasNoScale}
+use Rattle.std.proofs.Common.{length}
 use Rattle.ratio_certificate.proofs.Shares.{scalable, shares_small}
 use Rattle.ratio_certificate.proofs.best.best_block.Goals as goal
 

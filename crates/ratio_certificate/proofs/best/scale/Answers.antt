@@ -1,5 +1,4 @@
-use Rattle.std.proofs.Common.{◌≡◌, List, ℕ, slice_index, subst, rules, sym, ap, ◌∙◌}
-use Rattle.ratio_certificate.specs.Margin.{HasNoScale}
+use Rattle.std.proofs.Common.{◌≡◌, List, ℕ, slice_index, subst, rules, ap, ◌∙◌}
 use Rattle.ratio_certificate.specs.Tables.{ArePairDistances}
 use Rattle.ratio_certificate.proofs.NoBest.{no_best_block, none_of}
 use Rattle.ratio_certificate.proofs.best.scale.Goals as goal

@@ -1,4 +1,4 @@
-use Rattle.std.proofs.Common.{◌≡◌, ℕ, ◌+◌, ◌-◌, ◌/◌, ◌≤◌, false, arith, slice_index, sym, ◌∙◌}
+use Rattle.std.proofs.Common.{◌≡◌, ◌+◌, ◌-◌, ◌/◌, false, arith, slice_index, sym, ◌∙◌}
 use Rattle.ratio_certificate.specs.Best.{balances}
 use Rattle.ratio_certificate.proofs.Balances.{balances_no_more}
 use Rattle.ratio_certificate.proofs.margin.greatest_balance.Goals as goal

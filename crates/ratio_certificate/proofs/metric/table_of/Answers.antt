@@ -1,4 +1,4 @@
-use Rattle.std.proofs.Common.{◌≡◌, ℕ, ◌+◌, ◌<◌, List, [], ◌∷◌, length, sym, subst}
+use Rattle.std.proofs.Common.{◌≡◌, ℕ, ◌+◌, ◌<◌, List, [], length, sym, subst}
 use Rattle.shortest_path.specs.Paths.{ArePotentials}
 use Rattle.ratio_certificate.specs.Tables.{row_at}
 use Rattle.ratio_certificate.proofs.Pushed.{pushed_count, pushed_each}
