@@ -4,3 +4,4 @@ pub mod Merged
 pub mod Rescaling
 pub mod Left
 pub mod Spreading
+pub mod SampleLaws

@@ -15,3 +15,6 @@ mod stand_in;
 pub use mode::Mode;
 pub use rates::Recovered;
 pub use recovery::recover;
+
+#[cfg(test)]
+mod tests;

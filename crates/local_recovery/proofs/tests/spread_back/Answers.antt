@@ -1,0 +1,11 @@
+use Rattle.std.proofs.Common.{◌≡◌, [], ◌∷◌, sym, subst, ◌∙◌}
+use Rattle.local_recovery.specs.Spread.{IsSublist}
+use Rattle.local_recovery.specs.Rates.{pairs_of}
+use Rattle.local_recovery.specs.Samples.{straight, back}
+use Rattle.local_recovery.proofs.SampleLaws.{sample_sublist}
+use Rattle.local_recovery.proofs.tests.spread_back.Goals as goal
+
+pub spread-requires : goal.spread-requires
+spread-requires c =
+    subst (λ ps. IsSublist ps c.new.result) (sym c.in_ok-rates.ensures)
+    (subst (IsSublist (straight ∷ [])) (sym (c.new.ensures ∙ c.in_ok-list.ensures.items)) sample_sublist)
