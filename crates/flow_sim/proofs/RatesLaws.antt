@@ -1,38 +1,27 @@
 -- What the conditions of a step say in numbers.
 use Rattle.std.proofs.Common.{◌≡◌, ℕ, zero, suc, ◌+◌, ◌*◌, ◌<◌, ◌≤◌, ◌^◌, true, List, [], ◌∷◌, length, sum, arith, refl, ap, ◌∙◌, inl, inr, ◌==◌, ◌&&◌, ◌||◌}
-use Rattle.std.specs.Prelude.{nat_lt, slice_index_or}
+use Rattle.std.specs.Prelude.{All, nat_lt, slice_index_or}
 use Rattle.std.proofs.lemmas.Bool.{cases_lt}
 use Rattle.std.proofs.lemmas.Bool.Decides.{nat_tests}
-use Rattle.std.proofs.lemmas.List.{get_or_past, length-map}
-use Rattle.std.proofs.lemmas.List.Elements.{All-get_or}
+use Rattle.std.proofs.lemmas.List.{length-map}
+use Rattle.std.proofs.lemmas.List.Elements.{All-get_or, All-weaker}
 use Rattle.std.proofs.lemmas.List.Sums.{sum-map}
 use Rattle.te_model.specs.declared.network.Network.{Network}
-use Rattle.te_model.specs.declared.network.Link.{Link}
 use Rattle.te_model.specs.declared.route.PairRoutes.{PairRoutes}
 use Rattle.te_model.specs.declared.route.PathShare.{PathShare}
-use Rattle.te_model.specs.Network.{node_count, link_count, capacity_of, no_link, is_well_formed}
-use Rattle.te_model.specs.Path.{no_routes}
+use Rattle.te_model.specs.Network.{node_count, link_count, is_well_formed}
+use Rattle.te_model.specs.Path.{no_routes, is_path, chains, is_distinct, nodes_visited}
 use Rattle.te_model.proofs.ApportionLaws.{index_le_sum}
-use Rattle.te_model.proofs.Tests.{list_all_at}
-use Rattle.te_model.proofs.SoundLinks.{sound_links}
+use Rattle.te_model.proofs.Tests.{and_true, list_all_at}
+use Rattle.routing.proofs.Cutting.{chained_links}
 use Rattle.te_model.specs.declared.route.Pair.{Pair}
 use Rattle.te_model.specs.declared.units.TheConstants.{SHARE_UNIT}
 use Rattle.routing.specs.Split.{total_weight}
 use Rattle.local_recovery.specs.Rates.{has_rates, have_rates, pairs_of, no_pair, ArePairs, IsRates}
 use Rattle.flow_sim.specs.Traffic.{paths_of, weights, CanSplit}
 
-pub few_links : (net : Network) → is_well_formed net ≡ true → link_count net ≤ 512
-few_links net formed = grind (arith, nat_tests)
-
 few_nodes : (net : Network) → is_well_formed net ≡ true → node_count net ≤ 64
 few_nodes net formed = grind (arith, nat_tests)
-
-pub small_capacities : (net : Network) → is_well_formed net ≡ true → (e : ℕ) → capacity_of net e ≤ 2 ^ 32
-small_capacities net formed e =
-    elim (cases_lt e (link_count net)) [
-      | inl below ↦ let sound = sound_links net formed e below in grind (arith, nat_tests)
-      | inr past ↦ omega (arith, ap (λ (l : Link). l.capacity) (get_or_past net.links e no_link past))
-    ]
 
 -- a number for each pair, which rises with the pairs
 abbrev pair_number : List Pair → ℕ → ℕ
@@ -84,3 +73,14 @@ pub can_split : (net : Network) (rates : List PairRoutes) → IsRates net rates 
 can_split net rates is split p below =
     split_of (paths_of rates p) (All-get_or (λ (r : PairRoutes). length r.paths ≤ 4096) rates p no_routes below is.few)
     (list_all_at has_rates rates p no_routes split refl)
+
+-- the links of the paths are those of the network
+pub links_stand : (net : Network) (rates : List PairRoutes) → IsRates net rates → (p : ℕ) → p < length rates →
+    All (λ (s : PathShare). All (λ e. e < link_count net) s.links) (paths_of rates p)
+links_stand net rates is p below =
+    let routes = slice_index_or rates p no_routes in
+    All-weaker (λ (s : PathShare). is_path net routes.pair.src routes.pair.dst s.links ≡ true) (λ (s : PathShare). All (λ e. e < link_count net) s.links)
+    (λ s path. chained_links net routes.pair.src routes.pair.dst s.links
+    (and_true (chains net routes.pair.src routes.pair.dst s.links) (is_distinct (nodes_visited net routes.pair.src s.links)) path).0)
+    routes.paths
+    (All-get_or (λ (r : PairRoutes). All (λ (s : PathShare). is_path net r.pair.src r.pair.dst s.links ≡ true) r.paths) rates p no_routes below is.paths)

@@ -1,205 +1,298 @@
 -- A round of the code is a round of the definition.
-use Rattle.std.proofs.Common.{◌≡◌, ℕ, zero, suc, ◌+◌, ◌-◌, ◌<◌, ◌≤◌, ◌^◌, Bool, true, false, List, [], ◌∷◌, ◌++◌, length, map, sum, slice_index, arith, refl, ap, sym, ◌∙◌, ◌==◌, add-one, subst}
-use Rattle.std.specs.Prelude.{if◌then◌else◌, slice_index_or}
+use Rattle.std.proofs.Common.{◌≡◌, ℕ, zero, suc, ◌+◌, ◌-◌, ◌<◌, ◌≤◌, ◌^◌, Bool, true, false, List, [], ◌∷◌, length, map, min, sum, slice_index, arith, refl, ap, sym, ◌∙◌, ◌==◌, add-one, subst, inl, inr}
+use Rattle.std.specs.Prelude.{if◌then◌else◌, nat_lt, slice_index_or}
 use Rattle.std.specs.List.{range_with_len}
-use Rattle.std.proofs.lemmas.List.{get_or-map, length-map}
+use Rattle.std.proofs.lemmas.Bool.{cases_lt, eq-eqb}
+use Rattle.std.proofs.lemmas.Bool.Decides.{nat_tests}
+use Rattle.std.proofs.lemmas.List.{get_or_default, get_or_past, length-map}
 use Rattle.std.proofs.lemmas.List.FromFn.{length-map-range_with_len}
 use Rattle.te_model.specs.declared.network.Network.{Network}
 use Rattle.te_model.specs.declared.route.PathShare.{PathShare}
 use Rattle.te_model.specs.declared.route.PairRoutes.{PairRoutes}
 use Rattle.te_model.specs.Counting.{sum_below}
 use Rattle.te_model.specs.Network.{link_count}
-use Rattle.te_model.proofs.Sums.{sum_below-same, sum_below-le}
+use Rattle.te_model.proofs.Sums.{sum_below-same, sum_below-le, sum_below-zero}
 use Rattle.te_model.proofs.ApportionLaws.{sum_made, sum_is_below}
 use Rattle.flow_sim.specs.declared.state.State.{State}
-use Rattle.flow_sim.specs.Step.{Setting, passed, used, units, before_round, lost_failed_before, lost_full_before}
-use Rattle.flow_sim.specs.State.{IsState, IsRound}
-use Rattle.flow_sim.specs.Tables.{amount_at, total_at, passed_at, loss_at}
-use Rattle.flow_sim.specs.Traffic.{concat_below, paths_of, flow_paths, hop_of, flow_hops, no_path, step_setting}
-use Rattle.flow_sim.proofs.Conservation.{used-le, left_is, passed-le, kept_so_far}
-use Rattle.flow_sim.proofs.TableLaws.{read_made}
-use Rattle.flow_sim.proofs.RoundLaws.{AreTables, passed_is, used_is}
+use Rattle.flow_sim.specs.Asking.{numbers_below, asking, arrived}
+use Rattle.flow_sim.specs.Fair.{fair, fair_shares}
+use Rattle.flow_sim.specs.Queues.{queues_in, asks, AreQueues}
+use Rattle.flow_sim.specs.Serving.{Flow, flow_at, flow_served, link_serves, served_by, IsAbsent, HasShape, HasRoomFor, IsServed, IsRound, AreApart}
+use Rattle.flow_sim.specs.State.{IsState}
+use Rattle.flow_sim.specs.Step.{Setting, arrivals, served, passed, used, units, lost, before_round, lost_failed_before, lost_full_before}
+use Rattle.flow_sim.specs.Traffic.{flow_paths, no_path, step_setting}
+use Rattle.flow_sim.proofs.Conservation.{kept_so_far}
+use Rattle.flow_sim.proofs.Level.{fair-sum}
+use Rattle.flow_sim.proofs.OwnShares.{padded, passing_sum, own_sum, placed, passing_ascend, passing_place, serves_fairly}
+use Rattle.flow_sim.proofs.QueueLaws.{numbers_below-same}
+use Rattle.flow_sim.proofs.ServeLaws.{map-same}
+use Rattle.flow_sim.proofs.TableLaws.{zero_read, next_fits}
 
-map-append' : {A : Type 0} (h : A → ℕ) (xs ys : List A) → map h (xs ++ ys) ≡ map h xs ++ map h ys
-map-append' h [] ys = refl
-map-append' h (x ∷ xs) ys = ap (λ zs. h x ∷ zs) (map-append' h xs ys)
+-- the queues of a round hold the flows that ask their links
+pub record AreAsking (s : Setting) (r : ℕ) (queues : List (List ℕ)) : Type 0 where
+  pub links : length queues ≡ s.links
+  pub asking : (e : ℕ) → e < s.links → slice_index_or queues e [] ≡ asking s r e
 
-concat_below-map : {A : Type 0} (n : ℕ) (h : A → ℕ) (piece : ℕ → List A) →
-    concat_below n (λ p. map h (piece p)) ≡ map h (concat_below n piece)
-concat_below-map zero h piece = refl
-concat_below-map (suc n) h piece =
-    ap (λ xs. xs ++ map h (piece n)) (concat_below-map n h piece) ∙ sym (map-append' h (concat_below n piece) (piece n))
+hop_asks : (path : PathShare) (r e links : ℕ) → e < links → asks path r e ≡ (slice_index_or path.links r links == e)
+hop_asks path r e links inside =
+    elim (cases_lt r (length path.links)) [
+      | inl lt ↦
+          let test : nat_lt r (length path.links) ≡ true = grind (arith, nat_tests) in
+          rw test (ap (λ k. k == e) (get_or_default path.links r 0 links lt))
+      | inr ge ↦
+          let test : nat_lt r (length path.links) ≡ false = grind (arith, nat_tests) in
+          let past : slice_index_or path.links r links ≡ links = get_or_past path.links r links ge in
+          let other : (links == e) ≡ false = grind (arith, nat_tests) in
+          rw (test, past) (sym other)
+    ]
 
-pub tables_are : (net : Network) (failed : List Bool) (rates : List PairRoutes) (demand : List ℕ) (r : ℕ) (keys : List ℕ) (state : State) →
-    IsState (step_setting net failed rates demand) r state → keys ≡ flow_hops rates r (link_count net) →
-    AreTables (step_setting net failed rates demand) r (before_round (step_setting net failed rates demand) r) failed keys
-    state.units.items state.left.items
-tables_are net failed rates demand r keys state known made =
-    let h = λ (s : PathShare). hop_of s r (link_count net) in
-    let as_map : keys ≡ map h (flow_paths rates) = made ∙ concat_below-map (length rates) h (paths_of rates) in
-    record {
-      flows = ap length as_map ∙ length-map (flow_paths rates) h;
-      links = known.links;
-      hop = λ f below. ap (λ xs. slice_index xs f) as_map ∙ get_or-map h (flow_paths rates) f no_path 0 below;
-      units = known.units_are;
-      left_is = known.left_is;
-      marks = λ e. refl;
-    }
+pub asking_are : (net : Network) (failed : List Bool) (rates : List PairRoutes) (demand : List ℕ) (r : ℕ) (rounds : List (List (List ℕ))) →
+    AreQueues (flow_paths rates) (link_count net) rounds → r < length rounds →
+    AreAsking (step_setting net failed rates demand) r (queues_in rounds r)
+asking_are net failed rates demand r rounds so below = record {
+  links = so.queues r below;
+  asking = λ e inside.
+      so.asking r e (omega (arith, so.queues r below))
+      ∙ numbers_below-same (length (flow_paths rates)) (λ f. asks (slice_index_or (flow_paths rates) f no_path) r e)
+      (λ f. (step_setting net failed rates demand).hop f r == e)
+      (λ f f_below. hop_asks (slice_index_or (flow_paths rates) f no_path) r e (link_count net) inside);
+}
 
-pub used_are : (s : Setting) (r : ℕ) (failed : List Bool) (keys amounts left passed' used' : List ℕ) →
-    AreTables s r (before_round s r) failed keys amounts left →
-    passed' ≡ map (passed_at failed keys amounts left) (range_with_len 0 (length keys)) →
-    used' ≡ map (total_at keys passed') (range_with_len 0 s.links) → (e : ℕ) → e < s.links →
-    slice_index used' e ≡ used s (before_round s r) r e
-used_are s r failed keys amounts left passed' used' tables passed_made used_made e inside =
-    let now = before_round s r in
-    read_made (total_at keys passed') s.links e used' used_made inside
-    ∙ (ap (λ n. sum_below n (amount_at keys passed' e)) tables.flows
-    ∙ (sum_below-same s.flows (amount_at keys passed' e) (λ f. if s.hop f r == e then passed s now r f else 0) (λ f below.
-    rw (tables.hop f below, passed_here f below) refl)
-    ∙ sym (used_is s now r e inside)))
+-- a queue in which a flow stands is that of a link
+queue_is : (s : Setting) (r : ℕ) (queues : List (List ℕ)) → AreAsking s r queues → (e i : ℕ) → i < length (slice_index_or queues e []) →
+    (e < s.links) × (slice_index_or queues e [] ≡ asking s r e) × (i < length (asking s r e))
+queue_is s r queues are e i inside =
+    elim (cases_lt e s.links) [
+      | inl lt ↦ let q = are.asking e lt in (lt, q, omega (arith, inside, ap length q))
+      | inr ge ↦ absurd (omega (arith, inside, ap length (get_or_past queues e [] (omega (arith, ge, are.links)))))
+    ]
+
+pub apart_are : (s : Setting) (r : ℕ) (queues : List (List ℕ)) → AreAsking s r queues → AreApart s.flows queues
+apart_are s r queues are = record {
+  inside = λ e i inside.
+      let q = queue_is s r queues are e i inside in
+      let at = placed s.flows (λ f. s.hop f r == e) i q.2 in
+      omega (arith, at.below, ap (λ xs. slice_index xs i) q.1);
+  ascending = λ e i j first inside.
+      let q = queue_is s r queues are e j inside in
+      omega (
+        arith,
+        passing_ascend s.flows (λ f. s.hop f r == e) i j first q.2,
+        ap (λ xs. slice_index xs i) q.1,
+        ap (λ xs. slice_index xs j) q.1,
+      );
+  apart = λ d e i j i_inside j_inside same.
+      let p = queue_is s r queues are d i i_inside in
+      let q = queue_is s r queues are e j j_inside in
+      let a = placed s.flows (λ f. s.hop f r == d) i p.2 in
+      let b = placed s.flows (λ f. s.hop f r == e) j q.2 in
+      let flow : slice_index (asking s r d) i ≡ slice_index (asking s r e) j =
+      sym (ap (λ xs. slice_index xs i) p.1) ∙ (same ∙ ap (λ xs. slice_index xs j) q.1) in
+      one_hop (s.hop (slice_index (asking s r d) i) r) (s.hop (slice_index (asking s r e) j) r) d e (ap (λ f. s.hop f r) flow) a.passes b.passes;
+}
   where
-    passed_here : (f : ℕ) → f < s.flows → slice_index passed' f ≡ passed s (before_round s r) r f
-    passed_here f below =
-        read_made (passed_at failed keys amounts left) (length keys) f passed' passed_made (omega (arith, tables.flows))
-        ∙ passed_is s r (before_round s r) failed keys amounts left tables f below
+    one_hop : (x y d e : ℕ) → x ≡ y → (x == d) ≡ true → (y == e) ≡ true → d ≡ e
+    one_hop x y d e same p q = grind (arith, nat_tests)
 
--- the total of what passed over a link is what it used
-total_is : (s : Setting) (r : ℕ) (failed : List Bool) (keys amounts left passed' : List ℕ) →
-    AreTables s r (before_round s r) failed keys amounts left →
-    passed' ≡ map (passed_at failed keys amounts left) (range_with_len 0 (length keys)) → (e : ℕ) → e < s.links →
-    total_at keys passed' e ≡ used s (before_round s r) r e
-total_is s r failed keys amounts left passed' tables made e inside =
-    sym (read_made (total_at keys passed') s.links e (map (total_at keys passed') (range_with_len 0 s.links)) refl inside)
-    ∙ used_are s r failed keys amounts left passed' (map (total_at keys passed') (range_with_len 0 s.links)) tables made refl e inside
+-- what a link serves, as the definition says it
+serves_are : (s : Setting) (r e : ℕ) (mark : Bool) (queue : List ℕ) (before : State) → IsState s r before → e < s.links → queue ≡ asking s r e →
+    mark ≡ s.has_failed e → served_by mark e queue before ≡ link_serves (s.has_failed e) ((before_round s r).left e) (arrived s r e)
+serves_are s r e mark queue before known inside queue_is mark_is =
+    let arriving : map (slice_index before.units.items) queue ≡ arrived s r e =
+    ap (map (slice_index before.units.items)) queue_is
+    ∙ map-same (asking s r e) (slice_index before.units.items) (λ f. units s f r)
+    (λ i i_inside. known.units_are (slice_index (asking s r e) i) (placed s.flows (λ f. s.hop f r == e) i i_inside).below) in
+    rw (mark_is, known.left_is e inside, arriving) refl
 
-loss_full : (b : Bool) (x y : ℕ) → x ≡ y → (if b then (if false then x else 0) else (if false then 0 else x)) ≡ (if b then 0 else y)
-loss_full true x y e = refl
-loss_full false x y e = e
+share_is : (s : Setting) (r e i : ℕ) → i < length (asking s r e) →
+    slice_index (link_serves (s.has_failed e) ((before_round s r).left e) (arrived s r e)) i
+    ≡ served s (before_round s r) r e (slice_index (asking s r e) i)
+share_is s r e i inside = pick (s.has_failed e) ∙ sym (serves_fairly s r e i inside)
+  where
+    pick : (b : Bool) → slice_index (link_serves b ((before_round s r).left e) (arrived s r e)) i
+        ≡ (if b then 0 else slice_index (fair_shares ((before_round s r).left e) (arrived s r e)) i)
+    pick true = zero_read (length (arrived s r e)) i (map (λ i. 0) (range_with_len 0 (length (arrived s r e)))) refl
+    pick false = refl
 
-loss_failed : (b : Bool) (x y : ℕ) → x ≡ y → (if b then (if true then x else 0) else (if true then 0 else x)) ≡ (if b then y else 0)
-loss_failed true x y e = e
-loss_failed false x y e = refl
+-- all that a link serves
+sum_is : (s : Setting) (r e : ℕ) →
+    sum (link_serves (s.has_failed e) ((before_round s r).left e) (arrived s r e)) ≡ used s (before_round s r) r e
+sum_is s r e = pick (s.has_failed e)
+  where
+    pick : (b : Bool) → sum (link_serves b ((before_round s r).left e) (arrived s r e))
+        ≡ sum_below s.flows (λ f. if b then 0 else fair ((before_round s r).left e) s.flows (arrivals s (before_round s r) r e) f)
+    pick true =
+        sum_made (λ i. 0) (length (arrived s r e))
+        ∙ (sum_below-zero (length (arrived s r e)) (λ i. 0) (λ k below. refl) ∙ sym (sum_below-zero s.flows (λ f. 0) (λ k below. refl)))
+    pick false =
+        let left = (before_round s r).left e in
+        let ys = arrived s r e in
+        sum_made (fair left (length ys) (slice_index ys)) (length ys)
+        ∙ (fair-sum left (length ys) (slice_index ys)
+        ∙ (ap (min left) (own_sum s.flows (λ f. s.hop f r == e) (λ f. units s f r) (λ x. x) refl)
+        ∙ sym (fair-sum left s.flows (arrivals s (before_round s r) r e))))
 
-pub state_next : (s : Setting) (r : ℕ) (failed : List Bool) (keys : List ℕ) (before after : State) →
-    AreTables s r (before_round s r) failed keys before.units.items before.left.items → IsState s r before → IsRound failed keys before after →
-    IsState s (r + 1) after
-state_next s r failed keys before after tables known round =
-    let size : length after.units.items ≡ length keys =
-    ap length round.units ∙ length-map-range_with_len (passed_at failed keys before.units.items before.left.items) 0 (length keys) in
-    let now = λ (f : ℕ) (below : f < s.flows).
-    read_made (passed_at failed keys before.units.items before.left.items) (length keys) f after.units.items round.units (omega (arith, tables.flows))
-    ∙ passed_is s r (before_round s r) failed keys before.units.items before.left.items tables f below in
-    let lost_is = λ (f : ℕ) (below : f < s.flows).
-    ap (λ x. x - slice_index after.units.items f) (tables.units f below) ∙ ap (λ x. units s f r - x) (now f below) in
-    let mark = λ (f : ℕ) (below : f < s.flows).
-    tables.marks (slice_index keys f) ∙ ap s.has_failed (tables.hop f below) in
+-- how a flow stands after round r
+abbrev flow_after : Setting → ℕ → ℕ → Flow
+flow_after s r f = record {
+  units = units s f (suc r);
+  lost_full = lost_full_before s f (suc r);
+  lost_failed = lost_failed_before s f (suc r);
+}
+
+abbrev flow_before : Setting → ℕ → ℕ → Flow
+flow_before s r f = record {
+  units = units s f r;
+  lost_full = lost_full_before s f r;
+  lost_failed = lost_failed_before s f r;
+}
+
+flow_known : (s : Setting) (r f : ℕ) (state : State) → IsState s r state → f < s.flows → flow_at state f ≡ flow_before s r f
+flow_known s r f state known below = rw (known.units_are f below, known.full_is f below, known.failed_is f below) refl
+
+same_flow : (u v a b x y : ℕ) → u ≡ v → a ≡ b → x ≡ y →
+    let one : Flow = record { units = u; lost_full = a; lost_failed = x } in
+    let two : Flow = record { units = v; lost_full = b; lost_failed = y } in
+    one ≡ two
+same_flow u v a b x y e f g = rw (e, f, g) refl
+
+-- a flow that its link serves
+flow_passed : (s : Setting) (r f : ℕ) → s.hop f r < s.links →
+    flow_served (s.has_failed (s.hop f r)) (flow_before s r f) (served s (before_round s r) r (s.hop f r) f) ≡ flow_after s r f
+flow_passed s r f inside =
+    let test : nat_lt (s.hop f r) s.links ≡ true = grind (arith, nat_tests) in
+    let share : served s (before_round s r) r (s.hop f r) f ≡ units s f (suc r) =
+    sym (ap (λ t. if t then served s (before_round s r) r (s.hop f r) f else (before_round s r).units f) test) in
+    ap (flow_served (s.has_failed (s.hop f r)) (flow_before s r f)) share
+    ∙ same_flow _ _ _ _ _ _ refl (full (s.has_failed (s.hop f r)) (lost_full_before s f r) (lost s f r)) (failed (s.has_failed (s.hop f r)) (lost_failed_before s f r) (lost s f r))
+  where
+    full : (b : Bool) (x y : ℕ) → (if b then x else x + y) ≡ x + (if b then 0 else y)
+    full true x y = omega arith
+    full false x y = refl
+
+    failed : (b : Bool) (x y : ℕ) → (if b then x + y else x) ≡ x + (if b then y else 0)
+    failed true x y = refl
+    failed false x y = omega arith
+
+-- a flow after its last hop
+flow_ended : (s : Setting) (r f : ℕ) → s.links ≤ s.hop f r → flow_before s r f ≡ flow_after s r f
+flow_ended s r f out =
+    let test : nat_lt (s.hop f r) s.links ≡ false = grind (arith, nat_tests) in
+    let stays : units s f (suc r) ≡ units s f r =
+    ap (λ t. if t then served s (before_round s r) r (s.hop f r) f else (before_round s r).units f) test in
+    let none : lost s f r ≡ 0 = omega (arith, stays) in
+    same_flow _ _ _ _ _ _ (sym stays) (full (s.has_failed (s.hop f r)) (lost_full_before s f r) (lost s f r) none)
+    (failed (s.has_failed (s.hop f r)) (lost_failed_before s f r) (lost s f r) none)
+  where
+    full : (b : Bool) (x y : ℕ) → y ≡ 0 → x ≡ x + (if b then 0 else y)
+    full true x y e = omega arith
+    full false x y e = omega arith
+
+    failed : (b : Bool) (x y : ℕ) → y ≡ 0 → x ≡ x + (if b then y else 0)
+    failed true x y e = omega arith
+    failed false x y e = omega arith
+
+flow_next : (s : Setting) (r f : ℕ) (failed : List Bool) (queues : List (List ℕ)) (before after : State) → IsState s r before →
+    AreAsking s r queues → ((e : ℕ) → slice_index_or failed e false ≡ s.has_failed e) → IsRound failed queues before after → f < s.flows →
+    flow_at after f ≡ flow_after s r f
+flow_next s r f failed queues before after known are marks round below =
+    let e = s.hop f r in
+    elim (cases_lt e s.links) [
+      | inl inside ↦
+          let test = λ (k : ℕ). s.hop k r == e in
+          let at = passing_place s.flows test f below (eq-eqb e e refl) in
+          let i = length (numbers_below f test) in
+          let queue = slice_index_or queues e [] in
+          let mark = slice_index_or failed e false in
+          let queue_e = are.asking e inside in
+          let stands : slice_index queue i ≡ f = ap (λ xs. slice_index xs i) queue_e ∙ at.1 in
+          let got = (round.served e (omega (arith, are.links))).served i (omega (arith, at.0, ap length queue_e)) in
+          let share : slice_index (served_by mark e queue before) i ≡ served s (before_round s r) r e f =
+          ap (λ xs. slice_index xs i) (serves_are s r e mark queue before known inside queue_e (marks e))
+          ∙ (share_is s r e i at.0 ∙ ap (served s (before_round s r) r e) at.1) in
+          ap (flow_at after) (sym stands)
+          ∙ (got
+          ∙ (ap (λ k. flow_served mark (flow_at before k) (slice_index (served_by mark e queue before) i)) stands
+          ∙ (ap (λ b. flow_served b (flow_at before f) (slice_index (served_by mark e queue before) i)) (marks e)
+          ∙ (ap (flow_served (s.has_failed e) (flow_at before f)) share
+          ∙ (ap (λ w. flow_served (s.has_failed e) w (served s (before_round s r) r e f)) (flow_known s r f before known below)
+          ∙ flow_passed s r f inside)))))
+      | inr out ↦
+          let absent = λ (d : ℕ) (d_inside : d < length queues) (i : ℕ) (i_inside : i < length (slice_index_or queues d [])) (is : slice_index (slice_index_or queues d []) i ≡ f).
+          let q = queue_is s r queues are d i i_inside in
+          let at = placed s.flows (λ k. s.hop k r == d) i q.2 in
+          let flow : slice_index (asking s r d) i ≡ f = sym (ap (λ xs. slice_index xs i) q.1) ∙ is in
+          beyond (s.hop f r) d s.links (ap (λ k. s.hop k r == d) (sym flow) ∙ at.passes) q.0 out in
+          round.others f absent ∙ (flow_known s r f before known below ∙ flow_ended s r f out)
+    ]
+  where
+    beyond : (h d n : ℕ) → (h == d) ≡ true → d < n → n ≤ h → ⊥
+    beyond h d n same below past = let e : h ≡ d = grind (arith, nat_tests) in omega arith
+
+pub state_next : (s : Setting) (r : ℕ) (failed : List Bool) (queues : List (List ℕ)) (before after : State) → IsState s r before →
+    AreAsking s r queues → ((e : ℕ) → slice_index_or failed e false ≡ s.has_failed e) → HasShape s.flows s.links after →
+    IsRound failed queues before after → IsState s (r + 1) after
+state_next s r failed queues before after known are marks shape round =
+    let next = λ (f : ℕ) (below : f < s.flows). flow_next s r f failed queues before after known are marks round below in
     subst (λ (k : ℕ). IsState s k after) (sym (add-one r)) (record {
-      flows = size ∙ tables.flows;
-      full_flows = round.full_flows ∙ tables.flows;
-      failed_flows = round.failed_flows ∙ tables.flows;
-      links = round.links ∙ tables.links;
-      units_are = now;
-      full_is = λ f below.
-          round.lost_full f (omega (arith, tables.flows))
-          ∙ (ap (λ x. x + loss_at failed keys before.units.items after.units.items false f) (known.full_is f below)
-          ∙ ap (λ x. lost_full_before s f r + x)
-          (rw (mark f below) (loss_full (s.has_failed (s.hop f r)) _ _ (lost_is f below))));
-      failed_is = λ f below.
-          round.lost_failed f (omega (arith, tables.flows))
-          ∙ (ap (λ x. x + loss_at failed keys before.units.items after.units.items true f) (known.failed_is f below)
-          ∙ ap (λ x. lost_failed_before s f r + x)
-          (rw (mark f below) (loss_failed (s.has_failed (s.hop f r)) _ _ (lost_is f below))));
+      flows = shape.units;
+      full_flows = shape.lost_full;
+      failed_flows = shape.lost_failed;
+      links = shape.left;
+      units_are = λ f below. ap (λ (w : Flow). w.units) (next f below);
+      full_is = λ f below. ap (λ (w : Flow). w.lost_full) (next f below);
+      failed_is = λ f below. ap (λ (w : Flow). w.lost_failed) (next f below);
       left_is = λ e inside.
-          let l = tables.left_is e inside in
-          let u = total_is s r failed keys before.units.items before.left.items after.units.items tables round.units e inside in
-          round.left e (omega (arith, tables.links)) ∙ (ap (λ x. x - total_at keys after.units.items e) l
-          ∙ ap (λ x. (before_round s r).left e - x) u);
+          let queue = slice_index_or queues e [] in
+          let mark = slice_index_or failed e false in
+          let sums : sum (served_by mark e queue before) ≡ used s (before_round s r) r e =
+          ap sum (serves_are s r e mark queue before known inside (are.asking e inside) (marks e)) ∙ sum_is s r e in
+          (round.served e (omega (arith, are.links))).left
+          ∙ (ap (λ x. x - sum (served_by mark e queue before)) (known.left_is e inside)
+          ∙ ap (λ x. (before_round s r).left e - x) sums);
     })
 
-pub used_within : (s : Setting) (r : ℕ) (failed : List Bool) (keys amounts left passed' used' : List ℕ) →
-    AreTables s r (before_round s r) failed keys amounts left →
-    passed' ≡ map (passed_at failed keys amounts left) (range_with_len 0 (length keys)) →
-    used' ≡ map (total_at keys passed') (range_with_len 0 s.links) → (e : ℕ) → e < s.links → slice_index used' e ≤ slice_index left e
-used_within s r failed keys amounts left passed' used' tables passed_made used_made e inside =
-    omega (
-      arith,
-      used_are s r failed keys amounts left passed' used' tables passed_made used_made e inside,
-      tables.left_is e inside,
-      used-le s (before_round s r) r e,
-    )
+pub shape_is : (s : Setting) (r : ℕ) (state : State) → IsState s r state → HasShape s.flows s.links state
+shape_is s r state known = record {
+  units = known.flows;
+  lost_full = known.full_flows;
+  lost_failed = known.failed_flows;
+  left = known.links;
+}
 
-pub left_small : (s : Setting) (r : ℕ) (state : State) → ((e : ℕ) → s.capacity e ≤ 2 ^ 32) → IsState s r state →
-    (e : ℕ) → e < length state.left.items → slice_index state.left.items e ≤ 2 ^ 32
-left_small s r state small known e inside =
-    omega (arith, known.left_is e (omega (arith, known.links)), left_is s e r, small e)
+term_le : (n f : ℕ) (start : ℕ → ℕ) → f < n → start f ≤ sum_below n start
+term_le n f start below = omega (arith, next_fits n f start below)
 
 -- what a flow has and has lost is no more than it started with
-pub lost_fits : (s : Setting) (r : ℕ) (state : State) → IsState s r state → (f : ℕ) → f < s.flows →
-    (slice_index state.lost_full.items f + slice_index state.units.items f ≤ s.start f)
-    × (slice_index state.lost_failed.items f + slice_index state.units.items f ≤ s.start f)
-lost_fits s r state known f below =
+pub lost_fits : (s : Setting) (r : ℕ) (state : State) → IsState s r state → sum_below s.flows s.start < 2 ^ 64 →
+    (f : ℕ) → f < s.flows → HasRoomFor state f
+lost_fits s r state known small f below =
     let kept = kept_so_far s f r in
+    let start = term_le s.flows f s.start below in
     let a = known.units_are f below in
     let b = known.full_is f below in
     let d = known.failed_is f below in
     (omega arith, omega arith)
 
--- the units of all flows do not grow
-pub passed-fits : (s : Setting) (r : ℕ) (failed : List Bool) (keys amounts left passed' : List ℕ) →
-    AreTables s r (before_round s r) failed keys amounts left → length amounts ≡ length keys →
-    passed' ≡ map (passed_at failed keys amounts left) (range_with_len 0 (length keys)) → sum passed' ≤ sum amounts
-passed-fits s r failed keys amounts left passed' tables same made =
-    omega (
-      arith,
-      ap sum made,
-      sum_made (passed_at failed keys amounts left) (length keys),
-      sum_below-le (length keys) (passed_at failed keys amounts left) (slice_index amounts) (λ f below.
-          let inside : f < s.flows = omega (arith, tables.flows) in
+-- the units of the flows that ask a link fit 64 bits
+pub asking_fits : (s : Setting) (r : ℕ) (queues : List (List ℕ)) (state : State) → IsState s r state → AreAsking s r queues →
+    sum_below s.flows s.start < 2 ^ 64 → (e : ℕ) → sum (map (slice_index state.units.items) (slice_index_or queues e [])) < 2 ^ 64
+asking_fits s r queues state known are small e =
+    elim (cases_lt e s.links) [
+      | inl inside ↦
+          let test = λ (f : ℕ). s.hop f r == e in
+          let u = slice_index state.units.items in
           omega (
             arith,
-            passed_is s r (before_round s r) failed keys amounts left tables f inside,
-            passed-le s (before_round s r) r f,
-            tables.units f inside,
-          )),
-      ap (λ n. sum_below n (slice_index amounts)) same,
-      sum_is_below amounts,
-    )
-
--- tables by themselves, as a step of one round
-abbrev pub of_tables : List Bool → List ℕ → List ℕ → List ℕ → Setting
-of_tables failed keys amounts left = record {
-  flows = length keys;
-  pair = λ f. 0;
-  start = slice_index amounts;
-  hop = λ f r. slice_index keys f;
-  rounds = 1;
-  links = length left;
-  capacity = slice_index left;
-  has_failed = λ e. slice_index_or failed e false;
-}
-
-themselves : (failed : List Bool) (keys amounts left : List ℕ) →
-    AreTables (of_tables failed keys amounts left) 0 (before_round (of_tables failed keys amounts left) 0) failed keys amounts left
-themselves failed keys amounts left = record {
-  flows = refl;
-  links = refl;
-  hop = λ f below. refl;
-  units = λ f below. refl;
-  left_is = λ e inside. refl;
-  marks = λ e. refl;
-}
-
--- what passes in a round is no more than there was
-pub passed_small : (failed : List Bool) (keys amounts left passed' : List ℕ) → length amounts ≡ length keys →
-    passed' ≡ map (passed_at failed keys amounts left) (range_with_len 0 (length keys)) → sum passed' ≤ sum amounts
-passed_small failed keys amounts left passed' same made =
-    passed-fits (of_tables failed keys amounts left) 0 failed keys amounts left passed' (themselves failed keys amounts left) same made
-
--- no link serves more than it has left
-pub used_small : (failed : List Bool) (keys amounts left passed' used' : List ℕ) →
-    passed' ≡ map (passed_at failed keys amounts left) (range_with_len 0 (length keys)) →
-    used' ≡ map (total_at keys passed') (range_with_len 0 (length left)) → (e : ℕ) → e < length left → slice_index used' e ≤ slice_index left e
-used_small failed keys amounts left passed' used' passed_made used_made e inside =
-    used_within (of_tables failed keys amounts left) 0 failed keys amounts left passed' used' (themselves failed keys amounts left)
-    passed_made used_made e inside
+            ap (λ q. sum (map u q)) (are.asking e inside),
+            passing_sum s.flows test u (λ x. x) refl,
+            sum_below-le s.flows (λ f. padded test u f) s.start (λ f below.
+                omega (arith, part_le (test f) (u f), known.units_are f below, kept_so_far s f r)),
+            small,
+          )
+      | inr past ↦ omega (arith, ap (λ q. sum (map (slice_index state.units.items) q)) (get_or_past queues e [] (omega (arith, past, are.links))))
+    ]
+  where
+    part_le : (b : Bool) (x : ℕ) → (if b then x else 0) ≤ x
+    part_le true x = omega arith
+    part_le false x = omega arith

@@ -5,3 +5,6 @@ pub mod Traffic
 pub mod State
 pub mod Result
 pub mod Samples
+pub mod Asking
+pub mod Queues
+pub mod Serving

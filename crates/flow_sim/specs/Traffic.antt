@@ -56,13 +56,6 @@ step_setting net failed rates demand = record {
 abbrev pub lost_no_path : List PairRoutes → List ℕ → ℕ → ℕ
 lost_no_path rates demand p = if length (paths_of rates p) == 0 then slice_index demand p else 0
 
--- the link that a path asks in a round, or the number after the links once it has ended
-abbrev pub hop_of : PathShare → ℕ → ℕ → ℕ
-hop_of s round links = slice_index_or s.links round links
-
-abbrev pub flow_hops : List PairRoutes → ℕ → ℕ → List ℕ
-flow_hops rates round links = concat_below (length rates) (λ p. map (λ s. hop_of s round links) (paths_of rates p))
-
 -- no path, or few enough weights within the limits and not all 0
 abbrev pub CanSplit : List PathShare → Type 0
 CanSplit paths =

@@ -5,14 +5,18 @@
 #![tactic(auto)]
 
 mod fair;
+mod law;
+mod queue;
+mod queues;
 mod result;
 mod rounds;
+mod serve;
 mod simulation;
 mod state;
-mod sweep;
 mod tables;
 
 pub use fair::fair_share;
+pub use law::links_serve_fairly;
 pub use result::{PairResult, StepResult};
 pub use simulation::step;
 

@@ -1,12 +1,13 @@
 //! The rounds of a step.
-ghost use Rattle.std.specs.Prelude.{◌≡◌, ℕ, ◌+◌, ◌^◌, ◌<◌, ◌≤◌, length, sum, map, slice_index, EachIndex, IfOk};
-ghost use Rattle.te_model.specs.Network.{link_count, capacity_of};
+ghost use Rattle.std.specs.Prelude.{◌≡◌, ℕ, ◌+◌, ◌^◌, ◌<◌, ◌≤◌, All, length, map, slice_index, EachIndex, IfOk};
+ghost use Rattle.te_model.specs.Network.{link_count};
 ghost use Rattle.flow_sim.specs.Traffic.{step_setting, longest, flow_paths, paths_of, CanSplit};
 ghost use Rattle.flow_sim.specs.State.{IsState, IsStart};
 
-use crate::state::{State, round};
-use crate::sweep::zeros;
-use crate::tables::{hops, starts};
+use crate::queues::queues_of;
+use crate::serve::serve_round;
+use crate::state::State;
+use crate::tables::{starts, zeros};
 use std::alloc::Global;
 use te_model::{Items, Matrix, Memory, Network, PairRoutes, PathShare};
 
@@ -77,19 +78,17 @@ pub fn run(
     matrix: &Matrix,
 ) -> Result<State, Memory>
     requires marks { length failed.now ≡ link_count net.now }
-    requires links { link_count net.now ≤ 512 }
-    requires capacities { (e : ℕ) → capacity_of net.now e ≤ 2 ^ 32 }
     requires lengths { length matrix.now.demand ≡ length rates.now }
     requires pairs { length rates.now ≤ 4096 }
     requires demands { EachIndex matrix.now.demand (λ p. slice_index matrix.now.demand p ≤ 2 ^ 32) }
     requires paths { (p : ℕ) → p < length rates.now → CanSplit (paths_of rates.now p) }
+    requires links { (p : ℕ) → p < length rates.now → All (λ s. All (λ e. e < link_count net.now) s.links) (paths_of rates.now p) }
     ensures { IfOk result (IsState (step_setting net.now failed.now rates.now matrix.now.demand) (longest (flow_paths rates.now))) }
 {
-    let links = net.links.as_slice().len();
+    let queues = queues_of(alloc, rates, longest_of_all(rates), failed.len())?;
     let mut state = begin(alloc, net, rates, matrix)?;
-    for number in 0..longest_of_all(rates) {
-        let keys = hops(alloc, rates, number, links as u32)?;
-        state = round(alloc, failed, keys.as_slice(), state)?;
+    for number in 0..queues.len() {
+        serve_round(alloc, failed, &queues[number], &mut state)?;
     }
     Ok(state)
 }

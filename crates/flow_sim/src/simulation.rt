@@ -11,8 +11,7 @@ ghost use Rattle.flow_sim.specs.Result.{IsConserved, IsSummed, pair_result_of, p
 use crate::result::{PairResult, StepResult, summed};
 use crate::rounds::run;
 use crate::state::State;
-use crate::sweep::totals_of;
-use crate::tables::pairs;
+use crate::tables::{pairs, totals_of};
 use local_recovery::Recovered;
 use std::alloc::Global;
 use te_model::{Items, Matrix, Memory, Network, PairRoutes};

@@ -1,4 +1,4 @@
-ghost use Rattle.std.specs.Prelude.{◌≡◌, IfOk, length};
+ghost use Rattle.std.specs.Prelude.{◌≡◌, ◌^◌, ◌≤◌, IfOk, length};
 ghost use Rattle.flow_sim.specs.Samples.{link, four_nodes, two_ways};
 
 use super::*;
@@ -66,16 +66,17 @@ fn two_ways(alloc: Global) -> Result<Vec<PairRoutes>, AllocError>
     Ok(routes)
 }
 
-/// A step with a demand of 12 on what is left of the two ways in the mode, where the marked links have failed.
-fn stepped(alloc: Global, mode: Mode, failed: &[bool]) -> Result<StepResult, Memory>
-    requires { length failed.now ≡ 5 }
+/// A step with the demand on what is left of the two ways in the mode, where the marked links have failed.
+fn stepped(alloc: Global, mode: Mode, failed: &[bool], demand: u64) -> Result<StepResult, Memory>
+    requires marks { length failed.now ≡ 5 }
+    requires demand { demand ≤ 2 ^ 32 }
 {
     let net = four_nodes(alloc)?;
     let routing = Routing {
         routes: Items::new(two_ways(alloc)?),
     };
     let rates = recover(alloc, mode, &net, failed, &routing)?;
-    let demand = vec![in alloc; 12]?;
+    let demand = vec![in alloc; demand]?;
     let matrix = Matrix {
         demand: Items::new(demand),
     };
@@ -83,13 +84,13 @@ fn stepped(alloc: Global, mode: Mode, failed: &[bool]) -> Result<StepResult, Mem
     Ok(found)
 }
 
-/// Whether 12 units were offered, and so many delivered and lost on full links, on failed links and for want of a path.
-fn is_result(found: &StepResult, amounts: [u64; 4]) -> bool {
-    found.offered == 12
-        && found.delivered == amounts[0]
-        && found.lost_full == amounts[1]
-        && found.lost_failed == amounts[2]
-        && found.lost_no_path == amounts[3]
+/// Whether so many units were offered, delivered, and lost on full links, on failed links and for want of a path.
+fn is_result(found: &StepResult, amounts: [u64; 5]) -> bool {
+    found.offered == amounts[0]
+        && found.delivered == amounts[1]
+        && found.lost_full == amounts[2]
+        && found.lost_failed == amounts[3]
+        && found.lost_no_path == amounts[4]
 }
 
 #[test]
@@ -102,6 +103,9 @@ fn fair_shares(rt: HostRuntime) {
     let mut one = [7];
     fair_share(0, &[3], &mut one);
     assert!(rt; one == [0]);
+    let mut empty: [u64; 0] = [];
+    fair_share(5, &[], &mut empty);
+    assert!(rt; empty.is_empty());
 }
 
 #[test]
@@ -111,13 +115,13 @@ fn steps(rt: HostRuntime) {
     let around = [false, true, false, false, false];
     let both = [true, true, false, false, false];
     for (mode, failed, amounts) in [
-        (Mode::Keep, none, [12, 0, 0, 0]),
-        (Mode::Keep, around, [6, 0, 6, 0]),
-        (Mode::Scale, around, [10, 2, 0, 0]),
-        (Mode::Scale, both, [0, 0, 0, 12]),
-        (Mode::Bypass, around, [9, 3, 0, 0]),
+        (Mode::Keep, none, [12, 12, 0, 0, 0]),
+        (Mode::Keep, around, [12, 6, 0, 6, 0]),
+        (Mode::Scale, around, [12, 10, 2, 0, 0]),
+        (Mode::Scale, both, [12, 0, 0, 0, 12]),
+        (Mode::Bypass, around, [12, 9, 3, 0, 0]),
     ] {
-        match stepped(alloc, mode, &failed) {
+        match stepped(alloc, mode, &failed, 12) {
             Ok(found) => assert!(rt; is_result(&found, amounts)),
             Err(_) => assert!(rt; false),
         }
@@ -125,9 +129,18 @@ fn steps(rt: HostRuntime) {
 }
 
 #[test]
+fn the_greatest_demand(rt: HostRuntime) {
+    let none = [false, false, false, false, false];
+    match stepped(rt.alloc(), Mode::Keep, &none, 1 << 32) {
+        Ok(found) => assert!(rt; is_result(&found, [4_294_967_296, 20, 4_294_967_276, 0, 0])),
+        Err(_) => assert!(rt; false),
+    }
+}
+
+#[test]
 fn links_carry_what_they_serve(rt: HostRuntime) {
     let around = [false, true, false, false, false];
-    match stepped(rt.alloc(), Mode::Bypass, &around) {
+    match stepped(rt.alloc(), Mode::Bypass, &around, 12) {
         Ok(found) => assert!(rt; found.carried.as_slice() == [6, 0, 3, 3, 3].as_slice()),
         Err(_) => assert!(rt; false),
     }

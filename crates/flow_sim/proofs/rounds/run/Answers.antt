@@ -1,71 +1,90 @@
-use Rattle.std.proofs.Common.{◌≡◌, ℕ, List, Bool, length, sum, arith, ap, sym, ◌∙◌}
+use Rattle.std.proofs.Common.{◌≡◌, ◌+◌, ◌<◌, ◌≤◌, ◌^◌, ℕ, Bool, List, [], length, slice_index, arith, refl, ap, sym, subst, ◌∙◌}
+use Rattle.std.specs.Prelude.{slice_index_or}
+use Rattle.std.proofs.lemmas.List.{get_or_default}
 use Rattle.te_model.specs.declared.network.Network.{Network}
-use Rattle.te_model.specs.declared.network.Link.{Link}
 use Rattle.te_model.specs.declared.route.PairRoutes.{PairRoutes}
-use Rattle.te_model.proofs.ApportionLaws.{index_le_sum}
+use Rattle.te_model.specs.Network.{link_count}
+use Rattle.te_model.specs.Counting.{sum_below}
+use Rattle.te_model.proofs.ApportionLaws.{sum_is_below}
 use Rattle.flow_sim.specs.declared.state.State.{State}
-use Rattle.flow_sim.specs.Step.{before_round}
+use Rattle.flow_sim.specs.Queues.{queues_in, AreQueues}
+use Rattle.flow_sim.specs.Serving.{HasShape, AreApart}
 use Rattle.flow_sim.specs.State.{IsState}
-use Rattle.flow_sim.specs.Traffic.{flow_starts, flow_hops, step_setting}
-use Rattle.flow_sim.proofs.RoundLaws.{AreTables}
-use Rattle.flow_sim.proofs.StateLaws.{tables_are, state_next, left_small, lost_fits}
+use Rattle.flow_sim.specs.Step.{Setting}
+use Rattle.flow_sim.specs.Traffic.{flow_paths, flow_starts, paths_of, step_setting, CanSplit}
+use Rattle.flow_sim.proofs.PairLaws.{starts-flows}
 use Rattle.flow_sim.proofs.StartLaws.{starts_fit, state_begins}
+use Rattle.flow_sim.proofs.StateLaws.{AreAsking, asking_are, apart_are, asking_fits, lost_fits, state_next}
 use Rattle.flow_sim.proofs.rounds.run.Goals as goal
 
-tables_of : (net : Network) (failed : List Bool) (rates : List PairRoutes) (demand : List ℕ) (r : ℕ) (state : State) (keys held : List ℕ) (links : List Link) →
-    IsState (step_setting net failed rates demand) r state → links ≡ net.links → keys ≡ held → held ≡ flow_hops rates r (length links) →
-    AreTables (step_setting net failed rates demand) r (before_round (step_setting net failed rates demand) r) failed keys
-    state.units.items state.left.items
-tables_of net failed rates demand r state keys held links known same lent made =
-    tables_are net failed rates demand r keys state known (lent ∙ (made ∙ ap (λ ls. flow_hops rates r (length ls)) same))
+-- the units that the flows start with fit 64 bits
+starts_small : (net : Network) (failed : List Bool) (rates : List PairRoutes) (demand : List ℕ) → length rates ≤ 4096 →
+    length demand ≡ length rates → ((p : ℕ) → p < length demand → slice_index demand p ≤ 2 ^ 32) →
+    ((p : ℕ) → p < length rates → CanSplit (paths_of rates p)) →
+    sum_below (step_setting net failed rates demand).flows (step_setting net failed rates demand).start < 2 ^ 64
+starts_small net failed rates demand few same small split =
+    omega (
+      arith,
+      starts_fit rates demand few same small split,
+      sum_is_below (flow_starts rates demand),
+      ap (λ n. sum_below n (slice_index (flow_starts rates demand))) (starts-flows rates demand),
+    )
 
-pub loop-number-init : goal.loop-number-init
-loop-number-init c = record {
-  state = state_begins c.args.net.now c.args.failed.now c.args.rates.now c.args.matrix.now.demand c.in_ok-state.state c.in_ok-state.ensures;
-  fits = omega (
-    arith,
-    ap sum c.in_ok-state.ensures.units,
-    starts_fit c.args.rates.now c.args.matrix.now.demand c.requires.pairs c.requires.lengths c.requires.demands c.requires.paths,
-  );
+-- the queues of a round hold the flows that ask
+asked : (net : Network) (failed : List Bool) (rates : List PairRoutes) (demand : List ℕ) (queues : List (List (List ℕ))) (round : List (List ℕ))
+    (i links : ℕ) → AreQueues (flow_paths rates) links queues → links ≡ link_count net → i < length queues →
+    round ≡ slice_index_or queues i round → AreAsking (step_setting net failed rates demand) i round
+asked net failed rates demand queues round i links so same below is =
+    let here : round ≡ queues_in queues i = is ∙ get_or_default queues i round [] below in
+    subst (AreAsking (step_setting net failed rates demand) i) (sym here)
+    (asking_are net failed rates demand i queues (subst (λ n. AreQueues (flow_paths rates) n queues) same so) below)
+
+shape_next : (s : Setting) (r links : ℕ) (before after : State) → links ≡ s.links → IsState s r before → HasShape (length before.units.items) links after →
+    HasShape s.flows s.links after
+shape_next s r links before after same known has = record {
+  units = has.units ∙ known.flows;
+  lost_full = has.lost_full ∙ known.flows;
+  lost_failed = has.lost_failed ∙ known.flows;
+  left = has.left ∙ same;
 }
 
-pub round-requires-clause-units : goal.round-requires-clause-units
-round-requires-clause-units c =
-    let t = tables_of c.args.net.now c.args.failed.now c.args.rates.now c.args.matrix.now.demand c.loop-number.number c.loop-number.state
-    c.as_slice.result.now c.in_ok-keys.keys.items c.as_slice-links.result.now c.loop-number.invariant.state c.as_slice-links.ensures
-    c.as_slice.ensures.value c.in_ok-keys.ensures in
-    t.flows ∙ sym c.loop-number.invariant.state.flows
+pub loop-number-init : goal.loop-number-init
+loop-number-init c =
+    state_begins c.args.net.now c.args.failed.now c.args.rates.now c.args.matrix.now.demand c.in_ok-state.state c.in_ok-state.ensures
 
-pub round-requires-clause-lost : goal.round-requires-clause-lost
-round-requires-clause-lost c =
-    let t = tables_of c.args.net.now c.args.failed.now c.args.rates.now c.args.matrix.now.demand c.loop-number.number c.loop-number.state
-    c.as_slice.result.now c.in_ok-keys.keys.items c.as_slice-links.result.now c.loop-number.invariant.state c.as_slice-links.ensures
-    c.as_slice.ensures.value c.in_ok-keys.ensures in
-    (t.flows ∙ sym c.loop-number.invariant.state.full_flows, t.flows ∙ sym c.loop-number.invariant.state.failed_flows)
+pub serve_round-requires-clause-apart : goal.serve_round-requires-clause-apart
+serve_round-requires-clause-apart c =
+    let s = step_setting c.args.net.now c.args.failed.now c.args.rates.now c.args.matrix.now.demand in
+    let are = asked c.args.net.now c.args.failed.now c.args.rates.now c.args.matrix.now.demand c.in_ok-queues.queues.items c.index.result.now
+    c.loop-number.number (length c.args.failed.now) c.in_ok-queues.ensures.queues c.requires.marks
+    (omega (arith, c.loop-number-test.true, c.len-number-end.ensures, c.in_ok-queues.queues.ok.0)) c.index.ensures in
+    subst (λ n. AreApart n c.index.result.now) (sym c.loop-number.invariant.flows) (apart_are s c.loop-number.number c.index.result.now are)
 
-pub round-requires-clause-small : goal.round-requires-clause-small
-round-requires-clause-small c =
-    left_small (step_setting c.args.net.now c.args.failed.now c.args.rates.now c.args.matrix.now.demand) c.loop-number.number c.loop-number.state
-    c.requires.capacities c.loop-number.invariant.state
+pub serve_round-requires-clause-fits : goal.serve_round-requires-clause-fits
+serve_round-requires-clause-fits c =
+    let s = step_setting c.args.net.now c.args.failed.now c.args.rates.now c.args.matrix.now.demand in
+    let are = asked c.args.net.now c.args.failed.now c.args.rates.now c.args.matrix.now.demand c.in_ok-queues.queues.items c.index.result.now
+    c.loop-number.number (length c.args.failed.now) c.in_ok-queues.ensures.queues c.requires.marks
+    (omega (arith, c.loop-number-test.true, c.len-number-end.ensures, c.in_ok-queues.queues.ok.0)) c.index.ensures in
+    let small = starts_small c.args.net.now c.args.failed.now c.args.rates.now c.args.matrix.now.demand c.requires.pairs c.requires.lengths
+    c.requires.demands c.requires.paths in
+    asking_fits s c.loop-number.number c.index.result.now c.loop-number.state c.loop-number.invariant are small
 
-pub round-requires-clause-room : goal.round-requires-clause-room
-round-requires-clause-room c = λ f inside.
-    let t = tables_of c.args.net.now c.args.failed.now c.args.rates.now c.args.matrix.now.demand c.loop-number.number c.loop-number.state
-    c.as_slice.result.now c.in_ok-keys.keys.items c.as_slice-links.result.now c.loop-number.invariant.state c.as_slice-links.ensures
-    c.as_slice.ensures.value c.in_ok-keys.ensures in
-    let fits = lost_fits (step_setting c.args.net.now c.args.failed.now c.args.rates.now c.args.matrix.now.demand) c.loop-number.number c.loop-number.state
-    c.loop-number.invariant.state f (omega (arith, t.flows)) in
-    let whole = starts_fit c.args.rates.now c.args.matrix.now.demand c.requires.pairs c.requires.lengths c.requires.demands c.requires.paths in
-    let start = index_le_sum (flow_starts c.args.rates.now c.args.matrix.now.demand) f in
-    (omega (arith, fits.0, whole, start), omega (arith, fits.1, whole, start))
+pub serve_round-requires-clause-room : goal.serve_round-requires-clause-room
+serve_round-requires-clause-room c = λ f inside.
+    let s = step_setting c.args.net.now c.args.failed.now c.args.rates.now c.args.matrix.now.demand in
+    let small = starts_small c.args.net.now c.args.failed.now c.args.rates.now c.args.matrix.now.demand c.requires.pairs c.requires.lengths
+    c.requires.demands c.requires.paths in
+    lost_fits s c.loop-number.number c.loop-number.state c.loop-number.invariant small f (omega (arith, inside, c.loop-number.invariant.flows))
 
 pub loop-number-preserved : goal.loop-number-preserved
 loop-number-preserved c =
-    let t = tables_of c.args.net.now c.args.failed.now c.args.rates.now c.args.matrix.now.demand c.loop-number.number c.loop-number.state
-    c.as_slice.result.now c.in_ok-keys.keys.items c.as_slice-links.result.now c.loop-number.invariant.state c.as_slice-links.ensures
-    c.as_slice.ensures.value c.in_ok-keys.ensures in
-    record {
-      state = state_next (step_setting c.args.net.now c.args.failed.now c.args.rates.now c.args.matrix.now.demand) c.loop-number.number c.args.failed.now
-          c.as_slice.result.now c.loop-number.state c.in_ok-state-2.state t c.loop-number.invariant.state c.in_ok-state-2.ensures.round;
-      fits = omega (arith, c.in_ok-state-2.ensures.fits, c.loop-number.invariant.fits);
-    }
+    let s = step_setting c.args.net.now c.args.failed.now c.args.rates.now c.args.matrix.now.demand in
+    let are = asked c.args.net.now c.args.failed.now c.args.rates.now c.args.matrix.now.demand c.in_ok-queues.queues.items c.index.result.now
+    c.loop-number.number (length c.args.failed.now) c.in_ok-queues.ensures.queues c.requires.marks
+    (omega (arith, c.loop-number-test.true, c.len-number-end.ensures, c.in_ok-queues.queues.ok.0)) c.index.ensures in
+    let r = c.loop-number.number in
+    let known = c.loop-number.invariant in
+    state_next s r c.args.failed.now c.index.result.now c.loop-number.state c.serve_round.new.state known are (λ e. refl)
+    (shape_next s r (length c.args.failed.now) c.loop-number.state c.serve_round.new.state c.requires.marks known c.in_ok-serve_round.ensures.shape)
+    c.in_ok-serve_round.ensures.round

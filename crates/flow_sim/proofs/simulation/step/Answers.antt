@@ -11,15 +11,12 @@ use Rattle.flow_sim.specs.Traffic.{step_setting, longest, flow_paths, flow_pairs
 use Rattle.flow_sim.specs.Result.{IsConserved, pair_result_of, pair_results}
 use Rattle.flow_sim.proofs.PairLaws.{pairs-length}
 use Rattle.flow_sim.proofs.StartLaws.{starts_fit}
-use Rattle.flow_sim.proofs.RatesLaws.{few_links, small_capacities, few_pairs, can_split}
+use Rattle.flow_sim.proofs.RatesLaws.{few_pairs, can_split, links_stand}
 use Rattle.flow_sim.proofs.ResultLaws.{results_are, carried_are, ends_fit, left_within, offered_are, results_conserved, total_conserved, sums_fit, offered_fits}
 use Rattle.flow_sim.proofs.simulation.step.Goals as goal
 
 pub run-requires-clause-links : goal.run-requires-clause-links
-run-requires-clause-links c = few_links c.args.net.now c.requires.network
-
-pub run-requires-clause-capacities : goal.run-requires-clause-capacities
-run-requires-clause-capacities c = small_capacities c.args.net.now c.requires.network
+run-requires-clause-links c = λ p inside. links_stand c.args.net.now c.args.rates.now.routes c.requires.rates p inside
 
 pub run-requires-clause-pairs : goal.run-requires-clause-pairs
 run-requires-clause-pairs c = few_pairs c.args.net.now c.args.rates.now.routes c.requires.network c.requires.rates

@@ -1,0 +1,84 @@
+use Rattle.std.proofs.Common.{◌≡◌, ◌+◌, ◌<◌, List, length, arith, ap, sym, subst, ◌∙◌}
+use Rattle.std.specs.Prelude.{slice_index_or}
+use Rattle.te_model.specs.declared.route.PairRoutes.{PairRoutes}
+use Rattle.flow_sim.specs.Queues.{HasRoom, AreAdded, AreQueues}
+use Rattle.flow_sim.specs.Traffic.{concat_below, paths_of}
+use Rattle.flow_sim.proofs.QueueLaws.{concat_next, flows_next, few_flows, paths_read, room_for, queues_more}
+use Rattle.flow_sim.proofs.TableLaws.{written}
+use Rattle.flow_sim.proofs.queues.queues_of.Goals as goal
+
+pub add_paths-requires-clause-room : goal.add_paths-requires-clause-room
+add_paths-requires-clause-room c = λ k d below.
+    let rates = c.args.rates.now in
+    let p = c.loop-p.p in
+    let inside : p < length rates = subst (λ (rs : List PairRoutes). p < length rs) c.as_slice-pairs.ensures c.loop-p-test.true in
+    let paths = paths_read rates c.as_slice-pairs.result.now p c.index-pairs-p.result c.as_slice-paths.result.now
+    c.as_slice-pairs.ensures c.loop-p-test.true c.as_slice-paths.ensures in
+    subst (λ rs. HasRoom rs (slice_index_or c.as_slice-paths.result.now k d)) (sym c.deref_mut.ensures.value)
+    (room_for rates c.args.links c.args.rounds c.loop-p.list.items (concat_below p (paths_of rates)) p c.as_slice-paths.result.now
+    inside paths (c.requires.links p inside) c.requires.rounds c.loop-p.invariant.rounds c.loop-p.invariant.queues k d below)
+
+pub add_paths-requires-clause-numbers : goal.add_paths-requires-clause-numbers
+add_paths-requires-clause-numbers c =
+    let rates = c.args.rates.now in
+    let p = c.loop-p.p in
+    let inside : p < length rates = subst (λ (rs : List PairRoutes). p < length rs) c.as_slice-pairs.ensures c.loop-p-test.true in
+    let paths = paths_read rates c.as_slice-pairs.result.now p c.index-pairs-p.result c.as_slice-paths.result.now
+    c.as_slice-pairs.ensures c.loop-p-test.true c.as_slice-paths.ensures in
+    omega (
+      arith,
+      c.loop-p.invariant.first,
+      flows_next p (paths_of rates),
+      ap length paths,
+      few_flows (p + 1) (paths_of rates) (λ q below. c.requires.few q (omega arith)),
+      c.requires.pairs,
+      inside,
+    )
+
+pub overflow_cast-first : goal.overflow_cast-first
+overflow_cast-first c =
+    let rates = c.args.rates.now in
+    let p = c.loop-p.p in
+    let inside : p < length rates = subst (λ (rs : List PairRoutes). p < length rs) c.as_slice-pairs.ensures c.loop-p-test.true in
+    let paths = paths_read rates c.as_slice-pairs.result.now p c.index-pairs-p.result c.as_slice-paths.result.now
+    c.as_slice-pairs.ensures c.loop-p-test.true c.as_slice-paths.ensures in
+    omega (arith, ap length paths, c.requires.few p inside)
+
+pub overflow_add-first : goal.overflow_add-first
+overflow_add-first c =
+    let rates = c.args.rates.now in
+    let p = c.loop-p.p in
+    let inside : p < length rates = subst (λ (rs : List PairRoutes). p < length rs) c.as_slice-pairs.ensures c.loop-p-test.true in
+    let paths = paths_read rates c.as_slice-pairs.result.now p c.index-pairs-p.result c.as_slice-paths.result.now
+    c.as_slice-pairs.ensures c.loop-p-test.true c.as_slice-paths.ensures in
+    omega (
+      arith,
+      c.loop-p.invariant.first,
+      flows_next p (paths_of rates),
+      ap length paths,
+      few_flows (p + 1) (paths_of rates) (λ q below. c.requires.few q (omega arith)),
+      c.requires.pairs,
+      inside,
+    )
+
+pub loop-p-preserved : goal.loop-p-preserved
+loop-p-preserved c =
+    let rates = c.args.rates.now in
+    let p = c.loop-p.p in
+    let items = c.loop-p.list.items in
+    let new = c.add_paths.new.rounds in
+    let paths = paths_read rates c.as_slice-pairs.result.now p c.index-pairs-p.result c.as_slice-paths.result.now
+    c.as_slice-pairs.ensures c.loop-p-test.true c.as_slice-paths.ensures in
+    let lent : AreAdded c.loop-p.first c.as_slice-paths.result.now items new =
+    subst (λ rs. AreAdded c.loop-p.first c.as_slice-paths.result.now rs new) c.deref_mut.ensures.value c.in_ok-add_paths.ensures in
+    let added : AreAdded (length (concat_below p (paths_of rates))) (paths_of rates p) items new =
+    subst (λ n. AreAdded n (paths_of rates p) items new) c.loop-p.invariant.first
+    (subst (λ ps. AreAdded c.loop-p.first ps items new) paths lent) in
+    let whole = written new items c.loop-p.list.len (omega (arith, lent.alike.rounds, c.loop-p.list.ok.0)) in
+    record {
+      first = omega (arith, c.loop-p.invariant.first, flows_next p (paths_of rates), ap length paths);
+      rounds = ap length whole ∙ (lent.alike.rounds ∙ c.loop-p.invariant.rounds);
+      queues = subst (AreQueues (concat_below (p + 1) (paths_of rates)) c.args.links) (sym whole)
+          (subst (λ ps. AreQueues ps c.args.links new) (sym (concat_next p (paths_of rates)))
+          (queues_more c.args.links (concat_below p (paths_of rates)) (paths_of rates p) items new c.loop-p.invariant.queues added));
+    }
