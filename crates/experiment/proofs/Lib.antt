@@ -1,1 +1,2 @@
 mod PlanLemmas
+pub mod RoutingWithin
