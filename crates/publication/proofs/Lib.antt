@@ -1,0 +1,2 @@
+mod SeriesLemmas
+pub mod Accepted

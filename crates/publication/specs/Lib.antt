@@ -1,0 +1,3 @@
+pub mod Made
+pub mod Scheme
+pub mod Published
