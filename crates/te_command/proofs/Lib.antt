@@ -1,4 +1,9 @@
+pub mod Readings
+pub mod Reaching
 pub mod Once
 pub mod Owed
 pub mod Totals
 pub mod Texts
+pub mod Accepted
+pub mod Failed
+pub mod Delivered

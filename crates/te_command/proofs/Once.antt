@@ -1,26 +1,35 @@
--- The told files mean one status and one text, and a yes of them is true.
-use Rattle.std.proofs.Common.{◌≡◌, ◌≢◌, ◌≤◌, ◌⊎◌, ℕ, List, length, map, string_bytes, Option, Some, None, Result, Ok, Err, inl, inr, refl, sym, ap, ◌∙◌, subst, arith}
-use Rattle.std.specs.declared.string.String.{String}
-use Rattle.std.specs.declared.alloc.Global.{Global}
+-- The told files mean one status, and those of `check` one text.
+use Rattle.std.proofs.Common.{◌≡◌, ℕ, List, Option, Some, None, Result, Ok, Err, inl, inr, sym, ap, ◌∙◌, subst, arith}
 use Rattle.te_model.specs.declared.certificate.Certificate.{Certificate}
 use Rattle.te_model.specs.declared.network.Network.{Network}
 use Rattle.te_model.specs.Inequalities.{LinkFailure, first_failure}
+use Rattle.te_model.specs.Text.{Spells}
 use Rattle.cert_text.proofs.Laws.{one_spelling, one_fault, one_rule_fault, spelled_or_ruled}
-use Rattle.te_model.proofs.Failures.{holds_from_none}
-use Rattle.te_model.proofs.Oblivious.{holds_is_oblivious}
-use Rattle.topology.specs.Topology.{topology_of}
-use Rattle.topology.specs.declared.fault.TopologyFault.{TopologyFault}
+use Rattle.traffic_matrix.specs.declared.series.Series.{Series}
+use Rattle.experiment.specs.declared.plan.Experiment.{Experiment}
 use Rattle.te_command.specs.declared.refusal.Refusal.{Refusal}
-use Rattle.te_command.specs.declared.refusal.Refusal.TheVariants.{TooLong, Shape, Rule, Topology}
-use Rattle.te_command.specs.Command.{Command, check, check_network, command_of}
-use Rattle.te_command.specs.Refusals.{certificate_limit, input_limit, IsCertificate, IsCertificateRefusal, IsTopology, IsTopologyRefusal, refused_line}
-use Rattle.te_command.specs.CheckText.{SaysYes, SaysNo, SaysRefused, IsVerdict, IsNetworkVerdict, FileText, CheckText, TopologyText, ToldText, CheckNetworkText, ProvesRatio, yes_line, no_line}
-use Rattle.te_command.specs.Meaning.{IsTold, Means, MeansRatio, TellsNetwork}
-use Rattle.te_command.specs.Run.{OfToldCommand}
+use Rattle.te_command.specs.declared.refusal.Refusal.TheVariants.{Shape, Rule}
+use Rattle.te_command.specs.Command.{Command, check, check_network, publish, IsCheck}
+use Rattle.te_command.specs.Refusals.{IsCertificate, IsCertificateFault, IsCertificateRefusal, IsTopology, IsTopologyRefusal, IsMatrices, IsMatricesRefusal, IsPlan, IsPlanRefusal, topology_in, matrices_in, plan_in, refused_line}
+use Rattle.te_command.specs.Files.{FileText, ToldText}
+use Rattle.te_command.specs.CheckText.{IsVerdict, IsNetworkVerdict, CheckText, TopologyText, CheckNetworkText, no_line}
+use Rattle.te_command.specs.PublishText.{IsPublication, IsPublicationStatus, MatricesText, PlanTopologyText, PlanText}
+use Rattle.te_command.specs.Meaning.{Means, MeansStatus}
 
--- an answer is one status and one text
-abbrev pub IsOne : (ℕ → List ℕ → Type 0) → Type 0
-IsOne Answer = (s t : ℕ) (a b : List ℕ) → Answer s a → Answer t b → (s ≡ t) × (a ≡ b)
+-- two answers agree in so far: they have one status, or one status and one text
+abbrev SameStatus : ℕ → List ℕ → ℕ → List ℕ → Type 0
+SameStatus s a t b = s ≡ t
+
+abbrev SameAnswer : ℕ → List ℕ → ℕ → List ℕ → Type 0
+SameAnswer s a t b = (s ≡ t) × (a ≡ b)
+
+-- such answers always agree
+abbrev IsOne : (ℕ → List ℕ → ℕ → List ℕ → Type 0) → (ℕ → List ℕ → Type 0) → Type 0
+IsOne Same Answer = (s t : ℕ) (a b : List ℕ) → Answer s a → Answer t b → Same s a t b
+
+-- what has one status and one text agrees
+abbrev Allows : (ℕ → List ℕ → ℕ → List ℕ → Type 0) → Type 0
+Allows Same = (s t : ℕ) (a b : List ℕ) → s ≡ t → a ≡ b → Same s a t b
 
 -- bytes of files of one kind are read in one way: they give one value, or are refused for one cause
 record ReadsOnce {A : Type 0} (Cause : List ℕ → Refusal → Type 0) (Gives : List ℕ → A → Type 0) : Type 0 where
@@ -28,28 +37,27 @@ record ReadsOnce {A : Type 0} (Cause : List ℕ → Refusal → Type 0) (Gives :
   pub one_value : (bytes : List ℕ) (x y : A) → Gives bytes x → Gives bytes y → x ≡ y
   pub not_both : (bytes : List ℕ) (x : A) (r : Refusal) → Gives bytes x → Cause bytes r → ⊥
 
+fault_once : (bytes : List ℕ) (r s : Refusal) → IsCertificateFault bytes r → IsCertificateFault bytes s → r ≡ s
+fault_once bytes r s (inl x) (inl y) = x.1 ∙ ap Shape (one_fault bytes x.0 y.0 x.2 y.2) ∙ sym y.1
+fault_once bytes r s (inl x) (inr y) = absurd (x.2.no_file y.2.spelled y.2.shaped y.2.file)
+fault_once bytes r s (inr x) (inl y) = absurd (y.2.no_file x.2.spelled x.2.shaped x.2.file)
+fault_once bytes r s (inr x) (inr y) = x.1 ∙ ap Rule (one_rule_fault bytes x.0 y.0 x.2 y.2) ∙ sym y.1
+
 -- a certificate's bytes are refused for one cause
 certificate_cause : (bytes : List ℕ) (r s : Refusal) → IsCertificateRefusal bytes r → IsCertificateRefusal bytes s → r ≡ s
-certificate_cause bytes TooLong TooLong hr hs = refl
-certificate_cause bytes TooLong (Shape j) hr hs = absurd (omega (arith, hs.0))
-certificate_cause bytes TooLong (Rule g) hr hs = absurd (omega (arith, hs.0))
-certificate_cause bytes TooLong (Topology g) hr hs = absurd hs
-certificate_cause bytes (Shape k) TooLong hr hs = absurd (omega (arith, hr.0))
-certificate_cause bytes (Shape k) (Shape j) hr hs = ap Shape (one_fault bytes k j hr.1 hs.1)
-certificate_cause bytes (Shape k) (Rule g) hr hs = absurd (hr.1.no_file hs.1.spelled hs.1.shaped hs.1.file)
-certificate_cause bytes (Shape k) (Topology g) hr hs = absurd hs
-certificate_cause bytes (Rule f) TooLong hr hs = absurd (omega (arith, hr.0))
-certificate_cause bytes (Rule f) (Shape j) hr hs = absurd (hs.1.no_file hr.1.spelled hr.1.shaped hr.1.file)
-certificate_cause bytes (Rule f) (Rule g) hr hs = ap Rule (one_rule_fault bytes f g hr.1 hs.1)
-certificate_cause bytes (Rule f) (Topology g) hr hs = absurd hs
-certificate_cause bytes (Topology f) s hr hs = absurd hr
+certificate_cause bytes r s (inl x) (inl y) = x.0 ∙ sym y.0
+certificate_cause bytes r s (inl x) (inr y) = absurd (omega (arith, x.1, y.0))
+certificate_cause bytes r s (inr x) (inl y) = absurd (omega (arith, x.0, y.1))
+certificate_cause bytes r s (inr x) (inr y) = fault_once bytes r s x.1 y.1
+
+fault_accepted : (bytes : List ℕ) (c : Certificate) (r : Refusal) → Spells bytes c → IsCertificateFault bytes r → ⊥
+fault_accepted bytes c r spells (inl x) = x.2.no_file c spells.0.0 spells.1
+fault_accepted bytes c r spells (inr x) = spelled_or_ruled bytes c x.0 spells x.2
 
 -- what spells a certificate is not refused
 pub spelled_accepted : (bytes : List ℕ) (c : Certificate) (r : Refusal) → IsCertificate bytes c → IsCertificateRefusal bytes r → ⊥
-spelled_accepted bytes c TooLong gives cause = omega (arith, gives.0)
-spelled_accepted bytes c (Shape line) gives cause = cause.1.no_file c gives.1.0.0 gives.1.1
-spelled_accepted bytes c (Rule f) gives cause = spelled_or_ruled bytes c f gives.1 cause.1
-spelled_accepted bytes c (Topology f) gives cause = cause
+spelled_accepted bytes c r gives (inl x) = omega (arith, gives.0, x.1)
+spelled_accepted bytes c r gives (inr x) = fault_accepted bytes c r gives.1 x.1
 
 certificates_once : ReadsOnce IsCertificateRefusal IsCertificate
 certificates_once = record {
@@ -58,41 +66,31 @@ certificates_once = record {
   not_both = spelled_accepted;
 }
 
-ok_once : (r : Result Network TopologyFault) (x y : Network) → r ≡ Ok x → r ≡ Ok y → x ≡ y
+pub ok_once : {A : Type 0} (r : Result A Refusal) (x y : A) → r ≡ Ok x → r ≡ Ok y → x ≡ y
 ok_once r x y ex ey = cc
 
-err_once : (r : Result Network TopologyFault) (x y : TopologyFault) → r ≡ Err x → r ≡ Err y → x ≡ y
+err_once : {A : Type 0} (r : Result A Refusal) (x y : Refusal) → r ≡ Err x → r ≡ Err y → x ≡ y
 err_once r x y ex ey = cc
 
-ok_or_err : (r : Result Network TopologyFault) (x : Network) (y : TopologyFault) → r ≡ Ok x → r ≡ Err y → ⊥
+pub ok_or_err : {A : Type 0} (r : Result A Refusal) (x : A) (y : Refusal) → r ≡ Ok x → r ≡ Err y → ⊥
 ok_or_err r x y ex ey = cc
 
--- a topology's bytes are refused for one cause
-topology_cause : (bytes : List ℕ) (r s : Refusal) → IsTopologyRefusal bytes r → IsTopologyRefusal bytes s → r ≡ s
-topology_cause bytes TooLong TooLong hr hs = refl
-topology_cause bytes TooLong (Shape j) hr hs = absurd hs
-topology_cause bytes TooLong (Rule g) hr hs = absurd hs
-topology_cause bytes TooLong (Topology g) hr hs = absurd (omega (arith, hs.0))
-topology_cause bytes (Shape k) s hr hs = absurd hr
-topology_cause bytes (Rule f) s hr hs = absurd hr
-topology_cause bytes (Topology f) TooLong hr hs = absurd (omega (arith, hr.0))
-topology_cause bytes (Topology f) (Shape j) hr hs = absurd hs
-topology_cause bytes (Topology f) (Rule g) hr hs = absurd hs
-topology_cause bytes (Topology f) (Topology g) hr hs = ap Topology (err_once (topology_of bytes) f g hr.1 hs.1)
-
--- what makes a network is not refused
-made_accepted : (bytes : List ℕ) (n : Network) (r : Refusal) → IsTopology bytes n → IsTopologyRefusal bytes r → ⊥
-made_accepted bytes n TooLong gives cause = omega (arith, gives.0)
-made_accepted bytes n (Shape line) gives cause = cause
-made_accepted bytes n (Rule f) gives cause = cause
-made_accepted bytes n (Topology f) gives cause = ok_or_err (topology_of bytes) n f gives.1 cause.1
+-- what a function of the bytes reads is read in one way
+function_once : {A : Type 0} (reads : List ℕ → Result A Refusal) → ReadsOnce (λ bytes r. reads bytes ≡ Err r) (λ bytes x. reads bytes ≡ Ok x)
+function_once reads = record {
+  one_cause = λ bytes r s hr hs. err_once (reads bytes) r s hr hs;
+  one_value = λ bytes x y hx hy. ok_once (reads bytes) x y hx hy;
+  not_both = λ bytes x r hx hr. ok_or_err (reads bytes) x r hx hr;
+}
 
 topologies_once : ReadsOnce IsTopologyRefusal IsTopology
-topologies_once = record {
-  one_cause = topology_cause;
-  one_value = λ bytes x y hx hy. ok_once (topology_of bytes) x y hx.1 hy.1;
-  not_both = made_accepted;
-}
+topologies_once = function_once topology_in
+
+matrices_once : (n : Network) → ReadsOnce (IsMatricesRefusal n) (IsMatrices n)
+matrices_once n = function_once (matrices_in n)
+
+plans_once : ReadsOnce IsPlanRefusal IsPlan
+plans_once = function_once plan_in
 
 failure_once : (o : Option LinkFailure) (f g : LinkFailure) → o ≡ Some f → o ≡ Some g → f ≡ g
 failure_once o f g ef eg = cc
@@ -101,7 +99,7 @@ no_failure : (o : Option LinkFailure) (f : LinkFailure) → o ≡ None → o ≡
 no_failure o f none some = cc
 
 -- a certificate has one answer
-verdict_once : (c : Certificate) → IsOne (IsVerdict c)
+verdict_once : (c : Certificate) → IsOne SameAnswer (IsVerdict c)
 verdict_once c s t a b (inl x) (inl y) = (x.0 ∙ sym y.0, x.1.line_is ∙ sym y.1.line_is)
 verdict_once c s t a b (inl x) (inr y) = absurd (no_failure (first_failure c) y.1.failure x.1.holds y.1.fails)
 verdict_once c s t a b (inr x) (inl y) = absurd (no_failure (first_failure c) x.1.failure y.1.holds x.1.fails)
@@ -109,115 +107,131 @@ verdict_once c s t a b (inr x) (inr y) =
     (x.0 ∙ sym y.0, x.1.line_is ∙ ap (λ f. no_line f.link f.rule f.place) (failure_once (first_failure c) x.1.failure y.1.failure x.1.fails y.1.fails) ∙ sym y.1.line_is)
 
 -- and one of a network
-network_verdict_once : (c : Certificate) (n : Network) → IsOne (IsNetworkVerdict c n)
+network_verdict_once : (c : Certificate) (n : Network) → IsOne SameAnswer (IsNetworkVerdict c n)
 network_verdict_once c n s t a b (inl x) (inl y) = verdict_once c s t a b x.1 y.1
 network_verdict_once c n s t a b (inl x) (inr y) = absurd (y.0 x.0)
 network_verdict_once c n s t a b (inr x) (inl y) = absurd (x.0 y.0)
 network_verdict_once c n s t a b (inr x) (inr y) = (x.1 ∙ sym y.1, x.2 ∙ sym y.2)
 
+-- a plan on its network and its series has one status: all pairs have a path, or one has none
+publication_once : (plan : Experiment) (n : Network) (series : Series) → IsOne SameStatus (IsPublicationStatus plan n series)
+publication_once plan n series s t a b (inl x) (inl y) = x.0 ∙ sym y.0
+publication_once plan n series s t a b (inl x) (inr y) = absurd (y.1.first.without (x.1 y.1.place y.1.first.inside))
+publication_once plan n series s t a b (inr x) (inl y) = absurd (x.1.first.without (y.1 x.1.place x.1.first.inside))
+publication_once plan n series s t a b (inr x) (inr y) = x.0 ∙ sym y.0
+
 -- the bytes of a file have one answer
-file_text_once : {A : Type 0} (Cause : List ℕ → Refusal → Type 0) (Gives : List ℕ → A → Type 0) (Answer : A → ℕ → List ℕ → Type 0) →
-    ReadsOnce Cause Gives → ((value : A) → IsOne (Answer value)) → (file bytes : List ℕ) → IsOne (FileText Cause Gives Answer file bytes)
-file_text_once Cause Gives Answer reads one file bytes s t a b (inl x) (inl y) =
-    (x.0 ∙ sym y.0, x.1.line_is ∙ ap (refused_line file) (reads.one_cause bytes x.1.refusal y.1.refusal x.1.cause y.1.cause) ∙ sym y.1.line_is)
-file_text_once Cause Gives Answer reads one file bytes s t a b (inl x) (inr y) =
+file_text_once : {A : Type 0} (Same : ℕ → List ℕ → ℕ → List ℕ → Type 0) → Allows Same →
+    (Cause : List ℕ → Refusal → Type 0) (Gives : List ℕ → A → Type 0) (Answer : A → ℕ → List ℕ → Type 0) →
+    ReadsOnce Cause Gives → ((value : A) → IsOne Same (Answer value)) → (file bytes : List ℕ) → IsOne Same (FileText Cause Gives Answer file bytes)
+file_text_once Same allows Cause Gives Answer reads one file bytes s t a b (inl x) (inl y) =
+    allows s t a b (x.0 ∙ sym y.0)
+    (x.1.line_is ∙ ap (refused_line file) (reads.one_cause bytes x.1.refusal y.1.refusal x.1.cause y.1.cause) ∙ sym y.1.line_is)
+file_text_once Same allows Cause Gives Answer reads one file bytes s t a b (inl x) (inr y) =
     absurd (reads.not_both bytes y.0 x.1.refusal y.1 x.1.cause)
-file_text_once Cause Gives Answer reads one file bytes s t a b (inr x) (inl y) =
+file_text_once Same allows Cause Gives Answer reads one file bytes s t a b (inr x) (inl y) =
     absurd (reads.not_both bytes x.0 y.1.refusal x.1 y.1.cause)
-file_text_once {A} Cause Gives Answer reads one file bytes s t a b (inr x) (inr y) =
+file_text_once {A} Same allows Cause Gives Answer reads one file bytes s t a b (inr x) (inr y) =
     let same = reads.one_value bytes x.0 y.0 x.1 y.1 in
     let P : A → Type 0 = λ value. Answer value s a in
     one y.0 s t a b (subst P same x.2) y.2
 
-told_once : (o : Option (List ℕ)) (x y : List ℕ) → o ≡ Some x → o ≡ Some y → x ≡ y
+pub told_once : (o : Option (List ℕ)) (x y : List ℕ) → o ≡ Some x → o ≡ Some y → x ≡ y
 told_once o x y ex ey = cc
 
 -- and so has what is told of it
-told_text_once : (Answer : List ℕ → ℕ → List ℕ → Type 0) → ((bytes : List ℕ) → IsOne (Answer bytes)) → (told : Option (List ℕ)) →
-    IsOne (ToldText Answer told)
-told_text_once Answer one told s t a b x y =
+told_text_once : (Same : ℕ → List ℕ → ℕ → List ℕ → Type 0) (Answer : List ℕ → ℕ → List ℕ → Type 0) → ((bytes : List ℕ) → IsOne Same (Answer bytes)) →
+    (told : Option (List ℕ)) → IsOne Same (ToldText Answer told)
+told_text_once Same Answer one told s t a b x y =
     let same = told_once told x.0 y.0 x.1 y.1 in
     let P : List ℕ → Type 0 = λ bytes. Answer bytes s a in
     one y.0 s t a b (subst P same x.2) y.2
 
-topology_text_once : (c : Certificate) (file rows : List ℕ) → IsOne (TopologyText c file rows)
+both : Allows SameAnswer
+both s t a b status text = (status, text)
+
+alone : Allows SameStatus
+alone s t a b status text = status
+
+check_text_once : (file bytes : List ℕ) → IsOne SameAnswer (CheckText file bytes)
+check_text_once file bytes = file_text_once SameAnswer both IsCertificateRefusal IsCertificate IsVerdict certificates_once verdict_once file bytes
+
+topology_text_once : (c : Certificate) (file rows : List ℕ) → IsOne SameAnswer (TopologyText c file rows)
 topology_text_once c file rows =
-    file_text_once IsTopologyRefusal IsTopology (IsNetworkVerdict c) topologies_once (network_verdict_once c) file rows
+    file_text_once SameAnswer both IsTopologyRefusal IsTopology (IsNetworkVerdict c) topologies_once (network_verdict_once c) file rows
 
-check_text_once : (file bytes : List ℕ) → IsOne (CheckText file bytes)
-check_text_once file bytes = file_text_once IsCertificateRefusal IsCertificate IsVerdict certificates_once verdict_once file bytes
-
-check_network_once : (file topology : List ℕ) (told : Option (List ℕ)) (bytes : List ℕ) → IsOne (CheckNetworkText file topology told bytes)
+check_network_once : (file topology : List ℕ) (told : Option (List ℕ)) (bytes : List ℕ) → IsOne SameAnswer (CheckNetworkText file topology told bytes)
 check_network_once file topology told bytes =
-    file_text_once IsCertificateRefusal IsCertificate (λ c. ToldText (TopologyText c topology) told) certificates_once
-    (λ c. told_text_once (TopologyText c topology) (topology_text_once c topology) told) file bytes
+    file_text_once SameAnswer both IsCertificateRefusal IsCertificate (λ c. ToldText (TopologyText c topology) told) certificates_once
+    (λ c. told_text_once SameAnswer (TopologyText c topology) (topology_text_once c topology) told) file bytes
 
--- the told files mean one status and one text
-pub means_once : (command : Command) (content : List ℕ → Option (List ℕ)) → IsOne (Means command content)
-means_once (check file) content = told_text_once (CheckText file) (check_text_once file) (content file)
-means_once (check_network file topology) content =
-    told_text_once (CheckNetworkText file topology (content topology)) (check_network_once file topology (content topology)) (content file)
+-- the told files of `check` mean one status and one text
+pub check_once : (command : Command) (content : List ℕ → Option (List ℕ)) → IsCheck command → IsOne SameAnswer (Means command content)
+check_once (check file) content is = told_text_once SameAnswer (CheckText file) (check_text_once file) (content file)
+check_once (check_network file topology) content is =
+    told_text_once SameAnswer (CheckNetworkText file topology (content topology)) (check_network_once file topology (content topology)) (content file)
+check_once (publish file) content is = absurd is
 
--- a certificate of which no inequality fails proves its ratio
-proves_ratio : (bytes : List ℕ) (c : Certificate) → IsCertificate bytes c → first_failure c ≡ None → ProvesRatio bytes
-proves_ratio bytes c gives none =
-    let holds = holds_from_none c none in
-    record { certificate = c; spelled = gives.1; holds = holds; ratio = holds_is_oblivious c gives.1.0 holds }
+matrices_text_once : (plan : Experiment) (n : Network) (file rows : List ℕ) → IsOne SameStatus (MatricesText (IsPublicationStatus plan n) n file rows)
+matrices_text_once plan n file rows =
+    file_text_once SameStatus alone (IsMatricesRefusal n) (IsMatrices n) (IsPublicationStatus plan n) (matrices_once n) (publication_once plan n) file rows
 
-yes_holds : (c : Certificate) (line : List ℕ) → IsVerdict c 0 line → first_failure c ≡ None
-yes_holds c line (inl x) = x.1.holds
-yes_holds c line (inr x) = absurd (omega (arith, x.0))
+plan_topology_once : (plan : Experiment) (content : List ℕ → Option (List ℕ)) (matrices file rows : List ℕ) →
+    IsOne SameStatus (PlanTopologyText (IsPublicationStatus plan) content matrices file rows)
+plan_topology_once plan content matrices file rows =
+    file_text_once SameStatus alone IsTopologyRefusal IsTopology (λ n. ToldText (MatricesText (IsPublicationStatus plan n) n matrices) (content matrices)) topologies_once
+    (λ n. told_text_once SameStatus (MatricesText (IsPublicationStatus plan n) n matrices) (matrices_text_once plan n matrices) (content matrices)) file rows
 
-yes_proves : (file bytes line : List ℕ) → CheckText file bytes 0 line → ProvesRatio bytes
-yes_proves file bytes line (inl x) = absurd (omega (arith, x.0))
-yes_proves file bytes line (inr x) = proves_ratio bytes x.0 x.1 (yes_holds x.0 line x.2)
+plan_text_once : (content : List ℕ → Option (List ℕ)) (file bytes : List ℕ) → IsOne SameStatus (PlanText IsPublicationStatus content file bytes)
+plan_text_once content file bytes =
+    file_text_once SameStatus alone IsPlanRefusal IsPlan (λ plan. ToldText (PlanTopologyText (IsPublicationStatus plan) content plan.matrices plan.topology) (content plan.topology)) plans_once
+    (λ plan. told_text_once SameStatus (PlanTopologyText (IsPublicationStatus plan) content plan.matrices plan.topology)
+    (plan_topology_once plan content plan.matrices plan.topology) (content plan.topology)) file bytes
 
--- a yes of a topology's rows is one of their network
-network_holds : (c : Certificate) (n : Network) (line : List ℕ) → IsNetworkVerdict c n 0 line → (c.head.network ≡ n) × (first_failure c ≡ None)
-network_holds c n line (inl x) = (x.0, yes_holds c line x.1)
-network_holds c n line (inr x) = absurd (omega (arith, x.1))
+-- the told files mean one status
+pub status_once : (command : Command) (content : List ℕ → Option (List ℕ)) (s t : ℕ) → MeansStatus command content s → MeansStatus command content t → s ≡ t
+status_once (check file) content s t x y = (check_once (check file) content tt s t x.0 y.0 x.1 y.1).0
+status_once (check_network file topology) content s t x y = (check_once (check_network file topology) content tt s t x.0 y.0 x.1 y.1).0
+status_once (publish file) content s t x y =
+    told_text_once SameStatus (PlanText IsPublicationStatus content file) (plan_text_once content file) (content file) s t x.0 y.0 x.1 y.1
 
-topology_holds : (c : Certificate) (file rows line : List ℕ) → TopologyText c file rows 0 line →
-    IsTopology rows c.head.network × (first_failure c ≡ None)
-topology_holds c file rows line (inl x) = absurd (omega (arith, x.0))
-topology_holds c file rows line (inr x) =
-    let yes = network_holds c x.0 line x.2 in
-    (subst (IsTopology rows) (sym yes.0) x.1, yes.1)
+-- an answer by a weaker meaning
+file_text_weaker : {A : Type 0} (Cause : List ℕ → Refusal → Type 0) (Gives : List ℕ → A → Type 0) (P Q : A → ℕ → List ℕ → Type 0) (file bytes : List ℕ) (s : ℕ) (a : List ℕ) →
+    ((value : A) → P value s a → Q value s a) → FileText Cause Gives P file bytes s a → FileText Cause Gives Q file bytes s a
+file_text_weaker Cause Gives P Q file bytes s a weaker (inl x) = inl x
+file_text_weaker Cause Gives P Q file bytes s a weaker (inr x) = inr (x.0, x.1, weaker x.0 x.2)
 
-network_proves : (file topology : List ℕ) (told : Option (List ℕ)) (bytes line : List ℕ) → CheckNetworkText file topology told bytes 0 line →
-    (proof : ProvesRatio bytes) × TellsNetwork told proof.certificate.head.network
-unfolding proves_ratio
-network_proves file topology told bytes line (inl x) = absurd (omega (arith, x.0))
-network_proves file topology told bytes line (inr x) =
-    let yes = topology_holds x.0 topology x.2.0 line x.2.2 in
-    (proves_ratio bytes x.0 x.1 yes.1, (x.2.0, x.2.1, yes.0))
+told_text_weaker : (P Q : List ℕ → ℕ → List ℕ → Type 0) (told : Option (List ℕ)) (s : ℕ) (a : List ℕ) → ((bytes : List ℕ) → P bytes s a → Q bytes s a) →
+    ToldText P told s a → ToldText Q told s a
+told_text_weaker P Q told s a weaker x = (x.0, x.1, weaker x.0 x.2)
 
--- a yes of the told files is true
-means_ratio : (command : Command) (content : List ℕ → Option (List ℕ)) (line : List ℕ) → Means command content 0 line → MeansRatio command content
-means_ratio (check file) content line x = (x.0, x.1, yes_proves file x.0 line x.2)
-means_ratio (check_network file topology) content line x = (x.0, x.1, network_proves file topology (content topology) x.0 line x.2)
+publication_status : (plan : Experiment) (n : Network) (series : Series) (s : ℕ) (a : List ℕ) → IsPublication plan n series s a → IsPublicationStatus plan n series s a
+publication_status plan n series s a (inl x) = inl (x.0, x.1)
+publication_status plan n series s a (inr x) = inr x
 
-asked_is : (words : Option Command) (asked command : Command) → Some asked ≡ words → words ≡ Some command → asked ≡ command
-asked_is words asked command is named = cc
+-- what is meant has the status that is meant
+pub status_meant : (command : Command) (content : List ℕ → Option (List ℕ)) (s : ℕ) (a : List ℕ) → Means command content s a → MeansStatus command content s
+status_meant (check file) content s a x = (a, x)
+status_meant (check_network file topology) content s a x = (a, x)
+status_meant (publish file) content s a x = (a, told_text_weaker (PlanText IsPublication content file) (PlanText IsPublicationStatus content file) (content file) s a plans x)
+  where
+    demands : (plan : Experiment) (n : Network) (rows : List ℕ) → MatricesText (IsPublication plan n) n plan.matrices rows s a →
+        MatricesText (IsPublicationStatus plan n) n plan.matrices rows s a
+    demands plan n rows =
+        file_text_weaker (IsMatricesRefusal n) (IsMatrices n) (IsPublication plan n) (IsPublicationStatus plan n) plan.matrices rows s a
+        (λ series. publication_status plan n series s a)
 
--- the command that was read from the words is that of the words
-same_command : (asked command : Command) (read words : List (String Global)) → Some asked ≡ command_of (map string_bytes read) →
-    read ≡ words → command_of (map string_bytes words) ≡ Some command → asked ≡ command
-same_command asked command read words is same named =
-    asked_is (command_of (map string_bytes words)) asked command (is ∙ ap (λ list. command_of (map string_bytes list)) same) named
+    topologies : (plan : Experiment) (rows : List ℕ) → PlanTopologyText (IsPublication plan) content plan.matrices plan.topology rows s a →
+        PlanTopologyText (IsPublicationStatus plan) content plan.matrices plan.topology rows s a
+    topologies plan rows =
+        file_text_weaker IsTopologyRefusal IsTopology (λ n. ToldText (MatricesText (IsPublication plan n) n plan.matrices) (content plan.matrices))
+        (λ n. ToldText (MatricesText (IsPublicationStatus plan n) n plan.matrices) (content plan.matrices)) plan.topology rows s a
+        (λ n. told_text_weaker (MatricesText (IsPublication plan n) n plan.matrices) (MatricesText (IsPublicationStatus plan n) n plan.matrices)
+        (content plan.matrices) s a (demands plan n))
 
--- what that command means is what the words mean
-pub answers_words : (asked : Command) (read words : List (String Global)) (content : List ℕ → Option (List ℕ)) (s : ℕ) (line : List ℕ) →
-    Some asked ≡ command_of (map string_bytes read) → read ≡ words → (IsTold asked content → Means asked content s line) →
-    OfToldCommand (map string_bytes words) content
-    (λ command. (status : ℕ) (said : List ℕ) → Means command content status said → (s ≡ status) × (line ≡ said))
-answers_words asked read words content s line is same means command named told status said meant =
-    let P : Command → Type 0 = λ k. IsTold k content → Means k content s line in
-    means_once command content s status line said (subst P (same_command asked command read words is same named) means told) meant
-
-pub ratio_of_words : (asked : Command) (read words : List (String Global)) (content : List ℕ → Option (List ℕ)) (line : List ℕ) →
-    Some asked ≡ command_of (map string_bytes read) → read ≡ words → (IsTold asked content → Means asked content 0 line) →
-    OfToldCommand (map string_bytes words) content (λ command. MeansRatio command content)
-ratio_of_words asked read words content line is same means command named told =
-    let P : Command → Type 0 = λ k. IsTold k content → Means k content 0 line in
-    means_ratio command content line (subst P (same_command asked command read words is same named) means told)
+    plans : (bytes : List ℕ) → PlanText IsPublication content file bytes s a → PlanText IsPublicationStatus content file bytes s a
+    plans bytes =
+        file_text_weaker IsPlanRefusal IsPlan (λ plan. ToldText (PlanTopologyText (IsPublication plan) content plan.matrices plan.topology) (content plan.topology))
+        (λ plan. ToldText (PlanTopologyText (IsPublicationStatus plan) content plan.matrices plan.topology) (content plan.topology)) file bytes s a
+        (λ plan. told_text_weaker (PlanTopologyText (IsPublication plan) content plan.matrices plan.topology)
+        (PlanTopologyText (IsPublicationStatus plan) content plan.matrices plan.topology) (content plan.topology) s a (topologies plan))

@@ -1,23 +1,24 @@
 -- What was found of the files gives the answer.
-use Rattle.std.proofs.Common.{◌≡◌, ◌≢◌, ◌⊎◌, ℕ, ◌<◌, ◌≤◌, List, Option, Some, None, Result, Ok, Err, IfOk, IsErrOf, inl, inr, refl, arith}
+use Rattle.std.proofs.Common.{◌≡◌, ℕ, List, Option, Some, None, Result, Ok, Err, IfOk, inl, inr, refl}
+use Rattle.te_ports.specs.Ports.{Told}
 use Rattle.te_model.specs.declared.memory.Memory.{Memory}
 use Rattle.te_model.specs.declared.certificate.Certificate.{Certificate}
 use Rattle.te_model.specs.declared.network.Network.{Network}
 use Rattle.te_model.specs.Inequalities.{LinkFailure, first_failure}
 use Rattle.ratio_checker.specs.Finding.{finding_of}
 use Rattle.ratio_checker.specs.declared.finding.Finding.{Finding}
+use Rattle.experiment.specs.declared.plan.Experiment.{Experiment}
 use Rattle.te_command.specs.declared.answer.Answer.{Answer}
 use Rattle.te_command.specs.declared.answer.Fault.{Fault}
+use Rattle.te_command.specs.declared.answer.Fault.TheVariants.{Refused, Read, Memory as OutOfMemory}
 use Rattle.te_command.specs.declared.refusal.Refusal.{Refusal}
-use Rattle.te_command.specs.declared.refusal.FileFault.{FileFault}
-use Rattle.te_command.specs.declared.refusal.FileFault.TheVariants.{Refused, Read, Memory as OutOfMemory}
-use Rattle.te_command.specs.Refusals.{IsCertificate, IsCertificateRefusal}
-use Rattle.te_command.specs.CheckText.{IsVerdict, IsNetworkVerdict, FileText, TopologyText}
-use Rattle.te_command.specs.Command.{Command, check, check_network, files_of}
-use Rattle.te_command.specs.Lines.{IsLineOf, IfRefused, IsRefusalLine}
-use Rattle.te_command.specs.Meaning.{IsRefusedIn, IsToldFile, IsTold, Means, IsRefusedFile, ReadFailed, status_of, text_of}
-use Rattle.te_ports.specs.Ports.{Rose, Told}
-use Rattle.te_command.proofs.Once.{spelled_accepted}
+use Rattle.te_command.specs.Command.{check_network, publish}
+use Rattle.te_command.specs.Refusals.{IsCertificate, IsCertificateRefusal, IsTopology, IsTopologyRefusal, IsPlan, IsPlanRefusal}
+use Rattle.te_command.specs.Files.{IsToldFile, Tells, FileText, ToldText, SaysRefused}
+use Rattle.te_command.specs.CheckText.{IsVerdict, IsNetworkVerdict, TopologyText}
+use Rattle.te_command.specs.PublishText.{IsPublication, MatricesText, PlanTopologyText}
+use Rattle.te_command.specs.Meaning.{IsTold, Means}
+use Rattle.te_command.specs.Outcome.{IsLineOf, OnRefused, ReadsAs, Meant, status_of, text_of}
 
 -- what the first failure gives
 line_of_failure : (c : Certificate) (failure : Option LinkFailure) (answer : Answer) → first_failure c ≡ failure →
@@ -37,78 +38,67 @@ pub verdict_same : (c : Certificate) (n : Network) (r : Result Answer Memory) �
 verdict_same c n (Ok answer) same verdict = inl (same, verdict)
 verdict_same c n (Err e) same verdict = verdict
 
--- where a file is refused, that is its answer
-pub text_refused : {A : Type 0} (Cause : List ℕ → Refusal → Type 0) (Gives : List ℕ → A → Type 0) (Meant : A → ℕ → List ℕ → Type 0) →
-    (file : List ℕ) (told : Option (List ℕ)) (r : Result Answer Fault) (fault : FileFault) →
-    IfRefused fault (λ refusal. Told told (λ bytes. Cause bytes refusal)) → IfOk r (IsRefusalLine file fault) →
-    IfOk r (λ answer. Told told (λ bytes. FileText Cause Gives Meant file bytes (status_of answer) (text_of answer)))
-text_refused Cause Gives Meant file told (Err e) fault cause says = says
-text_refused Cause Gives Meant file told (Ok answer) (Refused refusal) cause says =
-    λ bytes is. inl (says.0, record { refusal = refusal; cause = cause bytes is; line_is = says.1 })
-text_refused Cause Gives Meant file told (Ok answer) Read cause says = absurd says
-text_refused Cause Gives Meant file told (Ok answer) OutOfMemory cause says = absurd says
+-- the answer of a value is that of the file that gives it
+meant_through : {A : Type 0} (Cause : List ℕ → Refusal → Type 0) (Gives : List ℕ → A → Type 0) (P : A → ℕ → List ℕ → Type 0)
+    (file bytes : List ℕ) (told : Option (List ℕ)) (value : A) (r : Result Answer Fault) → told ≡ Some bytes → Gives bytes value → Meant (P value) r →
+    Meant (ToldText (FileText Cause Gives P file) told) r
+meant_through Cause Gives P file bytes told value (Ok answer) is gives meant = (bytes, is, inr (value, gives, meant))
+meant_through Cause Gives P file bytes told value (Err (Refused line)) is gives meant = (bytes, is, inr (value, gives, meant))
+meant_through Cause Gives P file bytes told value (Err Read) is gives meant = tt
+meant_through Cause Gives P file bytes told value (Err OutOfMemory) is gives meant = tt
 
--- a certificate that is refused is the answer of each form of `check`
-pub check_refused : (file : List ℕ) (content : List ℕ → Option (List ℕ)) (r : Result Answer Fault) (fault : FileFault) →
-    IfRefused fault (λ refusal. Told (content file) (λ bytes. IsCertificateRefusal bytes refusal)) → IfOk r (IsRefusalLine file fault) →
-    IfOk r (λ answer. IsTold (check file) content → Means (check file) content (status_of answer) (text_of answer))
-check_refused file content (Err e) fault cause says = says
-check_refused file content (Ok answer) (Refused refusal) cause says =
-    λ told. (told.0, told.1, inl (says.0, record { refusal = refusal; cause = cause told.0 told.1; line_is = says.1 }))
-check_refused file content (Ok answer) Read cause says = absurd says
-check_refused file content (Ok answer) OutOfMemory cause says = absurd says
+-- a file that gave a value
+pub file_read : {A : Type 0} (Cause : List ℕ → Refusal → Type 0) (Gives : List ℕ → A → Type 0) (P : A → ℕ → List ℕ → Type 0)
+    (file : List ℕ) (told : Option (List ℕ)) (value : A) (r : Result Answer Fault) → Told told (ReadsAs Cause Gives file (Ok value)) → Meant (P value) r →
+    IsToldFile told → Meant (ToldText (FileText Cause Gives P file) told) r
+file_read Cause Gives P file told value r reads meant is =
+    meant_through Cause Gives P file is.0 told value r is.1 (reads is.0 is.1) meant
 
-pub check_network_refused : (file topology : List ℕ) (content : List ℕ → Option (List ℕ)) (r : Result Answer Fault) (fault : FileFault) →
-    IfRefused fault (λ refusal. Told (content file) (λ bytes. IsCertificateRefusal bytes refusal)) → IfOk r (IsRefusalLine file fault) →
-    IfOk r (λ answer. IsTold (check_network file topology) content →
-    Means (check_network file topology) content (status_of answer) (text_of answer))
-check_network_refused file topology content (Err e) fault cause says = says
-check_network_refused file topology content (Ok answer) (Refused refusal) cause says =
-    λ told. (told.0.0, told.0.1, inl (says.0, record { refusal = refusal; cause = cause told.0.0 told.0.1; line_is = says.1 }))
-check_network_refused file topology content (Ok answer) Read cause says = absurd says
-check_network_refused file topology content (Ok answer) OutOfMemory cause says = absurd says
+says_refused : {A : Type 0} (Cause : List ℕ → Refusal → Type 0) (Gives : List ℕ → A → Type 0) (P : A → ℕ → List ℕ → Type 0)
+    (file bytes : List ℕ) (told : Option (List ℕ)) (fault : Fault) → told ≡ Some bytes → OnRefused fault (SaysRefused Cause file bytes) →
+    OnRefused fault (ToldText (FileText Cause Gives P file) told 3)
+says_refused Cause Gives P file bytes told (Refused line) is says = (bytes, is, inl (refl, says))
+says_refused Cause Gives P file bytes told Read is says = tt
+says_refused Cause Gives P file bytes told OutOfMemory is says = tt
 
--- what spells a certificate is told as no refused file
-not_refused : (told : Option (List ℕ)) (c : Certificate) → Told told (λ bytes. IsCertificate bytes c) → IsRefusedIn IsCertificateRefusal told → ⊥
-not_refused told c spelled refused = spelled_accepted refused.0 c refused.1 (spelled refused.0 refused.2) refused.3
+-- a file that gave none
+pub file_refused : {A : Type 0} (Cause : List ℕ → Refusal → Type 0) (Gives : List ℕ → A → Type 0) (P : A → ℕ → List ℕ → Type 0)
+    (file : List ℕ) (told : Option (List ℕ)) (fault : Fault) → Told told (ReadsAs Cause Gives file (Err fault)) →
+    IsToldFile told → Meant (ToldText (FileText Cause Gives P file) told) (Err fault)
+file_refused Cause Gives P file told fault reads is = says_refused Cause Gives P file is.0 told fault is.1 (reads is.0 is.1)
 
--- a certificate that is not refused needs a topology that is told
-topology_told : (told other : Option (List ℕ)) (c : Certificate) → Told told (λ bytes. IsCertificate bytes c) →
-    IsRefusedIn IsCertificateRefusal told ⊎ IsToldFile other → IsToldFile other
-topology_told told other c spelled (inl refused) = absurd (not_refused told c spelled refused)
-topology_told told other c spelled (inr rows) = rows
+-- where the certificate is read, the answer of the topology is that of both files
+pub check_network_then : (file topology : List ℕ) (content : List ℕ → Option (List ℕ)) (c : Certificate) (r : Result Answer Fault) →
+    Told (content file) (ReadsAs IsCertificateRefusal IsCertificate file (Ok c)) →
+    (IsToldFile (content topology) → Meant (ToldText (TopologyText c topology) (content topology)) r) →
+    IsTold (check_network file topology) content → Meant (Means (check_network file topology) content) r
+check_network_then file topology content c r reads rest told =
+    let is = reads told.0.0 told.0.1 in
+    meant_through IsCertificateRefusal IsCertificate (λ certificate. ToldText (TopologyText certificate topology) (content topology))
+    file told.0.0 (content file) c r told.0.1 is (rest (told.1 c (told.0.0, told.0.1, is)))
 
--- the answer of the topology is that of both files
-pub check_network_found : (file topology : List ℕ) (content : List ℕ → Option (List ℕ)) (c : Certificate) (r : Result Answer Fault) →
-    Told (content file) (λ bytes. IsCertificate bytes c) →
-    IfOk r (λ answer. Told (content topology) (λ rows. TopologyText c topology rows (status_of answer) (text_of answer))) →
-    IfOk r (λ answer. IsTold (check_network file topology) content →
-    Means (check_network file topology) content (status_of answer) (text_of answer))
-check_network_found file topology content c (Err e) spelled says = says
-check_network_found file topology content c (Ok answer) spelled says =
-    λ told. let rows = topology_told (content file) (content topology) c spelled told.1 in
-    (told.0.0, told.0.1, inr (c, spelled told.0.0 told.0.1, (rows.0, rows.1, says rows.0 rows.1)))
+-- the later files of a plan that are to be told
+abbrev pub AreTold : (List ℕ → Option (List ℕ)) → Experiment → Type 0
+AreTold content plan =
+    IsToldFile (content plan.topology)
+    × ((network : Network) → Tells IsTopology (content plan.topology) network → IsToldFile (content plan.matrices))
 
--- the certificate's file is the first of each form of `check`
-pub check_failed : (file : List ℕ) (content : List ℕ → Option (List ℕ)) (before now : List ℕ → ℕ) → Rose (before file) (now file) →
-    ReadFailed (check file) content before now
-check_failed file content before now rose =
-    record { place = 0; file = file; named = refl; rose = rose; accepted = λ earlier first. absurd (omega arith) }
+-- where the plan is read, the answer of its topology is that of the plan
+pub publish_then : (file : List ℕ) (content : List ℕ → Option (List ℕ)) (plan : Experiment) (r : Result Answer Fault) →
+    Told (content file) (ReadsAs IsPlanRefusal IsPlan file (Ok plan)) →
+    (AreTold content plan → Meant (ToldText (PlanTopologyText (IsPublication plan) content plan.matrices plan.topology) (content plan.topology)) r) →
+    IsTold (publish file) content → Meant (Means (publish file) content) r
+publish_then file content plan r reads rest told =
+    let is = reads told.0.0 told.0.1 in
+    meant_through IsPlanRefusal IsPlan (λ named. ToldText (PlanTopologyText (IsPublication named) content named.matrices named.topology) (content named.topology))
+    file told.0.0 (content file) plan r told.0.1 is (rest (told.1 plan (told.0.0, told.0.1, is)))
 
-pub check_network_failed : (file topology : List ℕ) (content : List ℕ → Option (List ℕ)) (before now : List ℕ → ℕ) →
-    Rose (before file) (now file) → ReadFailed (check_network file topology) content before now
-check_network_failed file topology content before now rose =
-    record { place = 0; file = file; named = refl; rose = rose; accepted = λ earlier first. absurd (omega arith) }
-
--- the first file alone stands before the second
-only_first : (file topology : List ℕ) (content : List ℕ → Option (List ℕ)) (c : Certificate) → Told (content file) (λ bytes. IsCertificate bytes c) →
-    (earlier : ℕ) → earlier < 1 → IsRefusedFile (check_network file topology) content earlier → ⊥
-only_first file topology content c spelled earlier first (inl refused) = not_refused (content file) c spelled refused.1
-only_first file topology content c spelled earlier first (inr refused) = omega (arith, refused.0)
-
--- the topology's file is the second, and the certificate before it was not refused
-pub topology_failed : (file topology : List ℕ) (content : List ℕ → Option (List ℕ)) (before now : List ℕ → ℕ) (c : Certificate) →
-    Told (content file) (λ bytes. IsCertificate bytes c) → Rose (before topology) (now topology) →
-    ReadFailed (check_network file topology) content before now
-topology_failed file topology content before now c spelled rose =
-    record { place = 1; file = topology; named = refl; rose = rose; accepted = only_first file topology content c spelled }
+-- where the topology is read, the answer of the matrices is that of both
+pub topology_then : (content : List ℕ → Option (List ℕ)) (plan : Experiment) (n : Network) (r : Result Answer Fault) →
+    Told (content plan.topology) (ReadsAs IsTopologyRefusal IsTopology plan.topology (Ok n)) →
+    (IsToldFile (content plan.matrices) → Meant (ToldText (MatricesText (IsPublication plan n) n plan.matrices) (content plan.matrices)) r) →
+    AreTold content plan → Meant (ToldText (PlanTopologyText (IsPublication plan) content plan.matrices plan.topology) (content plan.topology)) r
+topology_then content plan n r reads rest told =
+    let is = reads told.0.0 told.0.1 in
+    meant_through IsTopologyRefusal IsTopology (λ network. ToldText (MatricesText (IsPublication plan network) network plan.matrices) (content plan.matrices))
+    plan.topology told.0.0 (content plan.topology) n r told.0.1 is (rest (told.1 n (told.0.0, told.0.1, is)))

@@ -1,5 +1,5 @@
--- The told files mean some status and some text.
-use Rattle.std.proofs.Common.{◌≡◌, ◌≢◌, ◌<◌, ◌≤◌, ◌⊎◌, ℕ, List, length, Option, Some, None, Result, Ok, Err, inl, inr, refl, arith}
+-- The told files mean some status, and those of `check` some text.
+use Rattle.std.proofs.Common.{◌≡◌, ◌≤◌, ◌⊎◌, ℕ, List, [], length, Option, Some, None, Result, Ok, Err, inl, inr, refl}
 use Rattle.std.proofs.lemmas.Bool.{cases_lt}
 use Rattle.te_model.specs.declared.certificate.Certificate.{Certificate}
 use Rattle.te_model.specs.declared.certificate.RuleFault.{RuleFault}
@@ -9,15 +9,20 @@ use Rattle.te_model.specs.Inequalities.{LinkFailure, first_failure}
 use Rattle.te_model.specs.Text.{Spells}
 use Rattle.te_model.specs.Faults.{IsShapeFault, IsRuleFault}
 use Rattle.cert_text.proofs.Laws.{some_reading}
-use Rattle.topology.specs.Topology.{topology_of}
-use Rattle.topology.specs.declared.fault.TopologyFault.{TopologyFault}
+use Rattle.scheme.specs.Reach.{AllReached, IsFirstWithout, pair_at}
+use Rattle.traffic_matrix.specs.declared.series.Series.{Series}
+use Rattle.experiment.specs.declared.plan.Experiment.{Experiment}
 use Rattle.te_command.specs.declared.refusal.Refusal.{Refusal}
-use Rattle.te_command.specs.declared.refusal.Refusal.TheVariants.{TooLong, Shape, Rule, Topology}
-use Rattle.te_command.specs.Command.{Command, check, check_network}
-use Rattle.te_command.specs.Refusals.{certificate_limit, input_limit, IsCertificate, IsCertificateRefusal, IsTopology, IsTopologyRefusal, refused_line}
-use Rattle.te_command.specs.CheckText.{IsVerdict, IsNetworkVerdict, FileText, TopologyText, ToldText, yes_line, no_line, no_network_line}
-use Rattle.te_command.specs.Meaning.{IsRefusedIn, IsToldFile, IsTold, Means}
+use Rattle.te_command.specs.declared.refusal.Refusal.TheVariants.{TooLong, Shape, Rule}
+use Rattle.te_command.specs.Command.{Command, check, check_network, publish, IsCheck}
+use Rattle.te_command.specs.Refusals.{certificate_limit, IsCertificate, IsCertificateRefusal, IsTopology, IsTopologyRefusal, IsMatrices, IsMatricesRefusal, IsPlan, IsPlanRefusal, topology_in, matrices_in, plan_in, refused_line}
+use Rattle.te_command.specs.Files.{IsToldFile, FileText, ToldText}
+use Rattle.te_command.specs.CheckText.{IsVerdict, IsNetworkVerdict, TopologyText, yes_line, no_line, no_network_line}
+use Rattle.te_command.specs.PublishText.{IsPublicationStatus, MatricesText, PlanTopologyText, PlanText, no_path_line}
+use Rattle.te_command.specs.Meaning.{IsTold, Means, MeansStatus}
 use Rattle.te_command.proofs.Owed.{same_or_not}
+use Rattle.te_command.proofs.Reaching.{reached_or_first}
+use Rattle.te_command.proofs.Texts.{AreTold}
 
 -- there is a status and a text
 abbrev pub HasAnswer : (ℕ → List ℕ → Type 0) → Type 0
@@ -31,25 +36,22 @@ certificate_spelled : (bytes : List ℕ) → length bytes ≤ certificate_limit 
     ((c : Certificate) × Spells bytes c) ⊎ (((k : ℕ) × IsShapeFault FORMAT_1 bytes k) ⊎ ((f : RuleFault) × IsRuleFault FORMAT_1 bytes f)) →
     IsRead IsCertificateRefusal IsCertificate bytes
 certificate_spelled bytes fits (inl c) = inl (c.0, (fits, c.1))
-certificate_spelled bytes fits (inr (inl k)) = inr (Shape k.0, (fits, k.1))
-certificate_spelled bytes fits (inr (inr f)) = inr (Rule f.0, (fits, f.1))
+certificate_spelled bytes fits (inr (inl k)) = inr (Shape k.0, inr (fits, inl (k.0, refl, k.1)))
+certificate_spelled bytes fits (inr (inr f)) = inr (Rule f.0, inr (fits, inr (f.0, refl, f.1)))
 
 certificate_read : (bytes : List ℕ) → IsRead IsCertificateRefusal IsCertificate bytes
 certificate_read bytes = elim (cases_lt certificate_limit (length bytes)) [
-  | inl long ↦ inr (TooLong, long)
+  | inl long ↦ inr (TooLong, inl (refl, long))
   | inr fits ↦ certificate_spelled bytes fits (some_reading bytes)
 ]
 
-topology_made : (bytes : List ℕ) (r : Result Network TopologyFault) → length bytes ≤ input_limit → topology_of bytes ≡ r →
-    IsRead IsTopologyRefusal IsTopology bytes
-topology_made bytes (Ok network) fits is = inl (network, (fits, is))
-topology_made bytes (Err row) fits is = inr (Topology row, (fits, is))
+function_read : {A : Type 0} (reads : List ℕ → Result A Refusal) (bytes : List ℕ) (r : Result A Refusal) → reads bytes ≡ r →
+    IsRead (λ bytes refusal. reads bytes ≡ Err refusal) (λ bytes value. reads bytes ≡ Ok value) bytes
+function_read reads bytes (Ok value) is = inl (value, is)
+function_read reads bytes (Err refusal) is = inr (refusal, is)
 
 topology_read : (bytes : List ℕ) → IsRead IsTopologyRefusal IsTopology bytes
-topology_read bytes = elim (cases_lt input_limit (length bytes)) [
-  | inl long ↦ inr (TooLong, long)
-  | inr fits ↦ topology_made bytes (topology_of bytes) fits refl
-]
+topology_read bytes = function_read topology_in bytes (topology_in bytes) refl
 
 verdict_at : (c : Certificate) (o : Option LinkFailure) → first_failure c ≡ o → HasAnswer (IsVerdict c)
 verdict_at c None is = (0, yes_line c.head.ratio c.head.set, inl (refl, record { holds = is; line_is = refl }))
@@ -67,36 +69,56 @@ network_verdict_at c n (inr differs) = (1, no_network_line, inr (differs, refl, 
 network_verdict_some : (c : Certificate) (n : Network) → HasAnswer (IsNetworkVerdict c n)
 network_verdict_some c n = network_verdict_at c n (same_or_not c.head.network n)
 
--- bytes that are read have an answer
-file_text_some : {A : Type 0} (Cause : List ℕ → Refusal → Type 0) (Gives : List ℕ → A → Type 0) (Answer : A → ℕ → List ℕ → Type 0) →
-    ((value : A) → HasAnswer (Answer value)) → (file bytes : List ℕ) → IsRead Cause Gives bytes → HasAnswer (FileText Cause Gives Answer file bytes)
-file_text_some Cause Gives Answer each file bytes (inl x) =
-    let answer = each x.0 in (answer.0, answer.1, inr (x.0, x.1, answer.2))
-file_text_some Cause Gives Answer each file bytes (inr x) =
-    (3, refused_line file x.0, inl (refl, record { refusal = x.0; cause = x.1; line_is = refl }))
+-- the told bytes of a file have an answer, where each value that they give has one
+told_some : {A : Type 0} (Cause : List ℕ → Refusal → Type 0) (Gives : List ℕ → A → Type 0) (Answer : A → ℕ → List ℕ → Type 0) (file bytes : List ℕ) (told : Option (List ℕ)) →
+    told ≡ Some bytes → ((value : A) → Gives bytes value → HasAnswer (Answer value)) → IsRead Cause Gives bytes → HasAnswer (ToldText (FileText Cause Gives Answer file) told)
+told_some Cause Gives Answer file bytes told is each (inl x) =
+    let answer = each x.0 x.1 in (answer.0, answer.1, (bytes, is, inr (x.0, x.1, answer.2)))
+told_some Cause Gives Answer file bytes told is each (inr x) =
+    (3, refused_line file x.0, (bytes, is, inl (refl, record { refusal = x.0; cause = x.1; line_is = refl })))
 
-topology_text_some : (c : Certificate) (file rows : List ℕ) → HasAnswer (TopologyText c file rows)
-topology_text_some c file rows =
-    file_text_some IsTopologyRefusal IsTopology (IsNetworkVerdict c) (network_verdict_some c) file rows (topology_read rows)
+topology_some : (c : Certificate) (file : List ℕ) (told : Option (List ℕ)) → IsToldFile told → HasAnswer (ToldText (TopologyText c file) told)
+topology_some c file told is =
+    told_some IsTopologyRefusal IsTopology (IsNetworkVerdict c) file is.0 told is.1 (λ n makes. network_verdict_some c n) (topology_read is.0)
 
--- the topology's file is read only where the certificate is not refused
-network_some : (file topology : List ℕ) (content : List ℕ → Option (List ℕ)) → IsToldFile (content file) →
-    IsRefusedIn IsCertificateRefusal (content file) ⊎ IsToldFile (content topology) → HasAnswer (Means (check_network file topology) content)
-network_some file topology content told (inl refused) = (
-  3,
-  refused_line file refused.1,
-  (refused.0, refused.2, inl (refl, record { refusal = refused.1; cause = refused.3; line_is = refl })),
-)
-network_some file topology content told (inr rows) =
-    let answer = file_text_some IsCertificateRefusal IsCertificate (λ c. ToldText (TopologyText c topology) (content topology)) compared file told.0 (certificate_read told.0) in
-    (answer.0, answer.1, (told.0, told.1, answer.2))
+-- the told files of `check` mean a status and a text
+pub check_some : (command : Command) (content : List ℕ → Option (List ℕ)) → IsCheck command → IsTold command content → HasAnswer (Means command content)
+check_some (check file) content is told =
+    told_some IsCertificateRefusal IsCertificate IsVerdict file told.0 (content file) told.1 (λ c spells. verdict_some c) (certificate_read told.0)
+check_some (check_network file topology) content is told =
+    told_some IsCertificateRefusal IsCertificate (λ c. ToldText (TopologyText c topology) (content topology)) file told.0.0 (content file) told.0.1
+    (λ c spells. topology_some c topology (content topology) (told.1 c (told.0.0, told.0.1, spells))) (certificate_read told.0.0)
+check_some (publish file) content is told = absurd is
+
+publication_some : (plan : Experiment) (n : Network) (series : Series) → HasAnswer (IsPublicationStatus plan n series)
+publication_some plan n series = go (reached_or_first n series.pairs.list)
   where
-    compared : (c : Certificate) → HasAnswer (ToldText (TopologyText c topology) (content topology))
-    compared c = let answer = topology_text_some c topology rows.0 in (answer.0, answer.1, (rows.0, rows.1, answer.2))
+    go : AllReached n series.pairs.list ⊎ ((p : ℕ) × IsFirstWithout n series.pairs.list p) → HasAnswer (IsPublicationStatus plan n series)
+    go (inl reached) = (0, [], inl (refl, reached))
+    go (inr x) = (7, no_path_line n (pair_at series.pairs.list x.0), inr (refl, record { place = x.0; first = x.1; line_is = refl }))
 
--- the told files mean a status and a text
-pub means_some : (command : Command) (content : List ℕ → Option (List ℕ)) → IsTold command content → HasAnswer (Means command content)
-means_some (check file) content told =
-    let answer = file_text_some IsCertificateRefusal IsCertificate IsVerdict verdict_some file told.0 (certificate_read told.0) in
-    (answer.0, answer.1, (told.0, told.1, answer.2))
-means_some (check_network file topology) content told = network_some file topology content told.0 told.1
+-- the told files of `publish` mean a status
+publish_some : (file : List ℕ) (content : List ℕ → Option (List ℕ)) → IsTold (publish file) content →
+    HasAnswer (ToldText (PlanText IsPublicationStatus content file) (content file))
+publish_some file content told =
+    told_some IsPlanRefusal IsPlan (λ plan. ToldText (PlanTopologyText (IsPublicationStatus plan) content plan.matrices plan.topology) (content plan.topology))
+    file told.0.0 (content file) told.0.1 (λ plan says. topologies plan (told.1 plan (told.0.0, told.0.1, says))) (function_read plan_in told.0.0 (plan_in told.0.0) refl)
+  where
+    demands : (plan : Experiment) (n : Network) → IsToldFile (content plan.matrices) →
+        HasAnswer (ToldText (MatricesText (IsPublicationStatus plan n) n plan.matrices) (content plan.matrices))
+    demands plan n is =
+        told_some (IsMatricesRefusal n) (IsMatrices n) (IsPublicationStatus plan n) plan.matrices is.0 (content plan.matrices) is.1
+        (λ series reads. publication_some plan n series) (function_read (matrices_in n) is.0 (matrices_in n is.0) refl)
+
+    topologies : (plan : Experiment) → AreTold content plan →
+        HasAnswer (ToldText (PlanTopologyText (IsPublicationStatus plan) content plan.matrices plan.topology) (content plan.topology))
+    topologies plan are =
+        told_some IsTopologyRefusal IsTopology (λ n. ToldText (MatricesText (IsPublicationStatus plan n) n plan.matrices) (content plan.matrices))
+        plan.topology are.0.0 (content plan.topology) are.0.1 (λ n makes. demands plan n (are.1 n (are.0.0, are.0.1, makes))) (topology_read are.0.0)
+
+-- the told files of a command mean a status
+pub status_some : (command : Command) (content : List ℕ → Option (List ℕ)) → IsTold command content → (status : ℕ) × MeansStatus command content status
+status_some (check file) content told = let answer = check_some (check file) content tt told in (answer.0, (answer.1, answer.2))
+status_some (check_network file topology) content told =
+    let answer = check_some (check_network file topology) content tt told in (answer.0, (answer.1, answer.2))
+status_some (publish file) content told = let answer = publish_some file content told in (answer.0, (answer.1, answer.2))

@@ -8,8 +8,8 @@ use Rattle.te_model.specs.declared.network.Network.{Network}
 use Rattle.te_model.specs.Inequalities.{LinkFailure, first_failure, Holds}
 use Rattle.te_model.specs.Ratio.{IsObliviousRatio}
 use Rattle.te_model.specs.Text.{Spells}
-use Rattle.te_command.specs.declared.refusal.Refusal.{Refusal}
-use Rattle.te_command.specs.Refusals.{IsCertificate, IsCertificateRefusal, IsTopology, IsTopologyRefusal, refused_line}
+use Rattle.te_command.specs.Refusals.{IsCertificate, IsCertificateRefusal, IsTopology, IsTopologyRefusal}
+use Rattle.te_command.specs.Files.{FileText, ToldText}
 
 -- the line of a yes: the ratio in millionths, and the demand set
 abbrev pub yes_line : ℕ → DemandSet → List ℕ
@@ -37,12 +37,6 @@ pub record SaysNo (certificate : Certificate) (line : List ℕ) : Type 0 where
   pub fails : first_failure certificate ≡ Some failure
   pub line_is : line ≡ no_line failure.link failure.rule failure.place
 
--- the bytes are refused for such a cause, and the line says why
-pub record SaysRefused (Cause : List ℕ → Refusal → Type 0) (file bytes line : List ℕ) : Type 0 where
-  pub refusal : Refusal
-  pub cause : Cause bytes refusal
-  pub line_is : line ≡ refused_line file refusal
-
 -- the answer on a certificate: its status and its line
 abbrev pub IsVerdict : Certificate → ℕ → List ℕ → Type 0
 IsVerdict certificate status line = ((status ≡ 0) × SaysYes certificate line) ⊎ ((status ≡ 1) × SaysNo certificate line)
@@ -53,12 +47,6 @@ IsNetworkVerdict certificate network status line =
     ((certificate.head.network ≡ network) × IsVerdict certificate status line)
     ⊎ ((certificate.head.network ≢ network) × (status ≡ 1) × (line ≡ no_network_line))
 
--- the answer of the bytes of a file: they are refused for such a cause, or give a value which has this answer
-abbrev pub FileText : {A : Type 0} → (List ℕ → Refusal → Type 0) → (List ℕ → A → Type 0) → (A → ℕ → List ℕ → Type 0) →
-    List ℕ → List ℕ → ℕ → List ℕ → Type 0
-FileText {A} Cause Gives Answer file bytes status line =
-    ((status ≡ 3) × SaysRefused Cause file bytes line) ⊎ ((value : A) × Gives bytes value × Answer value status line)
-
 -- the answer of the bytes of a certificate's file of this name
 abbrev pub CheckText : List ℕ → List ℕ → ℕ → List ℕ → Type 0
 CheckText file bytes = FileText IsCertificateRefusal IsCertificate IsVerdict file bytes
@@ -66,10 +54,6 @@ CheckText file bytes = FileText IsCertificateRefusal IsCertificate IsVerdict fil
 -- the answer of the rows of a topology's file of this name, of whose network the certificate is to be
 abbrev pub TopologyText : Certificate → List ℕ → List ℕ → ℕ → List ℕ → Type 0
 TopologyText certificate file rows = FileText IsTopologyRefusal IsTopology (IsNetworkVerdict certificate) file rows
-
--- a file is told, and its bytes have this answer
-abbrev pub ToldText : (List ℕ → ℕ → List ℕ → Type 0) → Option (List ℕ) → ℕ → List ℕ → Type 0
-ToldText Answer told status line = (bytes : List ℕ) × (told ≡ Some bytes) × Answer bytes status line
 
 -- the answer of the bytes of a certificate's file, and of a topology's file where the first is not refused
 abbrev pub CheckNetworkText : List ℕ → List ℕ → Option (List ℕ) → List ℕ → ℕ → List ℕ → Type 0

@@ -1,6 +1,8 @@
 pub mod Command
 pub mod Refusals
+pub mod Files
 pub mod CheckText
+pub mod PublishText
 pub mod Meaning
 pub mod Run
-pub mod Lines
+pub mod Outcome

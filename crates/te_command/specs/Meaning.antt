@@ -1,69 +1,101 @@
 -- What a command means, by what its files are told to hold.
-use Rattle.std.specs.Prelude.{◌≡◌, ◌<◌, ◌⊎◌, ℕ, List, slice_get, Option, Some, string_bytes}
-use Rattle.te_ports.specs.Ports.{Rose}
+use Rattle.std.specs.Prelude.{◌≡◌, ◌<◌, ◌≤◌, ◌⊎◌, ℕ, List, Option, Some}
+use Rattle.te_ports.specs.Ports.{Rose, Told}
+use Rattle.te_model.specs.declared.certificate.Certificate.{Certificate}
 use Rattle.te_model.specs.declared.network.Network.{Network}
-use Rattle.te_command.specs.declared.answer.Answer.{Answer}
-use Rattle.te_command.specs.declared.answer.Answer.TheVariants.{Yes, No, Refused}
-use Rattle.te_command.specs.declared.refusal.Refusal.{Refusal}
-use Rattle.te_command.specs.Command.{Command, check, check_network, files_of}
-use Rattle.te_command.specs.CheckText.{CheckText, CheckNetworkText, ToldText, ProvesRatio}
-use Rattle.te_command.specs.Refusals.{IsCertificateRefusal, IsTopology, IsTopologyRefusal}
+use Rattle.scheme.specs.Reach.{AllReached}
+use Rattle.traffic_matrix.specs.declared.series.Series.{Series}
+use Rattle.experiment.specs.declared.plan.Experiment.{Experiment}
+use Rattle.publication.specs.Published.{IsPublished}
+use Rattle.te_command.specs.Command.{Command, check, check_network, publish}
+use Rattle.te_command.specs.Files.{IsToldFile, Tells, IsRefusedIn, ToldText}
+use Rattle.te_command.specs.Refusals.{IsCertificate, IsCertificateRefusal, IsTopology, IsTopologyRefusal, IsMatrices, IsMatricesRefusal, IsPlan, IsPlanRefusal}
+use Rattle.te_command.specs.CheckText.{CheckText, CheckNetworkText, ProvesRatio}
+use Rattle.te_command.specs.PublishText.{PlanText, IsPublication, IsPublicationStatus, IsAccepted}
 
--- what is told of a file is refused for such a cause
-abbrev pub IsRefusedIn : (List ℕ → Refusal → Type 0) → Option (List ℕ) → Type 0
-IsRefusedIn Cause told = (bytes : List ℕ) × (refusal : Refusal) × (told ≡ Some bytes) × Cause bytes refusal
-
--- something is told of a file
-abbrev pub IsToldFile : Option (List ℕ) → Type 0
-IsToldFile told = (bytes : List ℕ) × (told ≡ Some bytes)
-
--- the files that the command has to read are told: where the certificate is refused, no topology is read
+-- the files that the command has to read are told: none is read after one that is refused
 abbrev pub IsTold : Command → (List ℕ → Option (List ℕ)) → Type 0
 IsTold (check certificate) content = IsToldFile (content certificate)
 IsTold (check_network certificate topology) content =
-    IsToldFile (content certificate) × (IsRefusedIn IsCertificateRefusal (content certificate) ⊎ IsToldFile (content topology))
+    IsToldFile (content certificate)
+    × ((spelled : Certificate) → Tells IsCertificate (content certificate) spelled → IsToldFile (content topology))
+IsTold (publish plan) content =
+    IsToldFile (content plan)
+    × ((named : Experiment) → Tells IsPlan (content plan) named →
+    IsToldFile (content named.topology)
+    × ((network : Network) → Tells IsTopology (content named.topology) network → IsToldFile (content named.matrices)))
 
 -- the status and the text that the told files mean: the text goes to the standard output at status 0 and 1, and to the
--- standard error at 3
+-- standard error at 3 and 7
 abbrev pub Means : Command → (List ℕ → Option (List ℕ)) → ℕ → List ℕ → Type 0
 Means (check certificate) content = ToldText (CheckText certificate) (content certificate)
 Means (check_network certificate topology) content =
     ToldText (CheckNetworkText certificate topology (content topology)) (content certificate)
+Means (publish plan) content = ToldText (PlanText IsPublication content plan) (content plan)
 
--- what is told of a topology's file makes this network
-abbrev pub TellsNetwork : Option (List ℕ) → Network → Type 0
-TellsNetwork told network = (rows : List ℕ) × (told ≡ Some rows) × IsTopology rows network
+-- the status that the told files mean, whether or not more than one text may be published
+abbrev pub MeansStatus : Command → (List ℕ → Option (List ℕ)) → ℕ → Type 0
+MeansStatus (check certificate) content status = (text : List ℕ) × Means (check certificate) content status text
+MeansStatus (check_network certificate topology) content status =
+    (text : List ℕ) × Means (check_network certificate topology) content status text
+MeansStatus (publish plan) content status =
+    (text : List ℕ) × ToldText (PlanText IsPublicationStatus content plan) (content plan) status text
 
--- the ratio of the certificate that the told file spells is an oblivious ratio, and where a topology is given, the
--- certificate's network is that of the topology
+-- of `check`, the ratio of the certificate that the told file spells is an oblivious ratio, and where a topology is given,
+-- the certificate's network is that of the topology; of `publish`, a text that the told files mean proves its ratio
 abbrev pub MeansRatio : Command → (List ℕ → Option (List ℕ)) → Type 0
 MeansRatio (check certificate) content = (bytes : List ℕ) × (content certificate ≡ Some bytes) × ProvesRatio bytes
 MeansRatio (check_network certificate topology) content =
     (bytes : List ℕ) × (content certificate ≡ Some bytes)
-    × ((proof : ProvesRatio bytes) × TellsNetwork (content topology) proof.certificate.head.network)
+    × ((proof : ProvesRatio bytes) × Tells IsTopology (content topology) proof.certificate.head.network)
+MeansRatio (publish plan) content = (text : List ℕ) × Means (publish plan) content 0 text × ProvesRatio text
 
--- the file at this place of the command's files is told, and refused
+-- the text is the file of a certificate that is made of the network, the series and the plan that are told
+pub record IsPublicationOf (file : List ℕ) (content : List ℕ → Option (List ℕ)) (text : List ℕ) : Type 0 where
+  pub plan : Experiment
+  pub network : Network
+  pub series : Series
+  pub told_plan : Tells IsPlan (content file) plan
+  pub told_network : Tells IsTopology (content plan.topology) network
+  pub told_series : Tells (IsMatrices network) (content plan.matrices) series
+  pub reached : AllReached network series.pairs.list
+  pub published : IsPublished plan network series text
+
+-- an answer of the command, whatever its files hold: `check` says yes or no, and `publish` writes a file to which `check`
+-- says yes, or names a pair without a path
+abbrev pub IsAnswer : Command → ℕ → List ℕ → Type 0
+IsAnswer (check certificate) status text = status ≤ 1
+IsAnswer (check_network certificate topology) status text = status ≤ 1
+IsAnswer (publish plan) status text = ((status ≡ 0) × IsAccepted text) ⊎ (status ≡ 7)
+
+-- the file at this place of the command's files. The later files of `publish` are those that the accepted plan names, and
+-- any where nothing is told of the plan
+abbrev pub IsFileAt : Command → (List ℕ → Option (List ℕ)) → ℕ → List ℕ → Type 0
+IsFileAt (check certificate) content place file = (place ≡ 0) × (file ≡ certificate)
+IsFileAt (check_network certificate topology) content place file =
+    ((place ≡ 0) × (file ≡ certificate)) ⊎ ((place ≡ 1) × (file ≡ topology))
+IsFileAt (publish plan) content place file =
+    ((place ≡ 0) × (file ≡ plan))
+    ⊎ ((place ≡ 1) × Told (content plan) (λ bytes. (named : Experiment) × IsPlan bytes named × (file ≡ named.topology)))
+    ⊎ ((place ≡ 2) × Told (content plan) (λ bytes. (named : Experiment) × IsPlan bytes named × (file ≡ named.matrices)))
+
+-- the file at this place of the command's files is told, as are those by which it is read, and refused
 abbrev pub IsRefusedFile : Command → (List ℕ → Option (List ℕ)) → ℕ → Type 0
 IsRefusedFile (check certificate) content place = (place ≡ 0) × IsRefusedIn IsCertificateRefusal (content certificate)
 IsRefusedFile (check_network certificate topology) content place =
     ((place ≡ 0) × IsRefusedIn IsCertificateRefusal (content certificate))
     ⊎ ((place ≡ 1) × IsRefusedIn IsTopologyRefusal (content topology))
+IsRefusedFile (publish plan) content place =
+    ((place ≡ 0) × IsRefusedIn IsPlanRefusal (content plan))
+    ⊎ ((named : Experiment) × Tells IsPlan (content plan) named
+    × (((place ≡ 1) × IsRefusedIn IsTopologyRefusal (content named.topology))
+    ⊎ ((place ≡ 2) × ((network : Network) × Tells IsTopology (content named.topology) network
+    × IsRefusedIn (IsMatricesRefusal network) (content named.matrices)))))
 
 -- the faults of a file of the command rose, and no told file before it is refused
 pub record ReadFailed (command : Command) (content : List ℕ → Option (List ℕ)) (before now : List ℕ → ℕ) : Type 0 where
   pub place : ℕ
   pub file : List ℕ
-  pub named : slice_get (files_of command) place ≡ Some file
+  pub named : IsFileAt command content place file
   pub rose : Rose (before file) (now file)
   pub accepted : (earlier : ℕ) → earlier < place → ¬ IsRefusedFile command content earlier
-
--- the status of an answer, and its text
-abbrev pub status_of : Answer → ℕ
-status_of (Yes text) = 0
-status_of (No text) = 1
-status_of (Refused text) = 3
-
-abbrev pub text_of : Answer → List ℕ
-text_of (Yes text) = string_bytes text
-text_of (No text) = string_bytes text
-text_of (Refused text) = string_bytes text

@@ -43,6 +43,6 @@ Says old new before now text = (new ≡ append_known old text) ⊎ (AppendsPart 
 abbrev pub SaysSome : (List ℕ → Type 0) → Option (List ℕ) → Option (List ℕ) → ℕ → ℕ → Type 0
 SaysSome P old new before now = (text : List ℕ) × P text × Says old new before now text
 
--- the status is that of the meaning, and what belongs on the standard output stands there
-abbrev pub Answers : ℕ → Option (List ℕ) → Option (List ℕ) → ℕ → List ℕ → Type 0
-Answers result old new status text = (result ≡ status) × (status ≤ 1 → new ≡ append_known old text)
+-- the status is this one, and where its text belongs on the standard output, some text with this meaning stands there
+abbrev pub Answers : ℕ → Option (List ℕ) → Option (List ℕ) → ℕ → (List ℕ → Type 0) → Type 0
+Answers result old new status P = (result ≡ status) × (status ≤ 1 → Writes P old new)

@@ -1,20 +1,26 @@
 //! What a command answers.
+ghost use Rattle.std.specs.Prelude.{◌≡◌};
+
 use te_model::Memory;
 
-/// The answer of a command whose files were read, with its line.
+/// The answer of a command whose files were read and are not refused.
 #[derive(Drop)]
 pub enum Answer {
-    /// Yes, or the command is done.
+    /// Yes, and the line that says so.
     Yes(String),
-    /// No.
+    /// No, and the line that says so.
     No(String),
-    /// A file is refused.
-    Refused(String),
+    /// The file that is published.
+    Published(Vec<u8>),
+    /// A declared pair has no path, and the line names it.
+    NoPath(String),
 }
 
 /// Why a command has no answer.
-#[derive(Clone, Copy, Debug, PartialEq, Eq)]
+#[derive(Drop)]
 pub enum Fault {
+    /// A file is refused, and the line says why.
+    Refused(String),
     /// A read failed.
     Read,
     /// Memory was short.
@@ -22,7 +28,6 @@ pub enum Fault {
 }
 
 impl From<Memory> for Fault {
-    ghost use Rattle.std.specs.Prelude.{◌≡◌};
     ghost use Rattle.te_command.specs.declared.answer.Fault.TheVariants.{Memory as OutOfMemory};
 
     ghost from_gives = { λ _ e. e ≡ OutOfMemory };

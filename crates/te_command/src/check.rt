@@ -1,41 +1,17 @@
 //! The command `check`: what a certificate's file answers, alone and of a topology.
 ghost use Rattle.std.specs.Prelude.{◌≡◌, ◌≢◌, ◌≤◌, ℕ, List, IfOk, IsErrOf, Err, string_bytes};
 ghost use Rattle.te_model.specs.Validity.{IsValid};
-ghost use Rattle.te_ports.specs.Ports.{Rose, Told};
 ghost use Rattle.te_command.specs.Command.{check, check_network};
-ghost use Rattle.te_command.specs.Refusals.{refused_line};
-ghost use Rattle.te_command.specs.CheckText.{IsVerdict, IsNetworkVerdict, TopologyText, yes_line};
-ghost use Rattle.te_command.specs.Meaning.{IsTold, Means, ReadFailed, status_of, text_of};
-ghost use Rattle.te_command.specs.Lines.{IsLineOf, IsRefusalLine};
+ghost use Rattle.te_command.specs.CheckText.{IsVerdict, IsNetworkVerdict, yes_line};
+ghost use Rattle.te_command.specs.Meaning.{IsTold, Means, IsAnswer, ReadFailed};
+ghost use Rattle.te_command.specs.Outcome.{IsLineOf, Meant, status_of, text_of};
 
 use crate::answer::{Answer, Fault};
 use crate::files::{certificate_in, network_in};
-use crate::refusal::{FileFault, Refusal};
 use ratio_checker::{Finding, verdict};
 use std::alloc::Global;
 use te_model::{Certificate, DemandSet, Memory, Network, same_network};
 use te_ports::Depot;
-
-// The line that refuses a file.
-fn refuse(alloc: Global, file: &str, refusal: Refusal) -> Result<Answer, Memory>
-    ensures status { IfOk result (λ answer. status_of answer ≡ 3) }
-    ensures line { IfOk result (λ answer. text_of answer ≡ refused_line file.now refusal) }
-{
-    Ok(Answer::Refused(format!(in alloc; "refused: {file}: {refusal}\n")?))
-}
-
-// The answer where a file gave no value.
-fn without(alloc: Global, file: &str, fault: FileFault) -> Result<Answer, Fault>
-    ensures refused { IfOk result (λ answer. IsRefusalLine file.now fault answer) }
-    ensures read { IsErrOf result Fault.Read → fault ≡ FileFault.Read }
-    ensures unread { fault ≡ FileFault.Read → result ≡ Err Fault.Read }
-{
-    match fault {
-        FileFault::Refused(refusal) => Ok(refuse(alloc, file, refusal)?),
-        FileFault::Read => Err(Fault::Read),
-        FileFault::Memory => Err(Fault::Memory),
-    }
-}
 
 // The line of a yes.
 fn yes_line(alloc: Global, ratio: u64, set: &DemandSet) -> Result<String, Memory>
@@ -84,43 +60,21 @@ fn compare(alloc: Global, certificate: &Certificate, network: &Network) -> Resul
     }
 }
 
-// The answer on a certificate which is to be of the network of the topology in this file.
-fn judge_in<D: Depot>(
-    alloc: Global,
-    depot: &mut D,
-    certificate: &Certificate,
-    topology: &str,
-) -> Result<Answer, Fault>
-    requires { IsValid certificate.now }
-    ensures told { IfOk result (λ answer. Told (D.content depot.old topology.now) (λ rows.
-        TopologyText certificate.now topology.now rows (status_of answer) (text_of answer))) }
-    ensures read { IsErrOf result Fault.Read → Rose (D.faults depot.old topology.now) (D.faults depot.new topology.now) }
-    ensures steady { result ≢ Err Fault.Read → D.faults depot.new ≡ D.faults depot.old }
-    ensures later { (other : List ℕ) → D.faults depot.old other ≤ D.faults depot.new other }
-    ensures content { D.content depot.new ≡ D.content depot.old }
-{
-    match network_in(alloc, depot, topology) {
-        Ok(network) => Ok(compare(alloc, certificate, &network)?),
-        Err(fault) => without(alloc, topology, fault),
-    }
-}
-
 /// The answer of the certificate's file of this name.
 ///
 /// `Read` comes only where a read of this file failed in the call.
 pub fn check<D: Depot>(alloc: Global, depot: &mut D, certificate: &str) -> Result<Answer, Fault>
-    ensures told { IfOk result (λ answer. IsTold (check certificate.now) (D.content depot.old) →
-        Means (check certificate.now) (D.content depot.old) (status_of answer) (text_of answer)) }
+    ensures told { IsTold (check certificate.now) (D.content depot.old) →
+        Meant (Means (check certificate.now) (D.content depot.old)) result }
+    ensures form { IfOk result (λ answer. IsAnswer (check certificate.now) (status_of answer) (text_of answer)) }
     ensures read { IsErrOf result Fault.Read →
         ReadFailed (check certificate.now) (D.content depot.old) (D.faults depot.old) (D.faults depot.new) }
     ensures steady { result ≢ Err Fault.Read → D.faults depot.new ≡ D.faults depot.old }
     ensures later { (other : List ℕ) → D.faults depot.old other ≤ D.faults depot.new other }
     ensures content { D.content depot.new ≡ D.content depot.old }
 {
-    match certificate_in(alloc, depot, certificate) {
-        Ok(spelled) => Ok(judge(alloc, &spelled)?),
-        Err(fault) => without(alloc, certificate, fault),
-    }
+    let spelled = certificate_in(alloc, depot, certificate)?;
+    Ok(judge(alloc, &spelled)?)
 }
 
 /// The answer of the certificate's file of this name, whose network is to be that of the topology's file. The topology
@@ -133,16 +87,17 @@ pub fn check_network<D: Depot>(
     certificate: &str,
     topology: &str,
 ) -> Result<Answer, Fault>
-    ensures told { IfOk result (λ answer. IsTold (check_network certificate.now topology.now) (D.content depot.old) →
-        Means (check_network certificate.now topology.now) (D.content depot.old) (status_of answer) (text_of answer)) }
+    ensures told { IsTold (check_network certificate.now topology.now) (D.content depot.old) →
+        Meant (Means (check_network certificate.now topology.now) (D.content depot.old)) result }
+    ensures form { IfOk result (λ answer.
+        IsAnswer (check_network certificate.now topology.now) (status_of answer) (text_of answer)) }
     ensures read { IsErrOf result Fault.Read →
         ReadFailed (check_network certificate.now topology.now) (D.content depot.old) (D.faults depot.old) (D.faults depot.new) }
     ensures steady { result ≢ Err Fault.Read → D.faults depot.new ≡ D.faults depot.old }
     ensures later { (other : List ℕ) → D.faults depot.old other ≤ D.faults depot.new other }
     ensures content { D.content depot.new ≡ D.content depot.old }
 {
-    match certificate_in(alloc, depot, certificate) {
-        Ok(spelled) => judge_in(alloc, depot, &spelled, topology),
-        Err(fault) => without(alloc, certificate, fault),
-    }
+    let spelled = certificate_in(alloc, depot, certificate)?;
+    let network = network_in(alloc, depot, topology)?;
+    Ok(compare(alloc, &spelled, &network)?)
 }

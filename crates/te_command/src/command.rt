@@ -15,6 +15,10 @@ pub enum Command<'a> {
         certificate: &'a str,
         topology: &'a str,
     },
+    /// The certificate of the routing for which the plan in the file of this name asks.
+    Publish {
+        plan: &'a str,
+    },
 }
 
 /// The command of the words, where they are one of the forms.
@@ -24,6 +28,9 @@ pub fn command_of(words: &[String]) -> Option<Command<'_>>
     match words {
         [command, certificate] if command.as_str() == "check" => Some(Command::Check {
             certificate: certificate.as_str(),
+        }),
+        [command, plan] if command.as_str() == "publish" => Some(Command::Publish {
+            plan: plan.as_str(),
         }),
         [command, certificate, topology] if command.as_str() == "check" => {
             Some(Command::CheckNetwork {

@@ -6,6 +6,8 @@ mod check;
 mod command;
 mod files;
 pub mod laws;
+mod publish;
+mod reasons;
 mod refusal;
 mod top;
 

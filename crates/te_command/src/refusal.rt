@@ -1,7 +1,10 @@
-//! Why a file gives a command nothing.
+//! Why a file is refused.
+use crate::reasons::{MatrixReason, PlanReason, TopologyReason};
+use experiment::PlanFault;
 use std::fmt;
 use te_model::RuleFault;
 use topology::TopologyFault;
+use traffic_matrix::MatrixFault;
 
 /// Why a file is refused. It shows as the words after the file's name.
 #[derive(Clone, Copy, Debug, PartialEq, Eq)]
@@ -14,6 +17,10 @@ pub enum Refusal {
     Rule(RuleFault),
     /// Of a topology: the first fault of its first offending row.
     Topology(TopologyFault),
+    /// Of a matrix file: the first fault of its first offending row.
+    Matrices(MatrixFault),
+    /// Of a plan: its first fault.
+    Plan(PlanFault),
 }
 
 impl fmt::Display for Refusal {
@@ -27,26 +34,9 @@ impl fmt::Display for Refusal {
             Refusal::TooLong => write!(f, "too long"),
             Refusal::Shape(line) => write!(f, "shape at line {line}"),
             Refusal::Rule(RuleFault { number, place }) => write!(f, "rule V{number} at {place}"),
-            Refusal::Topology(TopologyFault::Header) => write!(f, "header"),
-            Refusal::Topology(TopologyFault::Fields(row)) => write!(f, "fields at row {row}"),
-            Refusal::Topology(TopologyFault::Name(row)) => write!(f, "name at row {row}"),
-            Refusal::Topology(TopologyFault::Number(row)) => write!(f, "number at row {row}"),
-            Refusal::Topology(TopologyFault::SelfLink(row)) => write!(f, "self link at row {row}"),
-            Refusal::Topology(TopologyFault::TooMany(row)) => write!(f, "too many at row {row}"),
-            Refusal::Topology(TopologyFault::Empty) => write!(f, "empty"),
-            // No bytes are refused for it.
-            Refusal::Topology(TopologyFault::Memory) => write!(f, "memory"),
+            Refusal::Topology(fault) => write!(f, "{}", TopologyReason(*fault)),
+            Refusal::Matrices(fault) => write!(f, "{}", MatrixReason(*fault)),
+            Refusal::Plan(fault) => write!(f, "{}", PlanReason(*fault)),
         }
     }
-}
-
-/// Why a file gave no value.
-#[derive(Clone, Copy, Debug, PartialEq, Eq)]
-pub enum FileFault {
-    /// It is refused.
-    Refused(Refusal),
-    /// A read of it failed.
-    Read,
-    /// Memory was short.
-    Memory,
 }

@@ -13,6 +13,7 @@ use std::test::Fail;
 use te_ports::{MemDepot, MemSink};
 
 mod files;
+mod publishing;
 
 /// A call and what it leaves. The files are given in parts; a topology without parts is not there.
 #[derive(Clone, Copy, Debug)]

@@ -1,49 +1,81 @@
 //! The top call: all that the program does.
-ghost use Rattle.std.specs.Prelude.{◌≡◌, ◌≢◌, ◌≤◌, ◌⊎◌, ◌↔◌, true, false, ℕ, List, IfOk, IsErrOf, Err, None};
+ghost use Rattle.std.specs.Prelude.{◌≡◌, ◌≢◌, ◌≤◌, ◌⊎◌, ◌↔◌, ℕ, List, IfOk, IsErrOf, Err, None};
 ghost use Rattle.std.specs.Io.KnownBytes.{append_known};
 ghost use Rattle.te_ports.specs.Ports.{Rose, AppendsPart};
-ghost use Rattle.te_command.specs.Command.{command_of, meant};
-ghost use Rattle.te_command.specs.Meaning.{IsTold, Means, MeansRatio, ReadFailed, status_of, text_of};
+ghost use Rattle.te_command.specs.Command.{IsCheck, command_of, meant, publish};
+ghost use Rattle.te_command.specs.PublishText.{IsAccepted};
+ghost use Rattle.te_command.specs.Meaning.{IsTold, IsAnswer, IsPublicationOf, Means, MeansStatus, MeansRatio, ReadFailed};
+ghost use Rattle.te_command.specs.Outcome.{Meant, status_of, text_of};
 ghost use Rattle.te_command.specs.Run.{texts, message, OfCommand, OfToldCommand, Writes, WritesPart, Says, SaysSome, Answers};
 
 use crate::answer::{Answer, Fault};
 use crate::check::{check, check_network};
 use crate::command::{Command, command_of};
+use crate::publish::publish;
 use std::alloc::Global;
 use te_ports::{Depot, Sink, put_all};
 
 // Writes a message, of which a failed write may leave a part.
-fn say<E: Sink>(err: &mut E, text: &str)
+fn say<E: Sink>(err: &mut E, text: &[u8])
     ensures said { Says (E.written err.old) (E.written err.new) (E.faults err.old) (E.faults err.new) text.now }
     ensures later { E.faults err.old ≤ E.faults err.new }
 {
-    let _ = put_all(err, text.as_bytes());
+    let _ = put_all(err, text);
 }
 
-// Writes a line, and says whether all of it was taken. Where it was not, the message says so.
-fn write_line<O: Sink, E: Sink>(out: &mut O, err: &mut E, line: &str) -> bool
-    ensures whole { result ≡ true → O.written out.new ≡ append_known (O.written out.old) line.now }
-    ensures steady { result ≡ true → O.faults out.new ≡ O.faults out.old }
-    ensures quiet { result ≡ true → E.written err.new ≡ E.written err.old }
-    ensures part { result ≡ false → AppendsPart (O.written out.old) (O.written out.new) line.now }
-    ensures fault { result ≡ false → Rose (O.faults out.old) (O.faults out.new) }
-    ensures said { result ≡ false → Says (E.written err.old) (E.written err.new) (E.faults err.old) (E.faults err.new) (message 5) }
-    ensures later { O.faults out.old ≤ O.faults out.new }
+// Writes a text to `out`, and gives the status, or 5 where a write failed, which the message says.
+fn write<O: Sink, E: Sink>(out: &mut O, err: &mut E, text: &[u8], status: u8) -> u8
+    requires { status ≤ 1 }
+    ensures status { (result ≡ status) ⊎ (result ≡ 5) }
+    ensures whole { result ≤ 1 → O.written out.new ≡ append_known (O.written out.old) text.now }
+    ensures part { result ≡ 5 → AppendsPart (O.written out.old) (O.written out.new) text.now }
+    ensures write { result ≡ 5 → Rose (O.faults out.old) (O.faults out.new) }
+    ensures said { result ≡ 5 → Says (E.written err.old) (E.written err.new) (E.faults err.old) (E.faults err.new) (message 5) }
+    ensures quiet { result ≤ 1 → E.written err.new ≡ E.written err.old }
+    ensures out_faults { result ≢ 5 → O.faults out.new ≡ O.faults out.old }
+    ensures out_later { O.faults out.old ≤ O.faults out.new }
     ensures err_later { E.faults err.old ≤ E.faults err.new }
 {
-    match put_all(out, line.as_bytes()) {
-        Ok(()) => true,
+    match put_all(out, text) {
+        Ok(()) => status,
         Err(_) => {
-            say(err, "fault: write\n");
-            false
+            say(err, b"fault: write\n");
+            5
+        }
+    }
+}
+
+// Writes an answer, and gives the status: a pair without a path is named to `err`, and all else is written to `out`.
+fn deliver<O: Sink, E: Sink>(out: &mut O, err: &mut E, answer: &Answer) -> u8
+    ensures status { (result ≡ status_of answer.now) ⊎ ((result ≡ 5) × (status_of answer.now ≤ 1)) }
+    ensures form { (result ≤ 1) ⊎ (result ≡ 5) ⊎ (result ≡ 7) }
+    ensures whole { result ≤ 1 → O.written out.new ≡ append_known (O.written out.old) (text_of answer.now) }
+    ensures part { result ≡ 5 → AppendsPart (O.written out.old) (O.written out.new) (text_of answer.now) }
+    ensures write { result ≡ 5 → Rose (O.faults out.old) (O.faults out.new) }
+    ensures named { result ≡ 7 → Says (E.written err.old) (E.written err.new) (E.faults err.old) (E.faults err.new) (text_of answer.now) }
+    ensures silent { 2 ≤ result → result ≢ 5 → O.written out.new ≡ O.written out.old }
+    ensures said { result ≡ 5 → Says (E.written err.old) (E.written err.new) (E.faults err.old) (E.faults err.new) (message 5) }
+    ensures quiet { result ≤ 1 → E.written err.new ≡ E.written err.old }
+    ensures out_faults { result ≢ 5 → O.faults out.new ≡ O.faults out.old }
+    ensures out_later { O.faults out.old ≤ O.faults out.new }
+    ensures err_later { E.faults err.old ≤ E.faults err.new }
+{
+    match answer {
+        Answer::Yes(line) => write(out, err, line.as_bytes(), 0),
+        Answer::No(line) => write(out, err, line.as_bytes(), 1),
+        Answer::Published(file) => write(out, err, file.as_slice(), 0),
+        Answer::NoPath(line) => {
+            say(err, line.as_bytes());
+            7
         }
     }
 }
 
 // What the command answers.
 fn answer<D: Depot>(alloc: Global, depot: &mut D, command: Command<'_>) -> Result<Answer, Fault>
-    ensures told { IfOk result (λ answer. IsTold (meant command.entry) (D.content depot.old) →
-        Means (meant command.entry) (D.content depot.old) (status_of answer) (text_of answer)) }
+    ensures told { IsTold (meant command.entry) (D.content depot.old) →
+        Meant (Means (meant command.entry) (D.content depot.old)) result }
+    ensures form { IfOk result (λ answer. IsAnswer (meant command.entry) (status_of answer) (text_of answer)) }
     ensures read { IsErrOf result Fault.Read →
         ReadFailed (meant command.entry) (D.content depot.old) (D.faults depot.old) (D.faults depot.new) }
     ensures steady { result ≢ Err Fault.Read → D.faults depot.new ≡ D.faults depot.old }
@@ -56,6 +88,7 @@ fn answer<D: Depot>(alloc: Global, depot: &mut D, command: Command<'_>) -> Resul
             certificate,
             topology,
         } => check_network(alloc, depot, certificate, topology),
+        Command::Publish { plan } => publish(alloc, depot, plan),
     }
 }
 
@@ -63,13 +96,14 @@ fn answer<D: Depot>(alloc: Global, depot: &mut D, command: Command<'_>) -> Resul
 ///
 /// | Status | When | What is written |
 /// |---|---|---|
-/// | 0 | the answer is yes | the line, to `out` |
+/// | 0 | the answer is yes, or a certificate is published | the line or the certificate's file, to `out` |
 /// | 1 | the answer is no | the line, to `out` |
 /// | 2 | the words are no form of a command | `usage`, to `err` |
 /// | 3 | a file is refused | the file and the reason, to `err` |
 /// | 4 | a read failed | `fault: read`, to `err` |
-/// | 5 | a write to `out` failed | a part of the line to `out`, and `fault: write` to `err` |
+/// | 5 | a write to `out` failed | a part of the text to `out`, and `fault: write` to `err` |
 /// | 6 | memory is short | `fault: memory`, to `err` |
+/// | 7 | nothing is published, since a declared pair has no path | the names of the first such pair, to `err` |
 ///
 /// A failed write to `err` changes no status.
 pub fn run<D: Depot, O: Sink, E: Sink>(
@@ -82,18 +116,30 @@ pub fn run<D: Depot, O: Sink, E: Sink>(
     // 2 exactly where the words are no form of a command.
     ensures usage { (result ≡ 2) ↔ (command_of (texts words.now) ≡ None) }
 
-    // 0, 1 and 3 only where that is what the told files mean; the line was written whole, and the message was said.
+    // 0, 1, 3 and 7 only where that is what the told files mean; the text was written whole, and the message was said.
     ensures yes { result ≡ 0 → OfToldCommand (texts words.now) (D.content depot.old) (λ command.
         Writes (Means command (D.content depot.old) 0) (O.written out.old) (O.written out.new)) }
     ensures no { result ≡ 1 → OfToldCommand (texts words.now) (D.content depot.old) (λ command.
         Writes (Means command (D.content depot.old) 1) (O.written out.old) (O.written out.new)) }
     ensures refused { result ≡ 3 → OfToldCommand (texts words.now) (D.content depot.old) (λ command.
         SaysSome (Means command (D.content depot.old) 3) (E.written err.old) (E.written err.new) (E.faults err.old) (E.faults err.new)) }
+    ensures no_path { result ≡ 7 → OfToldCommand (texts words.now) (D.content depot.old) (λ command.
+        SaysSome (Means command (D.content depot.old) 7) (E.written err.old) (E.written err.new) (E.faults err.old) (E.faults err.new)) }
 
     // A yes is a proof: the stated ratio is an oblivious ratio of the routing that the told file spells, on the network of
     // the told topology where one is given.
     ensures oblivious { result ≡ 0 → OfToldCommand (texts words.now) (D.content depot.old) (λ command.
         MeansRatio command (D.content depot.old)) }
+
+    // What is published is the file of a certificate that is made of the network of the told topology, the series of the
+    // told matrices and the told plan.
+    ensures published { result ≡ 0 → (plan : List ℕ) → command_of (texts words.now) ≡ Some (publish plan) →
+        IsTold (publish plan) (D.content depot.old) →
+        Writes (IsPublicationOf plan (D.content depot.old)) (O.written out.old) (O.written out.new) }
+
+    // Whatever the files hold, each file that is published is one to which `check` says yes.
+    ensures accepted { result ≡ 0 → (plan : List ℕ) → command_of (texts words.now) ≡ Some (publish plan) →
+        Writes IsAccepted (O.written out.old) (O.written out.new) }
 
     // 4 only by a failed read of a file of the command, and 5 only by a failed write.
     ensures read { result ≡ 4 → OfCommand (texts words.now) (λ command.
@@ -104,19 +150,24 @@ pub fn run<D: Depot, O: Sink, E: Sink>(
         (O.written out.old) (O.written out.new)) }
 
     // What the told files mean is answered, unless a read or a write failed or memory was short.
-    ensures exact { OfToldCommand (texts words.now) (D.content depot.old) (λ command. (status : ℕ) (text : List ℕ) →
-        Means command (D.content depot.old) status text →
+    ensures exact { OfToldCommand (texts words.now) (D.content depot.old) (λ command. (status : ℕ) →
+        MeansStatus command (D.content depot.old) status →
         (result ≡ status) ⊎ (result ≡ 4) ⊎ (result ≡ 5) ⊎ (result ≡ 6)) }
-    ensures complete { OfToldCommand (texts words.now) (D.content depot.old) (λ command. (status : ℕ) (text : List ℕ) →
-        Means command (D.content depot.old) status text →
+    ensures complete { OfToldCommand (texts words.now) (D.content depot.old) (λ command. (status : ℕ) →
+        MeansStatus command (D.content depot.old) status →
         ¬ ReadFailed command (D.content depot.old) (D.faults depot.old) (D.faults depot.new) →
         ¬ Rose (O.faults out.old) (O.faults out.new) →
-        Answers result (O.written out.old) (O.written out.new) status text ⊎ (result ≡ 6)) }
-    ensures known { result ≤ 6 }
+        Answers result (O.written out.old) (O.written out.new) status (Means command (D.content depot.old) status)
+        ⊎ (result ≡ 6)) }
+    ensures known { result ≤ 7 }
+
+    // Whatever the files hold, no is an answer of `check` alone, and 7 one of `publish`.
+    ensures no_of_check { result ≡ 1 → OfCommand (texts words.now) IsCheck }
+    ensures no_path_of_publish { result ≡ 7 → OfCommand (texts words.now) (λ command. ¬ IsCheck command) }
 
     // Nothing else is written to out, and nothing to err at 0 and 1.
     ensures silent { 2 ≤ result → result ≢ 5 → O.written out.new ≡ O.written out.old }
-    ensures said { 2 ≤ result → result ≢ 3 →
+    ensures said { 2 ≤ result → result ≢ 3 → result ≢ 7 →
         Says (E.written err.old) (E.written err.new) (E.faults err.old) (E.faults err.new) (message result) }
     ensures quiet { result ≤ 1 → E.written err.new ≡ E.written err.old }
 
@@ -129,34 +180,21 @@ pub fn run<D: Depot, O: Sink, E: Sink>(
     ensures err_later { E.faults err.old ≤ E.faults err.new }
 {
     let Some(command) = command_of(words) else {
-        say(err, "usage\n");
+        say(err, b"usage\n");
         return 2;
     };
     match answer(alloc, depot, command) {
-        Ok(Answer::Yes(line)) => {
-            if write_line(out, err, line.as_str()) {
-                0
-            } else {
-                5
-            }
-        }
-        Ok(Answer::No(line)) => {
-            if write_line(out, err, line.as_str()) {
-                1
-            } else {
-                5
-            }
-        }
-        Ok(Answer::Refused(line)) => {
-            say(err, line.as_str());
+        Ok(answer) => deliver(out, err, &answer),
+        Err(Fault::Refused(line)) => {
+            say(err, line.as_bytes());
             3
         }
         Err(Fault::Read) => {
-            say(err, "fault: read\n");
+            say(err, b"fault: read\n");
             4
         }
         Err(Fault::Memory) => {
-            say(err, "fault: memory\n");
+            say(err, b"fault: memory\n");
             6
         }
     }

@@ -1,0 +1,77 @@
+//! The words for the faults of topologies, matrix files and plans. No bytes are refused for the want of memory.
+use experiment::PlanFault;
+use std::fmt;
+use topology::TopologyFault;
+use traffic_matrix::MatrixFault;
+
+/// A fault of a topology, which shows as its words.
+#[derive(Clone, Copy)]
+pub struct TopologyReason(pub TopologyFault);
+
+impl fmt::Display for TopologyReason {
+    ghost use Rattle.std.specs.Prelude.{Some};
+    ghost use Rattle.te_command.specs.Refusals.{topology_reason};
+
+    ghost output = { λ reason. Some (topology_reason reason.0) };
+
+    fn fmt<W: fmt::Write>(&self, f: &mut fmt::Formatter<W>) -> fmt::Result {
+        match self.0 {
+            TopologyFault::Header => write!(f, "header"),
+            TopologyFault::Fields(row) => write!(f, "fields at row {row}"),
+            TopologyFault::Name(row) => write!(f, "name at row {row}"),
+            TopologyFault::Number(row) => write!(f, "number at row {row}"),
+            TopologyFault::SelfLink(row) => write!(f, "self link at row {row}"),
+            TopologyFault::TooMany(row) => write!(f, "too many at row {row}"),
+            TopologyFault::Empty => write!(f, "empty"),
+            TopologyFault::Memory => write!(f, "memory"),
+        }
+    }
+}
+
+/// A fault of a matrix file, which shows as its words.
+#[derive(Clone, Copy)]
+pub struct MatrixReason(pub MatrixFault);
+
+impl fmt::Display for MatrixReason {
+    ghost use Rattle.std.specs.Prelude.{Some};
+    ghost use Rattle.te_command.specs.Refusals.{matrices_reason};
+
+    ghost output = { λ reason. Some (matrices_reason reason.0) };
+
+    fn fmt<W: fmt::Write>(&self, f: &mut fmt::Formatter<W>) -> fmt::Result {
+        match self.0 {
+            MatrixFault::Header => write!(f, "header"),
+            MatrixFault::Fields(row) => write!(f, "fields at row {row}"),
+            MatrixFault::UnknownNode(row) => write!(f, "unknown node at row {row}"),
+            MatrixFault::Number(row) => write!(f, "number at row {row}"),
+            MatrixFault::Order(row) => write!(f, "order at row {row}"),
+            MatrixFault::Repeated(row) => write!(f, "repeated at row {row}"),
+            MatrixFault::SelfPair(row) => write!(f, "self pair at row {row}"),
+            MatrixFault::TooManySteps(row) => write!(f, "too many steps at row {row}"),
+            MatrixFault::Memory => write!(f, "memory"),
+        }
+    }
+}
+
+/// A fault of a plan, which shows as its words.
+#[derive(Clone, Copy)]
+pub struct PlanReason(pub PlanFault);
+
+impl fmt::Display for PlanReason {
+    ghost use Rattle.std.specs.Prelude.{Some};
+    ghost use Rattle.te_command.specs.Refusals.{plan_reason};
+
+    ghost output = { λ reason. Some (plan_reason reason.0) };
+
+    fn fmt<W: fmt::Write>(&self, f: &mut fmt::Formatter<W>) -> fmt::Result {
+        match self.0 {
+            PlanFault::NotJson => write!(f, "not json"),
+            PlanFault::UnknownKey => write!(f, "unknown key"),
+            PlanFault::Missing(key) => write!(f, "missing {}", key.word()),
+            PlanFault::Kind(key) => write!(f, "kind of {}", key.word()),
+            PlanFault::Range(key) => write!(f, "range of {}", key.word()),
+            PlanFault::SchemeName(key) => write!(f, "scheme name of {}", key.word()),
+            PlanFault::Memory => write!(f, "memory"),
+        }
+    }
+}
