@@ -144,12 +144,13 @@ offered_are net failed rates demand same = go (length rates) same
 pub results_conserved : (net : Network) (failed : List Bool) (rates : List PairRoutes) (demand : List ℕ) →
     ((p : ℕ) → p < length rates → CanSplit (paths_of rates p)) → All IsConserved (pair_results net failed rates demand)
 results_conserved net failed rates demand split =
-    All-from_get_or IsConserved (pair_results net failed rates demand) (pair_result net failed rates demand 0) (λ p inside.
-    let below : p < length rates =
-    omega (arith, length-map-range_with_len (pair_result net failed rates demand) 0 (length rates)) in
-    subst IsConserved
-    (sym (get_or-map-range_with_len (pair_result net failed rates demand) 0 (length rates) p p (pair_result net failed rates demand 0) below (omega arith)))
+    All-from_get_or IsConserved (pair_results net failed rates demand) (result 0) (λ p inside.
+    let below : p < length rates = omega (arith, length-map-range_with_len result 0 (length rates)) in
+    subst IsConserved (sym (get_or-map-range_with_len result 0 (length rates) p p (result 0) below (omega arith)))
     (demand_conserved net failed rates demand p (split p below) below))
+  where
+    result : ℕ → PairResult
+    result = pair_result net failed rates demand
 
 -- so are their sums
 sums_conserved : (pairs : List PairResult) → All IsConserved pairs →

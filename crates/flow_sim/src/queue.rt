@@ -73,13 +73,6 @@ impl Round {
         Ok(Round { queues })
     }
 
-    /// How many links have a queue.
-    pub fn len(&self) -> usize
-        ensures { result ≡ length self.now }
-    {
-        self.queues.len()
-    }
-
     /// Lends the queue of a link.
     pub fn queue(&self, link: usize) -> &[u32]
         requires { link < length self.now }

@@ -13,6 +13,7 @@ use Rattle.te_model.specs.declared.units.TheConstants.{SHARE_UNIT}
 use Rattle.te_model.specs.Network.{link_count, tail_of, head_of}
 use Rattle.te_model.specs.Path.{chains, has_number, is_distinct, is_path, nodes_visited, no_routes, routes_at, share, weight_on}
 use Rattle.te_model.specs.PathRouting.{IsPathRouting, IsPathSplit}
+use Rattle.te_model.proofs.SimplePaths.{path_links, path_links_once}
 use Rattle.te_model.proofs.Tests.{get_or_past}
 use Rattle.routing.specs.Decomposition.{taken_on}
 use Rattle.routing.specs.Merge.{no_path}
@@ -115,50 +116,13 @@ own_weight_fits crossings i below =
     omega (arith, sum_by_more_le (part c.pair) crossings i no_crossing below, own)
 
 -- no link stands in a path twice
-visits_tail : (net : Network) (s t h : ℕ) (hs : List ℕ) → chains net s t hs ≡ true → has_number hs h ≡ true →
-    has_number (nodes_visited net s hs) (tail_of net h) ≡ true
-visits_tail net s t h [] chain used = absurd (false≢true used)
-visits_tail net s t h (k ∷ hs) chain used =
-    let outer = and_parts (nat_lt k (link_count net) && tail_of net k == s) (chains net (head_of net k) t hs) chain in
-    let inner = and_parts (nat_lt k (link_count net)) (tail_of net k == s) outer.0 in
-    let from = eqb-true (tail_of net k) s inner.1 in
-    elim (or_cases (k == h) (has_number hs h) used) [
-      | inl here ↦
-          or_left (s == tail_of net h) (has_number (nodes_visited net (head_of net k) hs) (tail_of net h))
-          (eq-eqb s (tail_of net h) (sym from ∙ ap (tail_of net) (eqb-true k h here)))
-      | inr later ↦
-          or_right (s == tail_of net h) (has_number (nodes_visited net (head_of net k) hs) (tail_of net h))
-          (visits_tail net (head_of net k) t h hs outer.1 later)
-    ]
-
-links_once : (net : Network) (s t : ℕ) (hs : List ℕ) → chains net s t hs ≡ true → is_distinct (nodes_visited net s hs) ≡ true → AreLinksOnce (link_count net) hs
-links_once net s t [] chain simple = (refl, All-nil (λ h. h < link_count net))
-links_once net s t (k ∷ hs) chain simple =
-    let outer = and_parts (nat_lt k (link_count net) && tail_of net k == s) (chains net (head_of net k) t hs) chain in
-    let inner = and_parts (nat_lt k (link_count net)) (tail_of net k == s) outer.0 in
-    let parts = and_parts (not (has_number (nodes_visited net (head_of net k) hs) s)) (is_distinct (nodes_visited net (head_of net k) hs)) simple in
-    let rest = links_once net (head_of net k) t hs outer.1 parts.1 in (
-      and_from (not (has_number hs k)) (is_distinct hs) (new (has_number hs k) refl (eqb-true (tail_of net k) s inner.1) outer.1 parts.0) rest.0,
-      All-cons (λ h. h < link_count net) k hs (ltb-true k (link_count net) inner.0) rest.1,
-    )
-  where
-    new : (b : Bool) → has_number hs k ≡ b → tail_of net k ≡ s → chains net (head_of net k) t hs ≡ true →
-        not (has_number (nodes_visited net (head_of net k) hs) s) ≡ true → not b ≡ true
-    new true again from rest apart =
-        let back : has_number (nodes_visited net (head_of net k) hs) s ≡ true =
-        subst (λ v. has_number (nodes_visited net (head_of net k) hs) v ≡ true) from (visits_tail net (head_of net k) t k hs rest again)
-        in
-        absurd (false≢true (sym (ap not back) ∙ apart))
-    new false again from rest apart = refl
-
 pub paths_once : (net : Network) (routes : List PairRoutes) (p : ℕ) → IsPathRouting net routes → p < length routes →
     All (λ s. AreLinksOnce (link_count net) s.links) (routes_at routes p).paths
 paths_once net routes p routing below =
     let r = routes_at routes p in
     let split = All-get_or (IsPathSplit net) routes p no_routes below routing in
     All-weaker (λ s. IsTrue (is_path net r.pair.src r.pair.dst s.links)) (λ s. AreLinksOnce (link_count net) s.links)
-    (λ s path. let parts = and_parts (chains net r.pair.src r.pair.dst s.links) (is_distinct (nodes_visited net r.pair.src s.links)) path in
-    links_once net r.pair.src r.pair.dst s.links parts.0 parts.1) r.paths split.paths
+    (λ s path. (path_links_once net r.pair.src r.pair.dst s.links path, path_links net r.pair.src r.pair.dst s.links path)) r.paths split.paths
 
 -- one pair more of a routing
 share_push : (xs : List PairRoutes) (r : PairRoutes) (q e : ℕ) → share (xs ++ r ∷ []) q e ≡ share xs q e + (if length xs == q then weight_on r.paths e else 0)

@@ -110,8 +110,9 @@ shaped_set pairs AllMatrices within = refl
 shaped_set pairs (Margin num den base) within =
     let numbers = within.0 in
     let count = within.1.count in
-    let words : are_words base.demand ≡ true =
-    all_tests is_word base.demand 0 (λ k below. lt-ltb _ _ (omega (arith, All-get_or (λ d. d ≤ 2 ^ 32) base.demand k 0 below within.1.small)))
+    let units = base.demand in
+    let words : are_words units ≡ true =
+    all_tests is_word units 0 (λ k below. lt-ltb _ _ (omega (arith, All-get_or (λ d. d ≤ 2 ^ 32) units k 0 below within.1.small)))
     in
     grind (arith, nat_tests)
 

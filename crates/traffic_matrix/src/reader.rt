@@ -19,7 +19,7 @@ use te_model::Network;
 /// the steps ascending.
 ///
 /// The declared pairs are those that stand in some row. There are as many steps as the greatest step plus one, and
-/// none without rows. A pair without a row in a step has the demand 0 there.
+/// none without rows. A pair without a row in a step demands nothing there.
 ///
 /// An error is the fault of the first offending row, by the order of [`MatrixFault`]; `Header` stands before all of them.
 pub fn read(alloc: Global, net: &Network, bytes: &[u8]) -> Result<Series, MatrixFault>

@@ -3,9 +3,10 @@ use Rattle.std.specs.Prelude.{IfNone, IfSome}
 use Rattle.te_model.specs.declared.network.Link.{Link}
 use Rattle.te_model.specs.Network.{node_count, no_link}
 use Rattle.te_model.specs.Path.{is_distinct, is_path}
+use Rattle.te_model.proofs.SimplePaths.{path_links, path_links_once}
 use Rattle.shortest_path.specs.Paths.{HasPath}
 use Rattle.racke_mix.proofs.LinkLimits.{capacity_small, ends_apart, head_inside, tail_inside}
-use Rattle.racke_mix.proofs.PathLinks.{link_is_path, path_links_apart, path_links_inside}
+use Rattle.racke_mix.proofs.PathLinks.{link_is_path}
 use Rattle.racke_mix.proofs.loads.add_link.Goals as goal
 
 pub tree_path-requires-clause-src : goal.tree_path-requires-clause-src
@@ -32,14 +33,14 @@ add_along-requires-clause-links c =
     let link = get_or c.as_slice.result.now c.args.h no_link in
     let path = subst (λ o. IfSome o (λ q. is_path net link.tail link.head q.links ≡ true)) c.in-Some.is c.in_ok-path.ensures.path in
     subst (λ (l : List ℕ). All (λ k. k < length c.args.loads.now) l) (sym c.as_slice-in-Some.ensures)
-    (path_links_inside net link.tail link.head (length c.args.loads.now) c.in-Some.path.links path c.requires.count)
+    (subst (λ n. All (λ k. k < n) c.in-Some.path.links) (sym c.requires.count) (path_links net link.tail link.head c.in-Some.path.links path))
 
 pub add_along-requires-clause-distinct : goal.add_along-requires-clause-distinct
 add_along-requires-clause-distinct c =
     let net = c.args.net.now in
     let link = get_or c.as_slice.result.now c.args.h no_link in
     let path = subst (λ o. IfSome o (λ q. is_path net link.tail link.head q.links ≡ true)) c.in-Some.is c.in_ok-path.ensures.path in
-    subst (λ (l : List ℕ). is_distinct l ≡ true) (sym c.as_slice-in-Some.ensures) (path_links_apart net link.tail link.head c.in-Some.path.links path)
+    subst (λ (l : List ℕ). is_distinct l ≡ true) (sym c.as_slice-in-Some.ensures) (path_links_once net link.tail link.head c.in-Some.path.links path)
 
 pub add_along-requires-clause-room : goal.add_along-requires-clause-room
 add_along-requires-clause-room c = λ e.
