@@ -15,3 +15,4 @@ pub mod HeadValid
 pub mod BlockValid
 pub mod Starting
 pub mod Certificates
+pub mod SampleLaws

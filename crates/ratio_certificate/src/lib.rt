@@ -18,3 +18,6 @@ mod rows;
 pub use best::scale;
 pub use capacity::need;
 pub use making::make;
+
+#[cfg(test)]
+mod tests;

@@ -1,0 +1,198 @@
+ghost use Rattle.std.specs.Prelude.{◌≡◌, ◌≤◌, ◌^◌, ◌∷◌, [], All, IfOk, length};
+ghost use Rattle.te_model.specs.ThreeNodes.{straight_routes, three_nodes};
+ghost use Rattle.ratio_certificate.specs.Conditions.{IsSetWithin};
+
+use super::*;
+use routing::Routing;
+use std::alloc::{AllocError, Global};
+use std::test::Fail;
+use te_model::{
+    Block, Certificate, DemandSet, Items, Link, Matrix, Memory, Name, Network, Pair, PairRoutes,
+    PathShare, Row,
+};
+
+fn link(tail: u32, head: u32) -> Link
+    ensures { result ≡ record { tail = tail; head = head; capacity = 10; cost = 1 } }
+{
+    Link {
+        tail,
+        head,
+        capacity: 10,
+        cost: 1,
+    }
+}
+
+/// The nodes a, b and c, with links from a and from b to c, and both ways between a and b.
+fn three_nodes(alloc: Global) -> Result<Network, AllocError>
+    ensures { IfOk result (λ n. n ≡ three_nodes) }
+{
+    let names = vec![in alloc;
+        Name::new("a".to_string(alloc)?),
+        Name::new("b".to_string(alloc)?),
+        Name::new("c".to_string(alloc)?),
+    ]?;
+    let links = vec![in alloc; link(0, 2), link(1, 2), link(0, 1), link(1, 0)]?;
+    Ok(Network {
+        names: Items::new(names),
+        links: Items::new(links),
+    })
+}
+
+fn straight_path(alloc: Global, link: u32) -> Result<Vec<PathShare>, AllocError>
+    ensures { IfOk result (λ p. p.items ≡ record { links = link ∷ []; weight = 1000000 } ∷ []) }
+{
+    let links = vec![in alloc; link]?;
+    let paths = vec![in alloc;
+        PathShare {
+            links: Items::new(links),
+            weight: 1_000_000
+        },
+    ]?;
+    Ok(paths)
+}
+
+/// The demands from a and from b to c, each on its own link.
+fn straight_routes(alloc: Global) -> Result<Routing, AllocError>
+    ensures { IfOk result (λ r. r.routes ≡ straight_routes) }
+{
+    let first = straight_path(alloc, 0)?;
+    let second = straight_path(alloc, 1)?;
+    let routes = vec![in alloc;
+        PairRoutes {
+            pair: Pair { src: 0, dst: 2 },
+            paths: Items::new(first)
+        },
+        PairRoutes {
+            pair: Pair { src: 1, dst: 2 },
+            paths: Items::new(second)
+        },
+    ]?;
+    Ok(Routing {
+        routes: Items::new(routes),
+    })
+}
+
+/// The matrices in which both demands are equal, or all.
+fn demands(alloc: Global, equal: bool) -> Result<DemandSet, AllocError>
+    ensures { IfOk result (IsSetWithin 2) }
+{
+    if equal {
+        let base = vec![in alloc; 10, 10]?;
+        Ok(DemandSet::Margin {
+            num: 1,
+            den: 1,
+            base: Matrix {
+                demand: Items::new(base),
+            },
+        })
+    } else {
+        Ok(DemandSet::All)
+    }
+}
+
+/// The best block of the first link for the weights, and its need.
+fn best_of_first(
+    alloc: Global,
+    set: &DemandSet,
+    weights: &[u64],
+) -> Result<Option<(Block, u128)>, Memory>
+    requires set { IsSetWithin 2 set.now }
+    requires count { length weights.now ≡ 4 }
+    requires small { All (λ w. w ≤ 2 ^ 28) weights.now }
+{
+    let net = three_nodes(alloc)?;
+    let routing = straight_routes(alloc)?;
+    match scale(alloc, &net, &routing, set, 0, weights)? {
+        Some(block) => {
+            let least = need(&net, &block);
+            Ok(Some((block, least)))
+        }
+        None => Ok(None),
+    }
+}
+
+/// Whether the rows have these sources and potentials.
+fn are_rows(rows: &[Row], expected: &[(u32, [u64; 3])]) -> bool {
+    for (row, (source, potential)) in rows.iter().zip(expected) {
+        if row.source != *source || row.potential.as_slice() != potential.as_slice() {
+            return false;
+        }
+    }
+    rows.len() == expected.len()
+}
+
+/// Whether the block is one of the link with these numbers, in which a is one million.
+fn is_block(
+    block: &Block,
+    link: u32,
+    b: u64,
+    weights: &[u64],
+    rows: &[(u32, [u64; 3])],
+    plus: &[u64],
+    minus: &[u64],
+) -> bool {
+    block.link == link
+        && block.a == 1_000_000
+        && block.b == b
+        && block.weights.as_slice() == weights
+        && are_rows(block.rows.as_slice(), rows)
+        && block.plus.as_slice() == plus
+        && block.minus.as_slice() == minus
+}
+
+#[test]
+fn best_blocks(rt: HostRuntime) -> Result<(), Fail> {
+    let alloc = rt.alloc();
+    let weights = [1, 1, 0, 0];
+    let all = demands(alloc, false)?;
+    match best_of_first(alloc, &all, &weights) {
+        Ok(Some((block, least))) => {
+            assert!(rt; is_block(&block, 0, 1, &weights, &[(0, [0, 0, 1])], &[], &[]));
+            assert_eq!(rt; least, 2_000_000);
+        }
+        _ => assert!(rt; false),
+    }
+    match best_of_first(alloc, &all, &[0, 0, 0, 0]) {
+        Ok(found) => assert!(rt; found.is_none()),
+        Err(_) => assert!(rt; false),
+    }
+    let equal = demands(alloc, true)?;
+    match best_of_first(alloc, &equal, &weights) {
+        Ok(Some((block, least))) => {
+            let rows = [(0, [0, 0, 1]), (1, [0, 0, 1])];
+            assert!(rt; is_block(&block, 0, 2, &weights, &rows, &[1, 0], &[0, 1]));
+            assert_eq!(rt; least, 1_000_000);
+        }
+        _ => assert!(rt; false),
+    }
+    Ok(())
+}
+
+/// The certificate of the straight routes for all matrices.
+fn made(alloc: Global) -> Result<Certificate, Memory> {
+    let net = three_nodes(alloc)?;
+    let routing = straight_routes(alloc)?;
+    make(alloc, &net, &routing, DemandSet::All)
+}
+
+#[test]
+fn a_made_certificate(rt: HostRuntime) {
+    match made(rt.alloc()) {
+        Ok(certificate) => {
+            // Each distance is one weight, and the weights of all four links are paid for.
+            assert_eq!(rt; certificate.head.ratio, 4_000_000);
+            let far = 1 << 20;
+            let weights = [far, far, far, far];
+            match certificate.blocks.as_slice() {
+                [first, second] => {
+                    let from_a = [(0, [0, far, far])];
+                    let from_b = [(1, [far, 0, far])];
+                    assert!(rt; is_block(first, 0, far, &weights, &from_a, &[], &[]));
+                    assert!(rt; is_block(second, 1, far, &weights, &from_b, &[], &[]));
+                }
+                _ => assert!(rt; false),
+            }
+        }
+        Err(_) => assert!(rt; false),
+    }
+}
