@@ -1,17 +1,17 @@
 -- Tables of crossing paths that grow path by path and pair by pair.
-use Rattle.std.proofs.Common.{◌≡◌, ◌≢◌, ℕ, zero, suc, ◌+◌, ◌<◌, ◌≤◌, ◌⊎◌, Bool, true, false, not, ◌&&◌, ◌||◌, List, [], ◌∷◌, ◌++◌, length, take, arith, refl, ap, sym, subst, ◌∙◌, inl, inr, add-one, get_or, slice_index, nat_lt, ◌==◌, sum_by, All}
+use Rattle.std.proofs.Common.{◌≡◌, ℕ, ◌+◌, ◌<◌, ◌≤◌, Bool, true, false, List, [], ◌∷◌, ◌++◌, length, take, arith, refl, ap, sym, subst, ◌∙◌, inl, inr, add-one, get_or, slice_index, ◌==◌, All}
 use Rattle.std.specs.Prelude.{IsTrue, if◌then◌else◌}
 use Rattle.std.proofs.Math.ListN.{set}
-use Rattle.std.proofs.lemmas.Bool.{and_from, and_parts, cases_eq, cases_lt, eq-eqb, eqb-true, ltb-true, ne_eqb, or_cases, or_left, or_right, false≢true}
+use Rattle.std.proofs.lemmas.Bool.{cases_eq, cases_lt, eq-eqb, ne_eqb}
 use Rattle.std.proofs.lemmas.List.{get_or_append_left, get_or_push, get_or-set_same, get_or-set_other, length-append, length-set, length-take-le, take_more}
-use Rattle.std.proofs.lemmas.List.Elements.{All-cons, All-nil, All-get_or, All-weaker}
+use Rattle.std.proofs.lemmas.List.Elements.{All-get_or, All-weaker}
 use Rattle.std.proofs.lemmas.List.Sums.{sum_by-append, sum_by-cons, sum_by_more, sum_by_more_le}
 use Rattle.te_model.specs.declared.network.Network.{Network}
 use Rattle.te_model.specs.declared.route.PathShare.{PathShare}
 use Rattle.te_model.specs.declared.route.PairRoutes.{PairRoutes}
 use Rattle.te_model.specs.declared.units.TheConstants.{SHARE_UNIT}
-use Rattle.te_model.specs.Network.{link_count, tail_of, head_of}
-use Rattle.te_model.specs.Path.{chains, has_number, is_distinct, is_path, nodes_visited, no_routes, routes_at, share, weight_on}
+use Rattle.te_model.specs.Network.{link_count}
+use Rattle.te_model.specs.Path.{has_number, is_path, no_routes, routes_at, share, weight_on}
 use Rattle.te_model.specs.PathRouting.{IsPathRouting, IsPathSplit}
 use Rattle.te_model.proofs.SimplePaths.{path_links, path_links_once}
 use Rattle.te_model.proofs.Tests.{get_or_past}

@@ -1,4 +1,4 @@
-use Rattle.std.proofs.Common.{◌≡◌, ◌+◌, ℕ, List, [], arith, refl, ap, subst, sym, ◌∙◌, get_or, take, length}
+use Rattle.std.proofs.Common.{◌≡◌, ℕ, List, [], refl, ap, subst, sym, ◌∙◌, get_or, length}
 use Rattle.std.proofs.lemmas.List.{get_or_read}
 use Rattle.std.proofs.lemmas.List.Elements.{All-get_or}
 use Rattle.te_model.specs.declared.route.PathShare.{PathShare}

@@ -1,10 +1,8 @@
-use Rattle.std.proofs.Common.{◌≡◌, ◌+◌, ◌<◌, List, ◌∷◌, [], ◌++◌, arith, refl, ap, subst, sym, ◌∙◌, slice_index, take, length}
-use Rattle.std.proofs.Math.ListN.{set}
-use Rattle.std.proofs.lemmas.List.{get_or_read}
+use Rattle.std.proofs.Common.{◌+◌, ◌<◌, List, [], arith, refl, subst, sym, take, length}
 use Rattle.std.proofs.lemmas.List.Elements.{All-get_or}
 use Rattle.routing.specs.Decomposition.{taken_on}
 use Rattle.ratio_certificate.specs.declared.crossing.Crossing.{Crossing}
-use Rattle.ratio_certificate.specs.Crossings.{crossings_at, IsAddition}
+use Rattle.ratio_certificate.specs.Crossings.{IsAddition}
 use Rattle.ratio_certificate.proofs.Crossed.{no_addition, path_more}
 use Rattle.ratio_certificate.proofs.crossings.add_path.Goals as goal
 

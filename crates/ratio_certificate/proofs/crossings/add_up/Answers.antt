@@ -1,4 +1,4 @@
-use Rattle.std.proofs.Common.{◌<◌, slice_index, length, arith, get_or}
+use Rattle.std.proofs.Common.{◌<◌, length, arith, get_or}
 use Rattle.ratio_certificate.proofs.Crossed.{no_crossing, own_weight_fits, weight_more}
 use Rattle.ratio_certificate.proofs.crossings.add_up.Goals as goal
 
