@@ -13,8 +13,8 @@ use Rattle.ratio_checker.specs.Checked.{IsSimplePath}
 simple_path : (net : Network) (s t : ℕ) (path : PathShare) → link_count net ≤ 512 → is_path net s t path.links ≡ true → IsSimplePath path
 simple_path net s t path few is =
     record {
-      links = All-weaker (λ h. h < link_count net) (λ h. h < 512) (λ h inside. omega (arith, inside, few)) path.links (path_links net s t path.links is)
-      once = path_links_once net s t path.links is
+      links = All-weaker (λ h. h < link_count net) (λ h. h < 512) (λ h inside. omega (arith, inside, few)) path.links (path_links net s t path.links is);
+      once = path_links_once net s t path.links is;
     }
 
 pub simple_paths : (net : Network) (s t : ℕ) (paths : List PathShare) → link_count net ≤ 512 → list_all (λ q. is_path net s t q.links) paths ≡ true →
