@@ -7,3 +7,5 @@ pub mod Splitting
 pub mod Starting
 pub mod Rounds
 pub mod EvenSplits
+pub mod LeastWays
+pub mod DirectPaths

@@ -1,7 +1,6 @@
 -- The order of lists of links.
-use Rattle.std.proofs.Common.{◌⊎◌, inl, inr, ◌≡◌, ℕ, ◌<◌, true, ◌&&◌, List, [], ◌∷◌, ◌++◌, arith, refl, ap, sym, ◌∙◌, ◌==◌, nat_lt}
-use Rattle.std.proofs.lemmas.Bool.{cases_order, and_from, and_parts, or_cases, or_left, or_right, lt-ltb, ltb-true, eq-eqb, eqb-true}
-use Rattle.te_model.specs.Validity.{list_below}
+use Rattle.std.proofs.Common.{◌⊎◌, inl, inr, ◌≡◌, ℕ, List, ◌++◌, arith, sym, ◌∙◌}
+use Rattle.std.proofs.lemmas.Bool.{cases_order}
 use Rattle.te_model.proofs.ListOrder.{list_below-trans, list_below-cases, list_below-append, list_below-irrefl}
 use Rattle.shortest_path.specs.Paths.{sum_along, IsBelow}
 use Rattle.shortest_path.proofs.Walks.{sum_along-append}

@@ -1,9 +1,10 @@
 -- One round of the search, and its end.
-use Rattle.std.proofs.Common.{◌⊎◌, inl, inr, ◌≡◌, ℕ, ◌<◌, ◌≤◌, List, [], ◌∷◌, ◌++◌, length, get_or, arith, ap, sym, ◌∙◌, subst}
+use Rattle.std.proofs.Common.{◌⊎◌, inl, inr, ◌≡◌, ℕ, ◌+◌, ◌<◌, ◌≤◌, List, [], ◌∷◌, ◌++◌, length, get_or, arith, ap, sym, ◌∙◌, subst}
 use Rattle.std.specs.Prelude.{All, IsTrue}
 use Rattle.std.specs.List.{Contains, AllPairs}
+use Rattle.std.proofs.lemmas.Bool.{cases_lt}
 use Rattle.std.proofs.lemmas.List.{get_or_read, length-append}
-use Rattle.std.proofs.lemmas.List.Elements.{All-nil, All-push, All-weaker, Contains-get_or}
+use Rattle.std.proofs.lemmas.List.Elements.{All-nil, All-push, All-weaker, Contains-append_left, Contains-get_or, Contains-push}
 use Rattle.std.proofs.lemmas.List.Quantifiers.{all_pairs_push}
 use Rattle.te_model.specs.declared.network.Network.{Network}
 use Rattle.te_model.specs.Network.{link_count}
@@ -11,23 +12,26 @@ use Rattle.te_model.specs.Path.{is_path}
 use Rattle.shortest_path.specs.Paths.{IsBelow}
 use Rattle.k_paths.specs.declared.candidate.Candidate.{Candidate}
 use Rattle.k_paths.specs.Classes.{AreLeast}
-use Rattle.shortest_path.specs.Costs.{HasCosts, IsBefore}
-use Rattle.k_paths.specs.Search.{IsSearch, AreFirst, links_at, no_candidate}
+use Rattle.shortest_path.specs.Costs.{costs_of, HasCosts, IsBefore}
+use Rattle.k_paths.specs.Search.{IsSearch, IsOf, IsLeastCandidate, AreFirst, links_at, no_candidate}
+use Rattle.k_paths.proofs.Ordering.{below-trans}
 use Rattle.k_paths.proofs.Prefixes.{path_links}
 
--- the search, and what holds of the found paths
+-- what holds of the found paths, and the search as long as paths are missing
 pub record FoundSoFar (net : Network) (s t k : ℕ) (found : List (List ℕ)) (candidates : List Candidate) : Type 0 where
   pub few : length found ≤ k
   pub sound : All (λ p. IsTrue (is_path net s t p)) found
   pub ascending : AllPairs (IsBefore net) found
-  pub search' : IsSearch net s t found candidates
+  pub others : (q : List ℕ) → IsTrue (is_path net s t q) → Contains found q ⊎ All (λ f. IsBefore net f q) found
+  pub search' : length found < k → IsSearch net s t found candidates
 
 pub found_none : (net : Network) (s t k : ℕ) (candidates : List Candidate) → IsSearch net s t [] candidates → FoundSoFar net s t k [] candidates
 found_none net s t k candidates search' = record {
   few = omega arith;
   sound = All-nil (λ p. IsTrue (is_path net s t p));
   ascending = λ i j d lt below. absurd (omega arith);
-  search' = search';
+  others = λ q path. inr (All-nil (λ f. IsBefore net f q));
+  search' = λ room. search';
 }
 
 -- the candidate at a place
@@ -55,19 +59,41 @@ links_inside net s t costs found candidates has search' k below =
     All-weaker (λ h. h < link_count net) (λ h. h < length costs) (λ h lt. omega (arith, lt, has.count)) (links_at candidates k)
     (path_links net s t (links_at candidates k) least.member.sound)
 
+-- a path of a candidate's class is the best of all candidates or comes after it
+best_or_after : (net : Network) (s t : ℕ) (best q : List ℕ) (candidates : List Candidate) (c : Candidate) → AreFirst net best candidates →
+    Contains candidates c → IsLeastCandidate net s t c → IsOf net s t c q → (q ≡ best) ⊎ IsBefore net best q
+best_or_after net s t best q candidates c first has least of_c = elim (first c has) [
+  | inl is ↦ elim (least.least q of_c) [
+    | inl e ↦ inl (e ∙ is)
+    | inr below ↦ inr (subst (λ l. IsBefore net l q) is below)
+  ]
+  | inr later ↦ elim (least.least q of_c) [
+    | inl e ↦ inr (subst (λ l. IsBefore net best l) (sym e) later)
+    | inr below ↦ inr (below-trans (costs_of net) best c.links q later below)
+  ]
+]
+
 pub found_more : (net : Network) (s t k : ℕ) (found : List (List ℕ)) (candidates next : List Candidate) (i : ℕ) →
-    FoundSoFar net s t k found candidates → i < length candidates → length found < k →
-    IsSearch net s t (found ++ links_at candidates i ∷ []) next → FoundSoFar net s t k (found ++ links_at candidates i ∷ []) next
-found_more net s t k found candidates next i so below room search' =
+    FoundSoFar net s t k found candidates → i < length candidates → length found < k → AreFirst net (links_at candidates i) candidates →
+    (length found + 1 < k → IsSearch net s t (found ++ links_at candidates i ∷ []) next) → FoundSoFar net s t k (found ++ links_at candidates i ∷ []) next
+found_more net s t k found candidates next i so below room first then_search =
     let best = get_or candidates i no_candidate in
     let has = candidate_at candidates i below in
-    let least = so.search'.least best has in
-    let after : All (λ f. IsBefore net f best.links) found = so.search'.after best has best.links least.member in
+    let now = so.search' room in
+    let least = now.least best has in
+    let after : All (λ f. IsBefore net f best.links) found = now.after best has best.links least.member in
     record {
       few = omega (arith, length-append found (best.links ∷ []));
       sound = All-push (λ p. IsTrue (is_path net s t p)) found best.links so.sound least.member.sound;
       ascending = all_pairs_push (IsBefore net) found best.links so.ascending (λ j d lt. after j d lt);
-      search' = search';
+      others = λ q path. elim (now.cover q path) [
+        | inl in_found ↦ inl (Contains-append_left found (best.links ∷ []) q in_found)
+        | inr (c, has_c, of_c) ↦ elim (best_or_after net s t best.links q candidates c first has_c (now.least c has_c) of_c) [
+          | inl e ↦ inl (subst (λ l. Contains (found ++ best.links ∷ []) l) (sym e) (Contains-push found best.links))
+          | inr later ↦ inr (All-push (λ f. IsBefore net f q) found best.links (now.after c has_c q of_c) later)
+        ]
+      ];
+      search' = λ more. then_search (omega (arith, more, length-append found (best.links ∷ [])));
     }
 
 pub found_end : (net : Network) (s t k : ℕ) (found : List (List ℕ)) (candidates : List Candidate) →
@@ -76,11 +102,17 @@ found_end net s t k found candidates so done = record {
   few = so.few;
   sound = so.sound;
   ascending = so.ascending;
-  others = λ q path. elim (so.search'.cover q path) [
-    | inl there ↦ inl there
-    | inr (c, has, of_c) ↦ elim done [
-      | inl full ↦ inr (full, so.search'.after c has q of_c)
-      | inr empty ↦ absurd (let none = subst (λ (cs : List Candidate). Contains cs c) empty has in omega (arith, none.1))
+  others = λ q path. elim (cases_lt (length found) k) [
+    | inl room ↦ elim ((so.search' room).cover q path) [
+      | inl there ↦ inl there
+      | inr (c, has, of_c) ↦ elim done [
+        | inl full ↦ absurd (omega (arith, full, room))
+        | inr empty ↦ absurd (let none = subst (λ (cs : List Candidate). Contains cs c) empty has in omega (arith, none.1))
+      ]
+    ]
+    | inr enough ↦ elim (so.others q path) [
+      | inl there ↦ inl there
+      | inr all ↦ inr (omega (arith, enough, so.few), all)
     ]
   ];
 }

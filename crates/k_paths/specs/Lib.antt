@@ -2,3 +2,4 @@ pub mod Classes
 pub mod Search
 pub mod Even
 pub mod Samples
+pub mod Ways

@@ -1,45 +1,90 @@
 //! The least paths of classes, and the splitting of a class.
-ghost use Rattle.std.specs.Prelude.{if◌then◌else◌, [], ◌≡◌, ◌<◌, ◌≤◌, ◌^◌, ℕ, List, All, IfOk, IsTrue, OnOk, length, take, MatchOption};
-ghost use Rattle.te_model.specs.Network.{node_count};
+ghost use Rattle.std.specs.Prelude.{if◌then◌else◌, [], ◌≡◌, ◌<◌, ◌≤◌, ◌++◌, ◌∷◌, ℕ, List, IfOk, IsTrue, OnOk, length, take, MatchOption};
 ghost use Rattle.te_model.specs.Path.{is_path};
 ghost use Rattle.shortest_path.specs.Links.{IsSound};
 ghost use Rattle.k_paths.specs.Classes.{barred_at, InClass, IsLeastOfClass};
-ghost use Rattle.shortest_path.specs.Costs.{HasCosts};
 ghost use Rattle.k_paths.specs.Search.{IsLeastCandidate, Splits};
+ghost use Rattle.k_paths.specs.Ways.{AreWays};
 
 use crate::candidate::Candidate;
+use crate::direct::{first_link, meets};
 use crate::marks::class_marks;
+use crate::ways::{Ways, way_from};
 use shortest_path::least_walk;
 use std::alloc::Global;
 use te_model::{Items, Memory, Network};
 
-/// The least path of those that begin with the first links of a path and go on with a link that is not barred.
-pub fn deviation(
+/// The least path of those that begin with the first links of a path and go on with a link that is not
+/// barred, by a search over the links that these leave open.
+fn detour(
     alloc: Global,
     net: &Network,
-    costs: &[u64],
+    ways: &Ways,
     src: u32,
-    dst: u32,
     links: &[u32],
     fixed: usize,
     barred: &[u32],
 ) -> Result<Option<Vec<u32>>, Memory>
     requires sound { IsSound net.now }
-    requires costs { HasCosts net.now costs.now }
-    requires dst { dst < node_count net.now }
-    requires path { IsTrue (is_path net.now src dst links.now) }
+    requires ways { AreWays net.now ways.now }
+    requires path { IsTrue (is_path net.now src ways.now.dst links.now) }
     requires inside { fixed < length links.now }
-    ensures { IfOk result (λ r. MatchOption r ((q : List ℕ) → InClass net.now src dst (take fixed links.now) barred.now q → ⊥) (λ m. IsLeastOfClass net.now src dst m.items fixed barred.now × (take fixed m.items ≡ take fixed links.now))) }
+    ensures { IfOk result (λ r. MatchOption r ((q : List ℕ) → InClass net.now src ways.now.dst (take fixed links.now) barred.now q → ⊥) (λ m. IsLeastOfClass net.now src ways.now.dst m.items fixed barred.now × (take fixed m.items ≡ take fixed links.now))) }
 {
     let prefix = &links[..fixed];
     let node = net.links.as_slice()[links[fixed] as usize].tail;
     let marks = class_marks(alloc, net, src, prefix, barred, node)?;
-    match least_walk(alloc, net, costs, &marks, node, dst)? {
+    match least_walk(alloc, net, ways.costs.as_slice(), &marks, node, ways.dst)? {
         None => Ok(None),
         Some(rest) => {
             let mut found = Vec::from_slice(alloc, prefix)?;
             found.extend_from_slice(rest.links.as_slice())?;
             Ok(Some(found))
+        }
+    }
+}
+
+/// The first links of a path, and a link and a way after them.
+fn joined(alloc: Global, prefix: &[u32], first: u32, way: &[u32]) -> Result<Vec<u32>, Memory>
+    ensures { IfOk result (λ l. l.items ≡ prefix.now ++ first ∷ way.now) }
+{
+    let mut links = Vec::from_slice(alloc, prefix)?;
+    links.push(first)?;
+    links.extend_from_slice(way)?;
+    Ok(links)
+}
+
+/// The least path of those that begin with the first links of a path and go on with a link that is not barred.
+///
+/// It goes on along the least way over all links, where this meets none of the first nodes.
+pub fn deviation(
+    alloc: Global,
+    net: &Network,
+    ways: &Ways,
+    src: u32,
+    links: &[u32],
+    fixed: usize,
+    barred: &[u32],
+) -> Result<Option<Vec<u32>>, Memory>
+    requires sound { IsSound net.now }
+    requires ways { AreWays net.now ways.now }
+    requires path { IsTrue (is_path net.now src ways.now.dst links.now) }
+    requires inside { fixed < length links.now }
+    ensures { IfOk result (λ r. MatchOption r ((q : List ℕ) → InClass net.now src ways.now.dst (take fixed links.now) barred.now q → ⊥) (λ m. IsLeastOfClass net.now src ways.now.dst m.items fixed barred.now × (take fixed m.items ≡ take fixed links.now))) }
+{
+    let prefix = &links[..fixed];
+    let all = net.links.as_slice();
+    let node = all[links[fixed] as usize].tail;
+    match first_link(net, ways, src, prefix, barred, node) {
+        None => Ok(None),
+        Some(first) => {
+            match way_from(alloc, net, ways, all[first as usize].head)? {
+                Some(way) if !meets(all, src, prefix, &way) => {
+                    let found = joined(alloc, prefix, first, &way)?;
+                    Ok(Some(found))
+                }
+                _ => detour(alloc, net, ways, src, links, fixed, barred),
+            }
         }
     }
 }
@@ -71,22 +116,20 @@ fn bars_at(
 pub fn split(
     alloc: Global,
     net: &Network,
-    costs: &[u64],
+    ways: &Ways,
     src: u32,
-    dst: u32,
     class: &Candidate,
     next: &mut Vec<Candidate>,
 ) -> Result<(), Memory>
     requires sound { IsSound net.now }
-    requires costs { HasCosts net.now costs.now }
-    requires dst { dst < node_count net.now }
-    requires least { IsLeastCandidate net.now src dst class.now }
-    ensures { OnOk result (Splits net.now src dst class.now next.old.items next.new.items) }
+    requires ways { AreWays net.now ways.now }
+    requires least { IsLeastCandidate net.now src ways.now.dst class.now }
+    ensures { OnOk result (Splits net.now src ways.now.dst class.now next.old.items next.new.items) }
 {
     let links = class.links.as_slice();
     for place in class.fixed..links.len() {
         let barred = bars_at(alloc, links, class.fixed, class.barred.as_slice(), place)?;
-        match deviation(alloc, net, costs, src, dst, links, place, &barred)? {
+        match deviation(alloc, net, ways, src, links, place, &barred)? {
             Some(found) => {
                 let links = Items::new(found);
                 let barred = Items::new(barred);

@@ -4,7 +4,7 @@ ghost use Rattle.te_model.specs.Network.{is_well_formed, node_count};
 ghost use Rattle.k_paths.specs.Classes.{AreLeast};
 
 use crate::search::{advance, first_class, first_of};
-use shortest_path::costs;
+use crate::ways::ways_to;
 use std::alloc::Global;
 use te_model::{Items, Memory, Network, Path};
 
@@ -28,13 +28,16 @@ pub fn k_least(
     requires few { k ≤ 32 }
     ensures { IfOk result (λ p. AreLeast net.now src dst k (map (λ q. q.links) p.items)) }
 {
-    let costs = costs(alloc, net)?;
-    let mut candidates = first_class(alloc, net, &costs, src, dst)?;
+    let ways = ways_to(alloc, net, dst)?;
+    let mut candidates = first_class(alloc, net, &ways, src)?;
     let mut found: Vec<Path> = Vec::new(alloc);
     while found.len() < k as usize && !candidates.is_empty() {
-        let best = first_of(&costs, &candidates);
+        let best = first_of(ways.costs.as_slice(), &candidates);
         let links = Vec::from_slice(alloc, candidates[best].links.as_slice())?;
-        candidates = advance(alloc, net, &costs, src, dst, candidates, &links)?;
+        // No path is taken after the last, so its class stays whole.
+        if found.len() + 1 < k as usize {
+            candidates = advance(alloc, net, &ways, src, candidates, &links)?;
+        }
         found.push(Path {
             links: Items::new(links),
         })?;

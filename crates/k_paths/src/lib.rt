@@ -4,11 +4,13 @@
 
 mod candidate;
 mod class;
+mod direct;
 mod ksp;
 mod least;
 mod marks;
 mod order;
 mod search;
+mod ways;
 
 pub use ksp::{Ksp, KspPlan};
 pub use least::k_least;

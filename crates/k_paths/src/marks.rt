@@ -9,7 +9,7 @@ use std::alloc::Global;
 use te_model::{Link, Memory, Network};
 
 /// Whether one of the links leads to the node.
-fn leads_to(links: &[Link], prefix: &[u32], node: u32) -> bool
+pub fn leads_to(links: &[Link], prefix: &[u32], node: u32) -> bool
     requires { All (λ h. h < length links.now) prefix.now }
     ensures { result ≡ list_any (λ h. (slice_index_or links.now h no_link).head == node) prefix.now }
 {
@@ -22,7 +22,7 @@ fn leads_to(links: &[Link], prefix: &[u32], node: u32) -> bool
 }
 
 /// Whether paths that begin with the prefix may go on from the node over the link.
-fn is_allowed(links: &[Link], src: u32, prefix: &[u32], barred: &[u32], node: u32, h: u32) -> bool
+pub fn is_allowed(links: &[Link], src: u32, prefix: &[u32], barred: &[u32], node: u32, h: u32) -> bool
     requires prefix { All (λ k. k < length links.now) prefix.now }
     requires link { h < length links.now }
     ensures { result ≡ is_allowed_link links.now src prefix.now barred.now node h }

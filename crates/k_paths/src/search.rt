@@ -3,13 +3,13 @@ ghost use Rattle.std.specs.Prelude.{◌≡◌, ◌≢◌, ◌<◌, ◌≤◌, �
 ghost use Rattle.te_model.specs.Network.{node_count};
 ghost use Rattle.shortest_path.specs.Links.{IsSound};
 ghost use Rattle.shortest_path.specs.Paths.{IsBelow};
-ghost use Rattle.shortest_path.specs.Costs.{HasCosts};
 ghost use Rattle.k_paths.specs.Search.{AreFirst, AreLeastCandidates, IsSearch, links_at};
+ghost use Rattle.k_paths.specs.Ways.{AreWays};
 
 use crate::candidate::Candidate;
 use crate::class::split;
 use crate::order::is_before;
-use shortest_path::least_walk;
+use crate::ways::{Ways, way_from};
 use std::alloc::Global;
 use te_model::{Items, Memory, Network};
 
@@ -38,23 +38,21 @@ pub fn first_of(costs: &[u64], candidates: &[Candidate]) -> usize
 pub fn advance(
     alloc: Global,
     net: &Network,
-    costs: &[u64],
+    ways: &Ways,
     src: u32,
-    dst: u32,
     mut candidates: Vec<Candidate>,
     best: &[u32],
 ) -> Result<Vec<Candidate>, Memory>
     requires sound { IsSound net.now }
-    requires costs { HasCosts net.now costs.now }
-    requires dst { dst < node_count net.now }
-    requires least { AreLeastCandidates net.now src dst candidates.items }
+    requires ways { AreWays net.now ways.now }
+    requires least { AreLeastCandidates net.now src ways.now.dst candidates.items }
     requires first { AreFirst net.now best.now candidates.items }
-    ensures { IfOk result (λ next. (found : List (List ℕ)) → IsSearch net.now src dst found candidates.items → IsSearch net.now src dst (found ++ best.now ∷ []) next.items) }
+    ensures { IfOk result (λ next. (found : List (List ℕ)) → IsSearch net.now src ways.now.dst found candidates.items → IsSearch net.now src ways.now.dst (found ++ best.now ∷ []) next.items) }
 {
     let mut next = Vec::new(alloc);
     while let Some(candidate) = candidates.pop() {
         if candidate.links.as_slice() == best {
-            split(alloc, net, costs, src, dst, &candidate, &mut next)?;
+            split(alloc, net, ways, src, &candidate, &mut next)?;
         } else {
             next.push(candidate)?;
         }
@@ -66,24 +64,22 @@ pub fn advance(
 pub fn first_class(
     alloc: Global,
     net: &Network,
-    costs: &[u64],
+    ways: &Ways,
     src: u32,
-    dst: u32,
 ) -> Result<Vec<Candidate>, Memory>
     requires sound { IsSound net.now }
-    requires costs { HasCosts net.now costs.now }
+    requires ways { AreWays net.now ways.now }
     requires src { src < node_count net.now }
-    requires dst { dst < node_count net.now }
-    requires apart { src ≢ dst }
-    ensures { IfOk result (λ cs. IsSearch net.now src dst [] cs.items) }
+    requires apart { src ≢ ways.now.dst }
+    ensures { IfOk result (λ cs. IsSearch net.now src ways.now.dst [] cs.items) }
 {
-    let every = vec![in alloc; true; net.links.as_slice().len()]?;
     let mut candidates = Vec::new(alloc);
-    match least_walk(alloc, net, costs, &every, src, dst)? {
-        Some(path) => {
+    match way_from(alloc, net, ways, src)? {
+        Some(way) => {
+            let links = Items::new(way);
             let barred = Items::new(Vec::new(alloc));
             candidates.push(Candidate {
-                links: path.links,
+                links,
                 fixed: 0,
                 barred,
             })?;

@@ -1,5 +1,5 @@
 ghost use Rattle.std.specs.Prelude.{◌≡◌, IfOk};
-ghost use Rattle.k_paths.specs.Samples.{first_to_last, link, three_ways};
+ghost use Rattle.k_paths.specs.Samples.{back_and_forth, first_to_last, link, three_ways};
 
 use super::*;
 use scheme::{Oblivious, Scheme};
@@ -70,6 +70,47 @@ fn paths_in_order(rt: HostRuntime) -> Result<(), Fail> {
     }
     match k_least(alloc, &net, 4, 0, 2) {
         Ok(paths) => assert_eq!(rt; paths.len(), 0),
+        Err(_) => assert!(rt; false),
+    }
+    Ok(())
+}
+
+/// The nodes s, x, y and t: the least way from y to t leads over x, and there is a link from x to y.
+fn back_and_forth(alloc: Global) -> Result<Network, AllocError>
+    ensures { IfOk result (λ n. n ≡ back_and_forth) }
+{
+    let names = vec![in alloc;
+        Name::new("s".to_string(alloc)?),
+        Name::new("x".to_string(alloc)?),
+        Name::new("y".to_string(alloc)?),
+        Name::new("t".to_string(alloc)?),
+    ]?;
+    let links = vec![in alloc;
+        link(0, 1, 1),
+        link(1, 3, 1),
+        link(0, 2, 1),
+        link(2, 1, 1),
+        link(2, 3, 5),
+        link(1, 2, 1),
+    ]?;
+    Ok(Network {
+        names: Items::new(names),
+        links: Items::new(links),
+    })
+}
+
+#[test]
+fn a_least_way_over_the_first_nodes(rt: HostRuntime) -> Result<(), Fail> {
+    let alloc = rt.alloc();
+    let net = back_and_forth(alloc)?;
+    match k_least(alloc, &net, 0, 3, 5) {
+        Ok(paths) => {
+            assert_eq!(rt; paths.len(), 4);
+            assert!(rt; paths[0].links.as_slice() == [0, 1].as_slice());
+            assert!(rt; paths[1].links.as_slice() == [2, 3, 1].as_slice());
+            assert!(rt; paths[2].links.as_slice() == [2, 4].as_slice());
+            assert!(rt; paths[3].links.as_slice() == [0, 5, 4].as_slice());
+        }
         Err(_) => assert!(rt; false),
     }
     Ok(())

@@ -4,7 +4,7 @@ use Rattle.k_paths.proofs.Rounds.{FoundSoFar}
 use Rattle.k_paths.proofs.least.k_least.Given as goal
 
 abbrev pub invariant-loop-candidates : goal.invariant-loop-candidates
-invariant-loop-candidates l = FoundSoFar l.net l.src l.dst l.k (map (λ (p : Path). p.links) l.found.items) l.candidates.items
+invariant-loop-candidates l = FoundSoFar l.net l.src l.ways.dst l.k (map (λ (p : Path). p.links) l.found.items) l.candidates.items
 
 abbrev pub decreases-loop-candidates : goal.decreases-loop-candidates
 decreases-loop-candidates l = l.k - length l.found.items

@@ -1,9 +1,8 @@
-use Rattle.std.proofs.Common.{◌≡◌, ℕ, ◌<◌, ◌≤◌, List, [], length, map, arith, ap, sym, ◌∙◌, subst, All, vec_len}
+use Rattle.std.proofs.Common.{◌≡◌, ℕ, ◌≤◌, List, [], map, arith, ap, sym, ◌∙◌, subst, All, vec_len}
 use Rattle.std.proofs.lemmas.Bool.{eqb-true}
 use Rattle.std.proofs.lemmas.List.{length-map, nil_from_length}
 use Rattle.te_model.specs.declared.route.Path.{Path}
 use Rattle.te_model.specs.declared.route.PathShare.{PathShare}
-use Rattle.te_model.specs.declared.units.TheConstants.{SHARE_UNIT}
 use Rattle.routing.specs.Merge.{IsMerge}
 use Rattle.routing.specs.Normal.{normalized}
 use Rattle.routing.specs.Split.{total_weight}
