@@ -214,8 +214,7 @@ pub direct_some : (net : Network) (ways : Ways) (s : ℕ) (links : List ℕ) (i 
 direct_some net ways s links i barred w h x are path below first least none =
     let v = tail_of net (slice_index links i) in
     let pre = prefix_of_path net s ways.dst links i path below in
-    let len : length (take i links) ≡ i = length-take-le i links (omega arith) in
-    (
+    let len : length (take i links) ≡ i = length-take-le i links (omega arith) in (
       subst (λ n. IsLeastOfClass net s ways.dst (take i links ++ h ∷ w) n barred) len
           (direct_least net ways s v (take i links) barred w h x are pre first least none),
       subst (λ n. take n (take i links ++ h ∷ w) ≡ take i links) len (take-append_seam (take i links) (h ∷ w)),

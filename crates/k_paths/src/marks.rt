@@ -22,7 +22,14 @@ pub fn leads_to(links: &[Link], prefix: &[u32], node: u32) -> bool
 }
 
 /// Whether paths that begin with the prefix may go on from the node over the link.
-pub fn is_allowed(links: &[Link], src: u32, prefix: &[u32], barred: &[u32], node: u32, h: u32) -> bool
+pub fn is_allowed(
+    links: &[Link],
+    src: u32,
+    prefix: &[u32],
+    barred: &[u32],
+    node: u32,
+    h: u32,
+) -> bool
     requires prefix { All (λ k. k < length links.now) prefix.now }
     requires link { h < length links.now }
     ensures { result ≡ is_allowed_link links.now src prefix.now barred.now node h }
