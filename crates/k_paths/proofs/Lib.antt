@@ -1,4 +1,5 @@
 pub mod Ordering
+pub mod WalkSums
 pub mod Visits
 pub mod ClassLeast
 pub mod Deviating

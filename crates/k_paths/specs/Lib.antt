@@ -3,3 +3,4 @@ pub mod Search
 pub mod Even
 pub mod Samples
 pub mod Ways
+pub mod Sums

@@ -9,8 +9,9 @@ ghost use Rattle.k_paths.specs.Ways.{AreWays};
 use crate::candidate::Candidate;
 use crate::direct::{first_link, meets};
 use crate::marks::class_marks;
+use crate::sums::least_sums;
 use crate::ways::{Ways, way_from};
-use shortest_path::least_walk;
+use shortest_path::follow;
 use std::alloc::Global;
 use te_model::{Items, Memory, Network};
 
@@ -34,7 +35,9 @@ fn detour(
     let prefix = &links[..fixed];
     let node = net.links.as_slice()[links[fixed] as usize].tail;
     let marks = class_marks(alloc, net, src, prefix, barred, node)?;
-    match least_walk(alloc, net, ways.costs.as_slice(), &marks, node, ways.dst)? {
+    let costs = ways.costs.as_slice();
+    let sums = least_sums(alloc, net, costs, &marks, ways.dst)?;
+    match follow(alloc, net, costs, &marks, &sums, node, ways.dst)? {
         None => Ok(None),
         Some(rest) => {
             let mut found = Vec::from_slice(alloc, prefix)?;

@@ -10,6 +10,7 @@ mod least;
 mod marks;
 mod order;
 mod search;
+mod sums;
 mod ways;
 
 pub use ksp::{Ksp, KspPlan};

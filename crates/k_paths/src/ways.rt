@@ -5,7 +5,8 @@ ghost use Rattle.shortest_path.specs.Links.{IsSound};
 ghost use Rattle.shortest_path.specs.Least.{is_sum};
 ghost use Rattle.k_paths.specs.Ways.{AreFirstLinks, AreWays, IsLeastWay};
 
-use shortest_path::{costs, toward};
+use crate::sums::least_sums;
+use shortest_path::costs;
 use std::alloc::Global;
 use te_model::{Items, Memory, Network};
 
@@ -60,7 +61,7 @@ pub fn ways_to(alloc: Global, net: &Network, dst: u32) -> Result<Ways, Memory>
 {
     let costs = costs(alloc, net)?;
     let every = vec![in alloc; true; net.links.as_slice().len()]?;
-    let sums = toward(alloc, net, &costs, &every, dst)?;
+    let sums = least_sums(alloc, net, &costs, &every, dst)?;
     let firsts = first_links(alloc, net, &costs, &sums)?;
     Ok(Ways {
         dst,

@@ -32,10 +32,10 @@ returns-in-None c =
     in
     let least : IsLeastWalk net c.args.ways.now.costs marks (tail_of net (slice_index links c.args.fixed)) c.args.ways.now.dst None =
     subst (λ v. IsLeastWalk net c.args.ways.now.costs marks v c.args.ways.now.dst None) node
-    (subst (λ x. IsLeastWalk net x c.in_ok-marks.marks.items (get_or c.as_slice.result.now (get_or links c.args.fixed 0) no_link).tail c.args.ways.now.dst None) c.as_slice-2.ensures
-    (subst (λ m. IsLeastWalk net c.as_slice-2.result.now m (get_or c.as_slice.result.now (get_or links c.args.fixed 0) no_link).tail c.args.ways.now.dst None) c.deref.ensures.value
-    (subst (λ (o : Option Path). IsLeastWalk net c.as_slice-2.result.now c.deref.result.now (get_or c.as_slice.result.now (get_or links c.args.fixed 0) no_link).tail c.args.ways.now.dst (links_of o)) c.in-None.is
-    c.in_ok-least_walk.ensures)))
+    (subst (λ x. IsLeastWalk net x c.in_ok-marks.marks.items (get_or c.as_slice.result.now (get_or links c.args.fixed 0) no_link).tail c.args.ways.now.dst None) c.as_slice-costs.ensures
+    (subst (λ m. IsLeastWalk net c.as_slice-costs.result.now m (get_or c.as_slice.result.now (get_or links c.args.fixed 0) no_link).tail c.args.ways.now.dst None) c.deref-2.ensures.value
+    (subst (λ (o : Option Path). IsLeastWalk net c.as_slice-costs.result.now c.deref-2.result.now (get_or c.as_slice.result.now (get_or links c.args.fixed 0) no_link).tail c.args.ways.now.dst (links_of o)) c.in-None.is
+    c.in_ok-follow.ensures)))
     in
     deviation_none net marks c.args.src c.args.ways.now.dst c.args.ways.now.costs links c.args.fixed c.args.barred.now c.requires.ways.costs c.requires.path c.requires.inside are least
 
@@ -53,10 +53,10 @@ returns c =
     in
     let least : IsLeastWalk net c.args.ways.now.costs marks (tail_of net (slice_index links c.args.fixed)) c.args.ways.now.dst (Some r) =
     subst (λ v. IsLeastWalk net c.args.ways.now.costs marks v c.args.ways.now.dst (Some r)) node
-    (subst (λ x. IsLeastWalk net x c.in_ok-marks.marks.items (get_or c.as_slice.result.now (get_or links c.args.fixed 0) no_link).tail c.args.ways.now.dst (Some r)) c.as_slice-2.ensures
-    (subst (λ m. IsLeastWalk net c.as_slice-2.result.now m (get_or c.as_slice.result.now (get_or links c.args.fixed 0) no_link).tail c.args.ways.now.dst (Some r)) c.deref.ensures.value
-    (subst (λ (o : Option Path). IsLeastWalk net c.as_slice-2.result.now c.deref.result.now (get_or c.as_slice.result.now (get_or links c.args.fixed 0) no_link).tail c.args.ways.now.dst (links_of o)) c.in-Some.is
-    c.in_ok-least_walk.ensures)))
+    (subst (λ x. IsLeastWalk net x c.in_ok-marks.marks.items (get_or c.as_slice.result.now (get_or links c.args.fixed 0) no_link).tail c.args.ways.now.dst (Some r)) c.as_slice-costs.ensures
+    (subst (λ m. IsLeastWalk net c.as_slice-costs.result.now m (get_or c.as_slice.result.now (get_or links c.args.fixed 0) no_link).tail c.args.ways.now.dst (Some r)) c.deref-2.ensures.value
+    (subst (λ (o : Option Path). IsLeastWalk net c.as_slice-costs.result.now c.deref-2.result.now (get_or c.as_slice.result.now (get_or links c.args.fixed 0) no_link).tail c.args.ways.now.dst (links_of o)) c.in-Some.is
+    c.in_ok-follow.ensures)))
     in
     let found : c.extend_from_slice.new.self.items ≡ take c.args.fixed links ++ r = search rules in
     subst (λ l. IsLeastOfClass net c.args.src c.args.ways.now.dst l c.args.fixed c.args.barred.now × (take c.args.fixed l ≡ take c.args.fixed links)) (sym found)
