@@ -35,9 +35,8 @@ pub fn is_allowed(
     ensures { result ≡ is_allowed_link links.now src prefix.now barred.now node h }
 {
     let link = links[h as usize];
-    let is_visited = leads_to(links, prefix, link.head);
-    let is_barred = barred.contains(&h);
-    !(src == link.head || is_visited) && !(link.tail == node && is_barred)
+    !(src == link.head || leads_to(links, prefix, link.head))
+        && !(link.tail == node && barred.contains(&h))
 }
 
 /// The marks of the links over which paths that begin with the prefix may go on from the node.
