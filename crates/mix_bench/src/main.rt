@@ -9,52 +9,17 @@ ghost use Rattle.std.specs.Prelude.{◌≡◌, ◌≤◌, IfOk, IsTrue};
 ghost use Rattle.te_model.specs.Network.{is_well_formed, node_count};
 ghost use Rattle.scheme.specs.Reach.{ArePairsOf};
 
+use bench_network::{NODES, network};
 use racke_mix::Racke;
 use routing::Routing;
 use scheme::{Oblivious, Scheme, Spf};
 use std::alloc::{AllocError, Global};
 use std::time::Instant;
 use std::{env, io};
-use te_model::{Items, Link, Name, Network, Pair, Pairs, well_formed};
-
-const NODES: u32 = 64;
+use te_model::{Items, Network, Pair, Pairs, well_formed};
 
 /// The greatest number of trees.
 const TREES: u32 = 16;
-
-/// The next number of a linear congruential generator (Knuth's constants).
-fn next_number(state: &mut u64) -> u32 {
-    *state = state
-        .wrapping_mul(6364136223846793005)
-        .wrapping_add(1442695040888963407);
-    (*state >> 33) as u32
-}
-
-/// Eight links from each node, to nodes of which no two are the same.
-fn network(alloc: Global) -> Result<Network, AllocError> {
-    let mut names = Vec::new(alloc);
-    let mut links = Vec::new(alloc);
-    let mut state = 7u64;
-    for tail in 0..NODES {
-        names.push(Name::new(format!(in alloc; "n{tail}")?))?;
-        let first = next_number(&mut state) % 63;
-        for k in 0..8u32 {
-            let head = (tail + 1 + (first + 5 * k) % 63) % NODES;
-            let capacity = u64::from(10 + next_number(&mut state) % 90);
-            let cost = 1 + next_number(&mut state) % 20;
-            links.push(Link {
-                tail,
-                head,
-                capacity,
-                cost,
-            })?;
-        }
-    }
-    Ok(Network {
-        names: Items::new(names),
-        links: Items::new(links),
-    })
-}
 
 /// All pairs of two nodes.
 fn every_pair(alloc: Global, net: &Network) -> Result<Pairs, AllocError>
@@ -100,7 +65,7 @@ fn measure(rt: &HostRuntime, trees: u32, is_timed: bool) -> io::Result<()>
     requires few { trees ≤ 16 }
 {
     let alloc = rt.alloc();
-    let net = network(alloc)?;
+    let net = network(alloc, 10, 90)?;
     if net.names.as_slice().len() == 64 && well_formed(&net) {
         let pairs = every_pair(alloc, &net)?;
         let racke = Racke { trees, seed: 7 };

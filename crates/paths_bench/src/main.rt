@@ -8,48 +8,14 @@
 ghost use Rattle.std.specs.Prelude.{◌≡◌, ◌<◌, ◌≤◌, IsTrue};
 ghost use Rattle.te_model.specs.Network.{is_well_formed, node_count};
 
+use bench_network::{NODES, network};
 use k_paths::k_least;
-use std::alloc::{AllocError, Global};
+use std::alloc::Global;
 use std::time::Instant;
 use std::{env, io};
-use te_model::{Items, Link, Name, Network, well_formed};
-
-const NODES: u32 = 64;
+use te_model::{Network, well_formed};
 
 const PATHS: u32 = 4;
-
-/// The next number of a linear congruential generator (Knuth's constants).
-fn next_number(state: &mut u64) -> u32 {
-    *state = state
-        .wrapping_mul(6364136223846793005)
-        .wrapping_add(1442695040888963407);
-    (*state >> 33) as u32
-}
-
-/// Eight links from each node, to nodes of which no two are the same.
-fn network(alloc: Global) -> Result<Network, AllocError> {
-    let mut names = Vec::new(alloc);
-    let mut links = Vec::new(alloc);
-    let mut state = 7u64;
-    for tail in 0..NODES {
-        names.push(Name::new(format!(in alloc; "n{tail}")?))?;
-        let first = next_number(&mut state) % 63;
-        for k in 0..8u32 {
-            let head = (tail + 1 + (first + 5 * k) % 63) % NODES;
-            let cost = 1 + next_number(&mut state) % 20;
-            links.push(Link {
-                tail,
-                head,
-                capacity: 10,
-                cost,
-            })?;
-        }
-    }
-    Ok(Network {
-        names: Items::new(names),
-        links: Items::new(links),
-    })
-}
 
 /// How many paths a pair has, up to four.
 fn paths_of_pair(alloc: Global, net: &Network, src: u32, dst: u32) -> usize
@@ -92,7 +58,7 @@ fn measure(rt: &HostRuntime, sources: u32, is_timed: bool) -> io::Result<()>
     requires { sources ≤ 64 }
 {
     let alloc = rt.alloc();
-    let net = network(alloc)?;
+    let net = network(alloc, 10, 90)?;
     if net.names.as_slice().len() == 64 && well_formed(&net) {
         if is_timed {
             print_links(rt, &net)?;

@@ -11,6 +11,7 @@ ghost use Rattle.te_model.specs.Network.{is_well_formed, link_count, node_count}
 ghost use Rattle.scheme.specs.Reach.{ArePairsOf};
 ghost use Rattle.local_recovery.specs.Rates.{ArePairs, IsRates};
 
+use bench_network::{NODES, network, next_number};
 use flow_sim::{StepResult, step};
 use k_paths::Ksp;
 use local_recovery::{Mode, Recovered, recover};
@@ -19,46 +20,10 @@ use shortest_path::{costs, least_path};
 use std::alloc::{AllocError, Global};
 use std::time::Instant;
 use std::{env, io};
-use te_model::{Items, Link, Matrix, Memory, Name, Network, Pair, Pairs, well_formed};
-
-const NODES: u32 = 64;
+use te_model::{Items, Matrix, Memory, Network, Pair, Pairs, well_formed};
 
 /// How many steps are timed.
 const STEPS: u32 = 20;
-
-/// The next number of a linear congruential generator (Knuth's constants).
-fn next_number(state: &mut u64) -> u32 {
-    *state = state
-        .wrapping_mul(6364136223846793005)
-        .wrapping_add(1442695040888963407);
-    (*state >> 33) as u32
-}
-
-/// Eight links from each node, to nodes of which no two are the same.
-fn network(alloc: Global) -> Result<Network, AllocError> {
-    let mut names = Vec::new(alloc);
-    let mut links = Vec::new(alloc);
-    let mut state = 7u64;
-    for tail in 0..NODES {
-        names.push(Name::new(format!(in alloc; "n{tail}")?))?;
-        let first = next_number(&mut state) % 63;
-        for k in 0..8u32 {
-            let head = (tail + 1 + (first + 5 * k) % 63) % NODES;
-            let capacity = u64::from(10000 + next_number(&mut state) % 90000);
-            let cost = 1 + next_number(&mut state) % 20;
-            links.push(Link {
-                tail,
-                head,
-                capacity,
-                cost,
-            })?;
-        }
-    }
-    Ok(Network {
-        names: Items::new(names),
-        links: Items::new(links),
-    })
-}
 
 /// The pairs of one of the first nodes with any other, in ascending order.
 fn pairs_from(alloc: Global, net: &Network, sources: u32) -> Result<Pairs, AllocError>
@@ -188,7 +153,7 @@ fn measure(rt: &HostRuntime, sources: u32, is_timed: bool) -> io::Result<()>
     requires { sources ≤ 64 }
 {
     let alloc = rt.alloc();
-    let net = network(alloc)?;
+    let net = network(alloc, 10_000, 90_000)?;
     if net.names.as_slice().len() == 64 && well_formed(&net) {
         let pairs = pairs_from(alloc, &net, sources)?;
         let failed = vec![in alloc; false; net.links.as_slice().len()]?;
