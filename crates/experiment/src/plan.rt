@@ -1,6 +1,6 @@
 //! What a plan says.
 
-ghost use Rattle.std.specs.Prelude.{◌≡◌};
+ghost use Rattle.std.specs.Prelude.{◌≡◌, Some};
 ghost use Rattle.experiment.specs.Words.{scheme_named, is_oblivious, recovery_named, word};
 
 use std::fmt::{self, Display, Formatter, Write};
@@ -138,6 +138,8 @@ impl Key {
 }
 
 impl Display for Key {
+    ghost output = { λ key. Some (word key) };
+
     fn fmt<W: Write>(&self, f: &mut Formatter<W>) -> fmt::Result {
         f.write_str(self.word())
     }
