@@ -1,12 +1,13 @@
 //! The demand of each pair is split evenly over its first paths.
-ghost use Rattle.std.specs.Prelude.{◌≡◌, ◌≤◌, IfOk, map};
-ghost use Rattle.k_paths.specs.Even.{IsEvenSplit, of_weight_one};
+ghost use Rattle.std.specs.Prelude.{◌≡◌, ◌≤◌};
+ghost use Rattle.k_paths.specs.Even.{IsEvenSplit};
 
 use crate::least::k_least;
-use routing::{Routing, merge, normalize};
+use even_mix::even_mix;
+use routing::Routing;
 use scheme::{Oblivious, PairSplit, Scheme, SchemeFault, fixed_routing};
 use std::alloc::Global;
-use te_model::{Items, Matrix, Memory, Network, Pair, Pairs, Path, PathShare};
+use te_model::{Matrix, Memory, Network, Pair, Pairs, PathShare};
 
 /// The `k` least paths of each pair by (cost, list of link numbers), with even weights.
 ///
@@ -25,20 +26,6 @@ pub struct KspPlan {
     pub routing: Routing,
 }
 
-/// The paths, each with a weight of one.
-fn of_weight_one(alloc: Global, paths: Vec<Path>) -> Result<Vec<PathShare>, Memory>
-    ensures { IfOk result (λ parts. parts.items ≡ of_weight_one (map (λ p. p.links) paths.items)) }
-{
-    let mut parts = Vec::with_capacity(alloc, paths.len())?;
-    for path in paths {
-        parts.push(PathShare {
-            links: path.links,
-            weight: 1,
-        })?;
-    }
-    Ok(parts)
-}
-
 impl PairSplit for Ksp {
     ghost limit = { 32 };
 
@@ -54,9 +41,7 @@ impl PairSplit for Ksp {
         if paths.is_empty() {
             return Ok(None);
         }
-        let ones = of_weight_one(alloc, paths)?;
-        let parts = normalize(alloc, &ones)?;
-        let merged = merge(alloc, parts)?;
+        let merged = even_mix(alloc, paths)?;
         Ok(Some(merged))
     }
 }

@@ -1,13 +1,7 @@
 mod Words
-mod Greatest
-mod EachLink
 mod LinkLimits
 mod Ordering
-mod Putting
 mod PathLinks
 mod Loading
-mod Lengths
-mod Multiplying
 mod Mixing
-mod EvenSplits
 mod TreeSplits

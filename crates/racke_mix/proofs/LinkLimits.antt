@@ -5,9 +5,6 @@ use Rattle.te_model.specs.declared.network.Network.{Network}
 use Rattle.te_model.specs.Network.{node_count, link_count, tail_of, head_of, capacity_of, is_well_formed}
 use Rattle.te_model.proofs.SoundLinks.{sound_links}
 
-pub capacity_some : (net : Network) (h : ℕ) → is_well_formed net ≡ true → h < link_count net → 1 ≤ capacity_of net h
-capacity_some net h formed below = let sound = sound_links net formed h below in grind (arith, nat_tests)
-
 pub capacity_small : (net : Network) (h : ℕ) → is_well_formed net ≡ true → h < link_count net → capacity_of net h ≤ 2 ^ 32
 capacity_small net h formed below = let sound = sound_links net formed h below in grind (arith, nat_tests)
 

@@ -8,10 +8,10 @@ use Rattle.rand_chacha.specs.ChaCha.{ChaCha}
 use Rattle.te_model.specs.declared.network.Network.{Network}
 use Rattle.te_model.specs.Network.{node_count}
 use Rattle.draws.specs.Words.{generator}
+use Rattle.growing_lengths.specs.Growth.{first_multipliers, greatest_usage, grown}
+use Rattle.growing_lengths.proofs.Multiplying.{HaveGrown, first_grown, next_grown}
 use Rattle.racke_mix.specs.declared.round.Round.{Round}
-use Rattle.racke_mix.specs.Growth.{first_multipliers, grown}
 use Rattle.racke_mix.specs.Mix.{AreLoads, AreMultipliers, IsMix, IsRoundBy, generator_at, no_round, round_at}
-use Rattle.racke_mix.proofs.Multiplying.{HaveGrown, first_grown, next_grown}
 
 round_kept : (rounds : List Round) (round : Round) (j : ℕ) → j < length rounds → round_at (rounds ++ round ∷ []) j ≡ round_at rounds j
 round_kept rounds round j below = get_or_append_left rounds (round ∷ []) no_round j below
@@ -55,7 +55,8 @@ words_on net seed j at next e f = f ∙ rw e (ap (generator seed 0) (omega arith
 
 pub rounds_more : (net : Network) (seed j : ℕ) (rng rng' : ChaCha) (multipliers loads next : List ℕ) (rounds : List Round) (round : Round) →
     RoundsSoFar net seed j rng multipliers rounds → IsRoundBy net rng multipliers round →
-    rng' ≡ record rng { word_pos = rng.word_pos + (node_count net + 1) } → AreLoads net round.tree loads → next ≡ grown net loads multipliers →
+    rng' ≡ record rng { word_pos = rng.word_pos + (node_count net + 1) } → AreLoads net round.tree loads →
+    next ≡ grown net loads (greatest_usage net loads) multipliers →
     RoundsSoFar net seed (j + 1) rng' next (rounds ++ round ∷ [])
 rounds_more net seed j rng rng' multipliers loads next rounds round far is on put grows = record {
   count = omega (arith, far.count, length-append rounds (round ∷ []));
@@ -74,7 +75,7 @@ rounds_more net seed j rng rng' multipliers loads next rounds round far is on pu
   ];
   are = subst (λ n. AreMultipliers net (rounds ++ round ∷ []) n next) suc_is
       (multipliers, kept, loads, subst (λ (r : Round). AreLoads net r.tree loads) (sym new) put, grows);
-  grown = next_grown net j loads multipliers next far.grown grows;
+  grown = next_grown net j loads (greatest_usage net loads) multipliers next far.grown (omega arith) grows;
 }
   where
     kept : AreMultipliers net (rounds ++ round ∷ []) j multipliers

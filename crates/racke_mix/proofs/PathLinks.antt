@@ -1,10 +1,8 @@
 -- The links of paths.
-use Rattle.std.proofs.Common.{◌≡◌, inl, inr, ℕ, ◌<◌, Bool, true, false, not, ◌&&◌, List, [], ◌∷◌, All, arith, refl, ap, sym, ◌∙◌, subst, ◌==◌, nat_lt}
-use Rattle.std.proofs.lemmas.Bool.{and_from, and_parts, eq-eqb, eqb-true, false≢true, lt-ltb, ltb-true, or_cases, or_left, or_right}
-use Rattle.std.proofs.lemmas.List.Elements.{All-cons, All-nil}
+use Rattle.std.proofs.Common.{ℕ, ◌<◌, ◌&&◌, [], ◌∷◌, arith, refl, ◌==◌, nat_lt}
+use Rattle.std.proofs.lemmas.Bool.{and_from, eq-eqb, lt-ltb}
 use Rattle.te_model.specs.declared.network.Network.{Network}
 use Rattle.te_model.specs.Network.{link_count, tail_of, head_of}
-use Rattle.te_model.specs.Path.{chains, has_number, is_distinct, is_path, nodes_visited}
 use Rattle.shortest_path.specs.Paths.{HasPath}
 
 -- a link leads from its tail to its head

@@ -11,13 +11,13 @@ use Rattle.te_model.specs.declared.route.PairRoutes.{PairRoutes}
 use Rattle.te_model.specs.declared.route.PathShare.{PathShare}
 use Rattle.te_model.specs.Path.{is_path}
 use Rattle.tree_embed.specs.TreePaths.{IsTreePath}
+use Rattle.even_mix.specs.Even.{IsEvenMix}
+use Rattle.even_mix.proofs.EvenSplits.{even_few, even_split}
 use Rattle.scheme.specs.Fixed.{IsSplitBy}
 use Rattle.scheme.proofs.Plans.{related}
 use Rattle.racke_mix.specs.declared.round.Round.{Round}
-use Rattle.racke_mix.specs.Even.{IsEvenMix}
 use Rattle.racke_mix.specs.Mix.{AreTreePaths, IsMixSplit, round_at}
 use Rattle.racke_mix.specs.Racke.{IsRackePlan, IsRackeRouting}
-use Rattle.racke_mix.proofs.EvenSplits.{even_few, even_split}
 
 -- the tree paths of the first k rounds
 pub record PathsSoFar (net : Network) (rounds : List Round) (s t k : ℕ) (paths : List (List ℕ)) : Type 0 where

@@ -4,15 +4,15 @@ use Rattle.rand_chacha.specs.ChaCha.{ChaCha}
 use Rattle.te_model.specs.declared.network.Network.{Network}
 use Rattle.te_model.specs.declared.route.Pair.{Pair}
 use Rattle.te_model.specs.declared.route.PathShare.{PathShare}
-use Rattle.te_model.specs.Network.{node_count, link_count, tail_of, head_of}
+use Rattle.te_model.specs.Network.{node_count, link_count, tail_of, head_of, capacity_of}
 use Rattle.draws.specs.Words.{generator}
+use Rattle.even_mix.specs.Even.{IsEvenMix}
+use Rattle.growing_lengths.specs.Growth.{first_multipliers, greatest_usage, grown, lengths_of}
+use Rattle.growing_lengths.specs.Loads.{loads_of}
 use Rattle.tree_embed.specs.Embedding.{Embedding}
 use Rattle.tree_embed.specs.TreePaths.{IsTreePath}
 use Rattle.racke_mix.specs.declared.round.Round.{Round}
 use Rattle.racke_mix.specs.Draws.{word_on, IsOrderBy, scale_by}
-use Rattle.racke_mix.specs.Growth.{first_multipliers, lengths_of, grown}
-use Rattle.racke_mix.specs.Loads.{loads_of}
-use Rattle.racke_mix.specs.Even.{IsEvenMix}
 
 -- the round of these multipliers: it draws a word for each node, then one for its scale
 pub record IsRoundBy (net : Network) (rng : ChaCha) (multipliers : List ℕ) (round : Round) : Type 0 where
@@ -44,14 +44,14 @@ pub record AreLinkPaths (net : Network) (tree : Embedding) (paths : List (List �
 
 -- the loads of a tree: each link puts its capacity on every link of the tree path between its ends
 abbrev pub AreLoads : Network → Embedding → List ℕ → Type 0
-AreLoads net tree loads = (paths : List (List ℕ)) × AreLinkPaths net tree paths × (loads ≡ loads_of net paths)
+AreLoads net tree loads = (paths : List (List ℕ)) × AreLinkPaths net tree paths × (loads ≡ loads_of net (capacity_of net) paths)
 
--- the multipliers of round j: the first ones, grown by the loads of each round before
+-- the multipliers of round j: the first ones, grown by the loads of each round before over their greatest usage
 abbrev pub AreMultipliers : Network → List Round → ℕ → List ℕ → Type 0
 AreMultipliers net rounds zero multipliers = multipliers ≡ first_multipliers net
 AreMultipliers net rounds (suc j) multipliers =
     (before : List ℕ) × AreMultipliers net rounds j before
-    × (loads : List ℕ) × AreLoads net (round_at rounds j).tree loads × (multipliers ≡ grown net loads before)
+    × (loads : List ℕ) × AreLoads net (round_at rounds j).tree loads × (multipliers ≡ grown net loads (greatest_usage net loads) before)
 
 -- as many rounds as there are trees
 pub record IsMix (net : Network) (trees seed : ℕ) (rounds : List Round) : Type 0 where

@@ -6,8 +6,6 @@
 #![tactic(auto)]
 
 mod drawing;
-mod even;
-mod growth;
 mod loads;
 mod racke;
 mod round;

@@ -1,25 +1,14 @@
 //! What the links put on the paths of a tree.
-ghost use Rattle.std.specs.Prelude.{◌≡◌, ◌+◌, ◌*◌, ◌<◌, ◌≤◌, ◌^◌, ℕ, List, All, IfOk, IsTrue, OnOk, Some, length, slice_index, if◌then◌else◌};
+ghost use Rattle.std.specs.Prelude.{◌≡◌, ◌+◌, ◌<◌, ◌≤◌, ◌^◌, ℕ, List, IfOk, IsTrue, OnOk, Some, length, slice_index, if◌then◌else◌};
 ghost use Rattle.te_model.specs.Network.{capacity_of, head_of, is_well_formed, link_count, tail_of};
-ghost use Rattle.te_model.specs.Path.{has_number, is_distinct};
+ghost use Rattle.te_model.specs.Path.{has_number};
 ghost use Rattle.tree_embed.specs.TreePaths.{IsTreePath};
 ghost use Rattle.racke_mix.specs.Mix.{AreLoads};
 
+use growing_lengths::add_along;
 use std::alloc::Global;
 use te_model::{Memory, Network};
 use tree_embed::Tree;
-
-/// Adds the amount to the load of each of the links.
-fn add_along(loads: &mut [u64], links: &[u32], amount: u64)
-    requires links { All (λ h. h < length loads.old) links.now }
-    requires distinct { IsTrue (is_distinct links.now) }
-    requires room { (e : ℕ) → slice_index loads.old e + amount < 2 ^ 64 }
-    ensures { (e : ℕ) → slice_index loads.new e ≡ slice_index loads.old e + (if has_number links.now e then amount else 0) }
-{
-    for h in links {
-        loads[*h as usize] += amount;
-    }
-}
 
 /// Adds the capacity of a link to the load of each link of the tree path between its ends.
 fn add_link(
@@ -54,8 +43,7 @@ fn add_link(
 pub fn loads_of(alloc: Global, net: &Network, tree: &Tree) -> Result<Vec<u64>, Memory>
     requires network { IsTrue (is_well_formed net.now) }
     requires own { tree.now.network ≡ net.now }
-    ensures loads { IfOk result (λ l. AreLoads net.now tree.now l.items) }
-    ensures small { IfOk result (λ l. All (λ x. x ≤ 2 ^ 41) l.items) }
+    ensures { IfOk result (λ l. AreLoads net.now tree.now l.items) }
 {
     let links = net.links.as_slice();
     let mut loads = vec![in alloc; 0; links.len()]?;

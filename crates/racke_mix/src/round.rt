@@ -4,7 +4,7 @@ ghost use Rattle.te_model.specs.Network.{is_well_formed, link_count, node_count}
 ghost use Rattle.racke_mix.specs.Mix.{IsRoundBy};
 
 use crate::drawing::{draw_order, draw_scale};
-use crate::growth::lengths_of;
+use growing_lengths::lengths_of;
 use rand_chacha::ChaCha8Rng;
 use std::alloc::Global;
 use te_model::{Items, Memory, Network};

@@ -3,10 +3,10 @@ ghost use Rattle.std.specs.Prelude.{◌≤◌, IfOk, IsTrue};
 ghost use Rattle.te_model.specs.Network.{is_well_formed};
 ghost use Rattle.racke_mix.specs.Mix.{IsMix};
 
-use crate::growth::{first_multipliers, grow};
 use crate::loads::loads_of;
 use crate::round::{Round, draw_round};
 use draws::generator_of;
+use growing_lengths::{first_multipliers, greatest_usage, grow};
 use std::alloc::Global;
 use te_model::{Memory, Network};
 
@@ -27,7 +27,8 @@ pub fn mix_rounds(alloc: Global, net: &Network, trees: u32, seed: u64) -> Result
     for _tree in 0..trees {
         let round = draw_round(alloc, net, &mut rng, &multipliers)?;
         let loads = loads_of(alloc, net, &round.tree)?;
-        multipliers = grow(alloc, net, &loads, &multipliers)?;
+        let most = greatest_usage(net, &loads);
+        multipliers = grow(alloc, net, &loads, most, &multipliers)?;
         rounds.push(round)?;
     }
     Ok(rounds)

@@ -8,8 +8,8 @@ ghost use Rattle.scheme.specs.Fixed.{IsRoutingBy, IsSplitBy};
 ghost use Rattle.scheme.specs.Reach.{AllReached, ArePairsOf, IsPairOf};
 ghost use Rattle.racke_mix.specs.Mix.{AreTreePaths, IsMixSplit};
 
-use crate::even::even_mix;
 use crate::round::Round;
+use even_mix::even_mix;
 use routing::Routing;
 use scheme::SchemeFault;
 use std::alloc::Global;

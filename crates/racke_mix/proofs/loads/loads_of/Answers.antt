@@ -6,14 +6,23 @@ use Rattle.te_model.specs.Path.{has_number}
 use Rattle.shortest_path.proofs.Settling.{written_whole}
 use Rattle.shortest_path.proofs.Sound.{sound}
 use Rattle.racke_mix.proofs.LinkLimits.{capacity_small}
-use Rattle.racke_mix.proofs.Loading.{loads_done, loads_more, loads_none, loads_small}
+use Rattle.racke_mix.proofs.Loading.{tree_loads_done, tree_loads_more, tree_loads_none, tree_loads_small}
 use Rattle.racke_mix.proofs.loads.loads_of.Goals as goal
 
 pub loop-h-init : goal.loop-h-init
 loop-h-init c =
     let links = c.as_slice-links.result.now in
     let are : c.in_ok-loads.loads.items ≡ replicate (length links) 0 = search rules in
-    loads_none c.args.net.now c.args.tree.now (length links) c.in_ok-loads.loads.items (ap (λ (ls : List Link). length ls) c.as_slice-links.ensures) are
+    tree_loads_none c.args.net.now c.args.tree.now (length links) c.in_ok-loads.loads.items (ap (λ (ls : List Link). length ls) c.as_slice-links.ensures) are
+
+pub add_link-requires-clause-small : goal.add_link-requires-clause-small
+add_link-requires-clause-small c = λ e.
+    let net = c.args.net.now in
+    let h = c.loop-h.h in
+    let inside : h < link_count net = omega (arith, c.loop-h-test.true, ap (λ (ls : List Link). length ls) c.as_slice-links.ensures) in
+    let few = (sound net c.requires.network).few_links in
+    let read : get_or c.deref_mut.result.now e 0 ≡ get_or c.loop-h.loads.items e 0 = ap (λ (l : List ℕ). get_or l e 0) c.deref_mut.ensures.value in
+    omega (arith, read, tree_loads_small net c.args.tree.now h c.loop-h.loads.items c.loop-h.invariant (omega (arith, inside, few)) e)
 
 pub loop-h-preserved : goal.loop-h-preserved
 loop-h-preserved c =
@@ -25,18 +34,11 @@ loop-h-preserved c =
     let kept : length c.add_link.new.loads ≡ length old = c.add_link.auto.loads ∙ ap (λ (l : List ℕ). length l) value in
     let (path, is, puts) = c.in_ok-add_link.ensures in
     let whole = written_whole c.loop-h.loads.len c.add_link.new.loads old kept c.loop-h.loads.ok.0 in
-    rw whole (loads_more net c.args.tree.now h old c.add_link.new.loads path c.loop-h.invariant kept is (capacity_small net h c.requires.network inside)
+    rw whole (tree_loads_more net c.args.tree.now h old c.add_link.new.loads path c.loop-h.invariant kept is (capacity_small net h c.requires.network inside)
     (λ e. puts e ∙ ap (λ (l : List ℕ). get_or l e 0 + (if has_number path e then capacity_of net h else 0)) value))
 
-pub returns-clause-loads : goal.returns-clause-loads
-returns-clause-loads c =
+pub returns : goal.returns
+returns c =
     let net = c.args.net.now in
     let done : c.loop-h.h ≡ link_count net = omega (arith, c.loop-h-test.false, c.loop-h.auto.h-end, ap (λ (ls : List Link). length ls) c.as_slice-links.ensures) in
-    loads_done net c.args.tree.now c.loop-h.h c.loop-h.loads.items c.loop-h.invariant done
-
-pub returns-clause-small : goal.returns-clause-small
-returns-clause-small c =
-    let net = c.args.net.now in
-    let few = (sound net c.requires.network).few_links in
-    let done : c.loop-h.h ≡ link_count net = omega (arith, c.loop-h-test.false, c.loop-h.auto.h-end, ap (λ (ls : List Link). length ls) c.as_slice-links.ensures) in
-    loads_small net c.args.tree.now c.loop-h.h c.loop-h.loads.items c.loop-h.invariant (omega (arith, done, few))
+    tree_loads_done net c.args.tree.now c.loop-h.h c.loop-h.loads.items c.loop-h.invariant done
