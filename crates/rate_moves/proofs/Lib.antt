@@ -1,0 +1,10 @@
+pub mod Within
+pub mod Shifts
+pub mod MovedLoads
+pub mod MovedRoutings
+pub mod FewPaths
+pub mod Peaks
+pub mod Taking
+pub mod Searching
+pub mod Settled
+mod SampleLaws

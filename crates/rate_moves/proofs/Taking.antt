@@ -1,0 +1,51 @@
+-- The routes after a move, written in their place.
+use Rattle.std.proofs.Common.{◌≡◌, ℕ, ◌<◌, ◌≤◌, true, ◌&&◌, List, ◌++◌, length, take, drop, arith, ap, sym, ◌∙◌, subst, min, All}
+use Rattle.std.specs.Prelude.{nat_le, ◌==◌}
+use Rattle.std.specs.List.{list_all}
+use Rattle.std.proofs.Math.ListN.{set}
+use Rattle.std.proofs.Math.Seq.{map-set_same, take-append_seam}
+use Rattle.std.proofs.lemmas.List.{get_or-set_same, get_or-set_other, length-set}
+use Rattle.std.proofs.lemmas.List.Elements.{All-get_or}
+use Rattle.std.proofs.lemmas.Bool.{and_parts, leb-true}
+use Rattle.te_model.specs.declared.route.PairRoutes.{PairRoutes}
+use Rattle.te_model.specs.declared.units.TheConstants.{SHARE_UNIT}
+use Rattle.te_model.specs.Validity.{paths_ascend}
+use Rattle.te_model.proofs.Tests.{all_from_tests}
+use Rattle.te_model.specs.Path.{no_routes, routes_at}
+use Rattle.routing.specs.Merge.{links_at}
+use Rattle.routing.specs.Split.{are_splits, is_split, total_weight}
+use Rattle.rate_moves.specs.Moves.{IsMoved, IsShift, path_at}
+
+-- another split of the pair in its place, where none stood for a while
+pub moved_by_set : (routes : List PairRoutes) (p k : ℕ) (to : List ℕ) (size : ℕ) (empty after : PairRoutes) → p < length routes →
+    empty.pair ≡ (routes_at routes p).pair → after.pair ≡ (routes_at routes p).pair →
+    IsShift (routes_at routes p).paths (links_at (routes_at routes p).paths k) to (min size (path_at (routes_at routes p).paths k).weight) after.paths →
+    IsMoved routes p k to size (set (set routes p empty) p after)
+moved_by_set routes p k to size empty after below same_empty same shift =
+    let inside : p < length (set routes p empty) = omega (arith, below, length-set routes p empty) in
+    let at_empty : routes_at (set routes p empty) p ≡ empty = get_or-set_same routes p empty no_routes below in
+    let at_after : routes_at (set (set routes p empty) p after) p ≡ after = get_or-set_same (set routes p empty) p after no_routes inside in
+    record {
+      pairs = map-set_same (λ (r : PairRoutes). r.pair) (set routes p empty) p after no_routes (same ∙ (sym same_empty ∙ sym (ap (λ (r : PairRoutes). r.pair) at_empty)))
+          ∙ map-set_same (λ (r : PairRoutes). r.pair) routes p empty no_routes same_empty;
+      others = λ q apart. get_or-set_other (set routes p empty) p q after no_routes apart ∙ get_or-set_other routes p q empty no_routes apart;
+      shifted = subst (λ (r : PairRoutes). IsShift (routes_at routes p).paths (links_at (routes_at routes p).paths k) to
+          (min size (path_at (routes_at routes p).paths k).weight) r.paths) (sym at_after) shift;
+    }
+
+-- the paths of a split have weights of at least 1
+pub positive_weights : (routes : List PairRoutes) (p : ℕ) → are_splits routes ≡ true → p < length routes → All (λ s. 1 ≤ s.weight) (routes_at routes p).paths
+positive_weights routes p splits below =
+    let r = routes_at routes p in
+    let all = all_from_tests is_split (λ r. is_split r ≡ true) (λ r e. e) routes splits in
+    let split = All-get_or (λ r. is_split r ≡ true) routes p no_routes below all in
+    let first = (and_parts (paths_ascend r.paths && list_all (λ s. nat_le 1 s.weight) r.paths) (total_weight r.paths == SHARE_UNIT) split).0 in
+    all_from_tests (λ s. nat_le 1 s.weight) (λ s. 1 ≤ s.weight) (λ s e. leb-true 1 s.weight e) r.paths
+    (and_parts (paths_ascend r.paths) (list_all (λ s. nat_le 1 s.weight) r.paths) first).1
+
+-- a whole list written into a vector
+pub written_whole : {X : Type 0} (len : ℕ) (new old : List X) → length new ≡ length old → len ≡ length old →
+    take len (new ++ drop (length new) old) ≡ new
+written_whole len new old same is_len =
+    let e : len ≡ length new = is_len ∙ sym same in
+    rw e (take-append_seam new (drop (length new) old))

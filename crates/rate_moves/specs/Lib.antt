@@ -1,0 +1,5 @@
+pub mod Moves
+pub mod Loads
+pub mod Search
+pub mod Shifting
+pub mod Samples

@@ -1,0 +1,17 @@
+//! Rates that no single move improves: weight is moved between the paths of a pair, while this
+//! lowers the greatest utilisation by a stated share.
+//!
+//! - `settle`: a routing that is stable over the candidates of each pair.
+#![tactic(auto)]
+
+mod greatest;
+mod loads;
+mod search;
+mod settling;
+mod shifting;
+mod step;
+
+pub use settling::settle;
+
+#[cfg(test)]
+mod tests;
