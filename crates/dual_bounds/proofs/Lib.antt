@@ -1,0 +1,5 @@
+pub mod Sizes
+pub mod Choosing
+pub mod SourceRows
+pub mod RoutingBounds
+pub mod PathBounds

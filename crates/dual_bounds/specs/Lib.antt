@@ -1,0 +1,5 @@
+pub mod Dual
+pub mod Rows
+pub mod GivenPaths
+pub mod Choice
+pub mod Samples

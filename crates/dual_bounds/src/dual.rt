@@ -1,0 +1,64 @@
+//! The bracket of lengths, once the distances of the pairs are known.
+ghost use Rattle.std.specs.Prelude.{◌≡◌, ◌^◌, ◌<◌, ◌≤◌, All, IsTrue, length, slice_index};
+ghost use Rattle.te_model.specs.Network.{is_well_formed, link_count};
+ghost use Rattle.routing.specs.Routes.{AreDemands};
+ghost use Rattle.dual_bounds.specs.Dual.{demand_by, volume, IsBoundBy};
+
+use te_model::{Bracket, Items, Network, Row};
+
+/// The sum of the capacities by the lengths.
+fn volume(net: &Network, lengths: &[u64]) -> u128
+    requires network { IsTrue (is_well_formed net.now) }
+    requires lengths { length lengths.now ≡ link_count net.now }
+    requires limit { All (λ l. l ≤ 2 ^ 28) lengths.now }
+    ensures { result ≡ volume net.now lengths.now }
+{
+    let links = net.links.as_slice();
+    let mut total: u128 = 0;
+    for h in 0..links.len() {
+        total += u128::from(links[h].capacity) * u128::from(lengths[h]);
+    }
+    total
+}
+
+/// The sum of the demands of the pairs by their distances.
+fn demand_by(demand: &[u64], distances: &[u64]) -> u128
+    requires pairs { length distances.now < 2 ^ 32 }
+    requires demands { AreDemands (length distances.now) demand.now }
+    ensures { result ≡ demand_by (length distances.now) demand.now (slice_index distances.now) }
+{
+    let mut total: u128 = 0;
+    for p in 0..distances.len() {
+        total += u128::from(demand[p]) * u128::from(distances[p]);
+    }
+    total
+}
+
+/// The bracket of the lengths, with the bound that the distances of the pairs under them give, and `most` as that from above.
+pub fn bracket_by(
+    net: &Network,
+    demand: &[u64],
+    distances: &[u64],
+    lengths: Vec<u64>,
+    rows: Vec<Row>,
+    most: u128,
+) -> Bracket
+    requires network { IsTrue (is_well_formed net.now) }
+    requires pairs { length distances.now < 2 ^ 32 }
+    requires demands { AreDemands (length distances.now) demand.now }
+    requires lengths { length lengths.items ≡ link_count net.now }
+    requires limit { All (λ l. l ≤ 2 ^ 28) lengths.items }
+    ensures bound { IsBoundBy net.now (length distances.now) demand.now most (slice_index distances.now) result }
+    ensures lengths { result.lengths ≡ lengths.items }
+    ensures rows { result.rows ≡ rows.items }
+{
+    let low_num = demand_by(demand, distances);
+    let low_den = volume(net, &lengths).max(1);
+    Bracket {
+        low_num,
+        low_den,
+        lengths: Items::new(lengths),
+        rows: Items::new(rows),
+        parts: most,
+    }
+}
