@@ -1,0 +1,6 @@
+mod Marking
+mod LeastPaths
+mod Lengthening
+mod Splitting
+mod SampleLaws
+mod Balancing

@@ -1,0 +1,31 @@
+use Rattle.std.proofs.Common.{◌≡◌, ◌+◌, ◌<◌, List, [], ◌∷◌, ◌++◌, Some, length, get_or, map, arith, ap, sym, ◌∙◌, subst, rules}
+use Rattle.std.proofs.lemmas.List.{map_push}
+use Rattle.te_model.specs.declared.route.Pair.{Pair}
+use Rattle.shortest_path.specs.Paths.{HasPath, IsLeastPath}
+use Rattle.scheme.specs.Reach.{no_pair, pair_at}
+use Rattle.mcf_lengths.specs.Rounds.{links_in}
+use Rattle.mcf_lengths.proofs.LeastPaths.{PathsSoFar, paths_more}
+use Rattle.mcf_lengths.proofs.paths.least_paths.Goals as goal
+
+pub path_by-requires-clause-reached : goal.path_by-requires-clause-reached
+path_by-requires-clause-reached c =
+    let net = c.args.net.now in
+    let pairs = c.args.pairs.now.list in
+    let p = c.loop-p.p in
+    let inside : p < length pairs = omega (arith, c.loop-p-test.true, ap (λ (l : List Pair). length l) c.as_slice-list.ensures) in
+    let at : get_or c.as_slice-list.result.now p no_pair ≡ pair_at pairs p = ap (λ (l : List Pair). get_or l p no_pair) c.as_slice-list.ensures in
+    subst (λ (x : Pair). HasPath net x.src x.dst) (sym at) (c.requires.reached p inside)
+
+pub loop-p-preserved : goal.loop-p-preserved
+loop-p-preserved c =
+    let net = c.args.net.now in
+    let pairs = c.args.pairs.now.list in
+    let lengths = c.args.lengths.now in
+    let p = c.loop-p.p in
+    let old = c.loop-p.paths.items in
+    let path = c.in_ok-path_by.field-0 in
+    let at : get_or c.as_slice-list.result.now p no_pair ≡ pair_at pairs p = ap (λ (l : List Pair). get_or l p no_pair) c.as_slice-list.ensures in
+    let is = subst (λ (x : Pair). IsLeastPath net lengths x.src x.dst (Some path.links)) at c.in_ok-path_by.ensures in
+    let pushed : c.push.new.self.items ≡ old ++ path ∷ [] = search rules in
+    subst (PathsSoFar net lengths pairs (p + 1)) (sym (ap (map links_in) pushed ∙ map_push links_in old path))
+    (paths_more net lengths pairs p (map links_in old) path.links c.loop-p.invariant is)

@@ -1,0 +1,69 @@
+use Rattle.std.proofs.Common.{◌≡◌, ℕ, ◌+◌, ◌*◌, ◌<◌, ◌≤◌, ◌^◌, List, [], ◌∷◌, ◌++◌, All, true, length, map, max, slice_index, arith, ap, sym, ◌∙◌, subst, rules}
+use Rattle.te_model.specs.declared.route.Path.{Path}
+use Rattle.te_model.specs.Network.{link_count}
+use Rattle.te_model.specs.Path.{is_distinct}
+use Rattle.growing_lengths.specs.Growth.{greatest_usage, grown}
+use Rattle.growing_lengths.specs.Loads.{loads_of}
+use Rattle.growing_lengths.proofs.Loading.{length-loads_of}
+use Rattle.growing_lengths.proofs.Multiplying.{grown_small}
+use Rattle.mcf_lengths.specs.declared.round.Round.{Round}
+use Rattle.mcf_lengths.specs.Rounds.{IsRoundBy, links_in, loads_in}
+use Rattle.mcf_lengths.proofs.LeastPaths.{least_distinct, least_links}
+use Rattle.mcf_lengths.proofs.Lengthening.{RoundsSoFar, rounds_more}
+use Rattle.mcf_lengths.proofs.rounds.make_rounds.Goals as goal
+
+pub loads_of-requires-clause-links : goal.loads_of-requires-clause-links
+loads_of-requires-clause-links c =
+    let net = c.args.net.now in
+    let round = c.in_ok-round.round in
+    subst (All (λ (p : Path). All (λ h. h < link_count net) p.links)) (sym c.as_slice.ensures)
+    (least_links net round.lengths c.args.pairs.now.list round.paths c.in_ok-round.ensures.paths)
+
+pub loads_of-requires-clause-distinct : goal.loads_of-requires-clause-distinct
+loads_of-requires-clause-distinct c =
+    let round = c.in_ok-round.round in
+    subst (All (λ (p : Path). is_distinct p.links ≡ true)) (sym c.as_slice.ensures)
+    (least_distinct c.args.net.now round.lengths c.args.pairs.now.list round.paths c.in_ok-round.ensures.paths)
+
+pub greatest_usage-requires-clause-count : goal.greatest_usage-requires-clause-count
+greatest_usage-requires-clause-count c =
+    ap (λ (l : List ℕ). length l) (c.deref-in-loop-round-2.ensures.value ∙ c.in_ok-loads.ensures)
+    ∙ length-loads_of c.args.net.now (slice_index c.args.matrix.now.demand) (map links_in c.as_slice.result.now)
+
+pub grow-requires-clause-loads : goal.grow-requires-clause-loads
+grow-requires-clause-loads c =
+    ap (λ (l : List ℕ). length l) (c.deref-in-loop-round-3.ensures.value ∙ c.in_ok-loads.ensures)
+    ∙ length-loads_of c.args.net.now (slice_index c.args.matrix.now.demand) (map links_in c.as_slice.result.now)
+
+pub grow-requires-clause-moderate : goal.grow-requires-clause-moderate
+grow-requires-clause-moderate c =
+    subst (All (λ (m : ℕ). m ≤ 2 ^ 38)) (sym c.deref-in-loop-round-4.ensures.value)
+    (grown_small c.args.net.now c.loop-round._round c.loop-round.multipliers.items c.loop-round.invariant.grown (omega (arith, c.loop-round-test.true)))
+
+pub loop-round-preserved : goal.loop-round-preserved
+loop-round-preserved c =
+    let net = c.args.net.now in
+    let pairs = c.args.pairs.now.list in
+    let demand = c.args.matrix.now.demand in
+    let j = c.loop-round._round in
+    let multipliers = c.loop-round.multipliers.items in
+    let next = c.in_ok-multipliers-2.multipliers.items in
+    let rounds = c.loop-round.rounds.items in
+    let round = c.in_ok-round.round in
+    let is = subst (λ (m : List ℕ). IsRoundBy net pairs m round) c.deref-in-loop-round.ensures.value c.in_ok-round.ensures in
+    let loads : c.in_ok-loads.loads.items ≡ loads_in net demand round =
+    c.in_ok-loads.ensures ∙ ap (λ (l : List Path). loads_of net (slice_index demand) (map links_in l)) c.as_slice.ensures
+    in
+    let usage : c.greatest_usage.result ≡ greatest_usage net (loads_in net demand round) =
+    c.greatest_usage.ensures.usage ∙ ap (λ (l : List ℕ). greatest_usage net l) (c.deref-in-loop-round-2.ensures.value ∙ loads)
+    in
+    let greater : c.max-most.result ≡ max c.loop-round.most c.greatest_usage.result = grind (arith, c.max-most.ensures) in
+    let grows : next ≡ grown net (loads_in net demand round) (4 * c.max-most.result) multipliers =
+    c.in_ok-multipliers-2.ensures
+    ∙ (ap (λ (l : List ℕ). grown net l (4 * c.max-most.result) c.deref-in-loop-round-4.result.now) (c.deref-in-loop-round-3.ensures.value ∙ loads)
+    ∙ ap (λ (m : List ℕ). grown net (loads_in net demand round) (4 * c.max-most.result) m) c.deref-in-loop-round-4.ensures.value)
+    in
+    let pushed : c.push.new.self.items ≡ rounds ++ round ∷ [] = search rules in
+    subst (λ (rs : List Round). RoundsSoFar net pairs demand (j + 1) c.max-most.result next rs) (sym pushed)
+    (rounds_more net pairs demand j c.loop-round.most c.max-most.result multipliers next rounds round c.loop-round.invariant is
+    (greater ∙ ap (λ (x : ℕ). max c.loop-round.most x) usage) (omega (arith, greater, c.greatest_usage.ensures.small, c.loop-round.invariant.small)) grows)

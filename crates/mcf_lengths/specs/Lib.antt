@@ -1,0 +1,4 @@
+pub mod Rounds
+pub mod Sums
+pub mod Flow
+pub mod Samples

@@ -1,0 +1,17 @@
+//! Multicommodity flow by lengths that grow with the loads on the links, after Garg and Könemann
+//! (Faster and simpler algorithms for multicommodity flow and other fractional packing problems, 1998).
+//!
+//! - `Mcf`: the scheme. Its plan keeps the four least paths by cost of each pair.
+#![tactic(auto)]
+
+mod flow;
+mod loads;
+mod paths;
+mod round;
+mod rounds;
+mod split;
+
+pub use flow::{Mcf, McfPlan};
+
+#[cfg(test)]
+mod tests;

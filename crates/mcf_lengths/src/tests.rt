@@ -1,0 +1,146 @@
+ghost use Rattle.std.specs.Prelude.{◌≡◌, ◌∷◌, [], IfOk};
+ghost use Rattle.mcf_lengths.specs.Rounds.{AreRounds, IsRoundsRouting};
+ghost use Rattle.mcf_lengths.specs.Samples.{link, one_pair, two_parallel_links};
+
+use super::*;
+use crate::round::Round;
+use crate::rounds::{make_rounds, rounds_routing};
+use routing::Routing;
+use scheme::{LowNote, Scheme};
+use std::alloc::{AllocError, Global};
+use std::test::Fail;
+use te_model::{Items, Link, Matrix, Memory, Name, Network, Pair, Pairs};
+
+fn link(capacity: u64) -> Link
+    ensures { result ≡ link capacity }
+{
+    Link {
+        tail: 0,
+        head: 1,
+        capacity,
+        cost: 1,
+    }
+}
+
+/// Two links from a to b, of capacities 10 and 30.
+fn two_parallel_links(alloc: Global) -> Result<Network, AllocError>
+    ensures { IfOk result (λ n. n ≡ two_parallel_links) }
+{
+    let names = vec![in alloc;
+        Name::new("a".to_string(alloc)?),
+        Name::new("b".to_string(alloc)?),
+    ]?;
+    let links = vec![in alloc; link(10), link(30)]?;
+    Ok(Network {
+        names: Items::new(names),
+        links: Items::new(links),
+    })
+}
+
+fn one_pair(alloc: Global) -> Result<Pairs, AllocError>
+    ensures { IfOk result (λ p. p.list ≡ one_pair) }
+{
+    let list = vec![in alloc; Pair { src: 0, dst: 1 }]?;
+    Ok(Pairs {
+        list: Items::new(list),
+    })
+}
+
+fn demands(alloc: Global) -> Result<Matrix, AllocError>
+    ensures { IfOk result (λ m. m.demand ≡ 40 ∷ []) }
+{
+    let demand = vec![in alloc; 40]?;
+    Ok(Matrix {
+        demand: Items::new(demand),
+    })
+}
+
+fn sample_rounds(alloc: Global) -> Result<Vec<Round>, Memory>
+    ensures { IfOk result (λ r. AreRounds two_parallel_links one_pair (40 ∷ []) r.items) }
+{
+    let net = two_parallel_links(alloc)?;
+    let pairs = one_pair(alloc)?;
+    let matrix = demands(alloc)?;
+    make_rounds(alloc, &net, &pairs, &matrix)
+}
+
+/// Whether the first pair takes the link alone in the round.
+fn takes(round: &Round, link: u32) -> bool {
+    match round.paths.as_slice() {
+        [path] => path.links.as_slice() == [link].as_slice(),
+        _ => false,
+    }
+}
+
+#[test]
+fn the_small_link_is_taken_in_six_rounds(rt: HostRuntime) {
+    match sample_rounds(rt.alloc()) {
+        Ok(rounds) => {
+            assert_eq!(rt; rounds.len(), 28);
+            for j in 0..rounds.len() {
+                let link = if [5, 9, 13, 17, 20, 24].contains(&j) {
+                    0
+                } else {
+                    1
+                };
+                assert!(rt; takes(&rounds[j], link));
+            }
+        }
+        Err(_) => assert!(rt; false),
+    }
+}
+
+/// The routing of the rounds, its parts, and how many rounds there are lengths of.
+fn sample_routing(alloc: Global) -> Result<(Routing, u128, usize), Memory>
+    ensures { IfOk result (λ r. IsRoundsRouting two_parallel_links one_pair (40 ∷ []) r.0.routes) }
+{
+    let net = two_parallel_links(alloc)?;
+    let pairs = one_pair(alloc)?;
+    let matrix = demands(alloc)?;
+    let (routing, lengths) = rounds_routing(alloc, &net, &pairs, &matrix)?;
+    let parts = routing.parts(&net, &matrix);
+    Ok((routing, parts, lengths.len()))
+}
+
+#[test]
+fn most_rounds_take_the_large_link(rt: HostRuntime) {
+    match sample_routing(rt.alloc()) {
+        Ok((routing, parts, rounds)) => {
+            assert_eq!(rt; parts, 1_047_620);
+            assert_eq!(rt; rounds, 28);
+            match routing.routes.as_slice() {
+                [routes] => match routes.paths.as_slice() {
+                    [small, large] => {
+                        assert!(rt; small.links.as_slice() == [0].as_slice());
+                        assert_eq!(rt; small.weight, 214_285);
+                        assert!(rt; large.links.as_slice() == [1].as_slice());
+                        assert_eq!(rt; large.weight, 785_715);
+                    }
+                    _ => assert!(rt; false),
+                },
+                _ => assert!(rt; false),
+            }
+        }
+        Err(_) => assert!(rt; false),
+    }
+}
+
+#[test]
+fn two_parallel_links_are_filled_evenly(rt: HostRuntime) -> Result<(), Fail> {
+    let alloc = rt.alloc();
+    let net = two_parallel_links(alloc)?;
+    let pairs = one_pair(alloc)?;
+    let matrix = demands(alloc)?;
+    match Mcf.prepare(alloc, &net, &pairs) {
+        Ok(plan) => match Mcf.route(alloc, &net, &plan, &matrix) {
+            Ok((routing, note)) => {
+                assert_eq!(rt; routing.routes.as_slice().len(), 1);
+                assert!(rt; 1_000_000 <= note.parts && note.parts <= 1_010_800);
+                assert!(rt; note.low() == Some(1_000_000));
+            }
+            Err(_) => assert!(rt; false),
+        },
+        Err(_) => assert!(rt; false),
+    }
+    Ok(())
+}
