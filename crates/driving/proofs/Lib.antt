@@ -1,0 +1,9 @@
+mod Order
+mod Mapping
+mod Surviving
+mod Paths
+mod Demands
+mod SeriesLemmas
+mod Spreading
+mod Carried
+mod Rowing

@@ -1,0 +1,4 @@
+pub mod Reached
+pub mod Mapped
+pub mod Simulated
+pub mod Rows
