@@ -1,0 +1,3 @@
+pub mod Scheme
+pub mod Text
+pub mod Report
