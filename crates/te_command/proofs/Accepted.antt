@@ -1,20 +1,23 @@
 -- What a yes proves, and that what is published is answered yes.
-use Rattle.std.proofs.Common.{◌≡◌, ℕ, ◌≤◌, List, length, Option, None, inl, inr, refl, sym, subst, arith}
+use Rattle.std.proofs.Common.{◌≡◌, ℕ, ◌≤◌, List, length, Option, Some, None, inl, inr, refl, sym, subst, arith}
 use Rattle.te_model.specs.declared.certificate.Certificate.{Certificate}
 use Rattle.te_model.specs.declared.network.Network.{Network}
 use Rattle.te_model.specs.Inequalities.{first_failure}
 use Rattle.te_model.proofs.Failures.{holds_from_none}
 use Rattle.te_model.proofs.Oblivious.{holds_is_oblivious}
 use Rattle.traffic_matrix.specs.declared.series.Series.{Series}
+use Rattle.failure.specs.declared.outage.Failures.{Failures}
 use Rattle.experiment.specs.declared.plan.Experiment.{Experiment}
+use Rattle.reporting.specs.Report.{IsReport}
 use Rattle.publication.specs.Published.{IsPublished}
 use Rattle.publication.proofs.Accepted.{published_accepted}
-use Rattle.te_command.specs.Command.{Command, check, check_network, publish}
+use Rattle.te_command.specs.Command.{Command, check, check_network, publish, run}
 use Rattle.te_command.specs.Refusals.{IsCertificate, IsTopology}
 use Rattle.te_command.specs.Files.{Tells}
 use Rattle.te_command.specs.CheckText.{IsVerdict, IsNetworkVerdict, CheckText, TopologyText, CheckNetworkText, ProvesRatio}
 use Rattle.te_command.specs.PublishText.{IsPublication, IsAccepted}
-use Rattle.te_command.specs.Meaning.{Means, MeansRatio, IsPublicationOf, IsAnswer}
+use Rattle.te_command.specs.ReportText.{no_failures, TellsFailures, FailuresText, IsReported}
+use Rattle.te_command.specs.Meaning.{Means, MeansRatio, IsPublicationOf, IsReportOf, IsAnswer}
 
 -- a certificate of which no inequality fails proves its ratio
 proves_ratio : (bytes : List ℕ) (c : Certificate) → IsCertificate bytes c → first_failure c ≡ None → ProvesRatio bytes
@@ -76,13 +79,36 @@ publication_told file content text (bytes, is, inr (plan, says, (rows, told, inr
   plan = plan;
   network = n;
   series = series;
-  told_plan = (bytes, is, says);
-  told_network = (rows, told, makes);
-  told_series = (demands, given, reads);
+  told = record { told_plan = (bytes, is, says); told_network = (rows, told, makes); told_series = (demands, given, reads) };
   reached = x.1;
   published = x.2;
 }
 publication_told file content text (bytes, is, inr (plan, says, (rows, told, inr (n, makes, (demands, given, inr (series, reads, inr x)))))) = absurd (omega (arith, x.0))
+
+-- what the named failures mean at status 0 is a report of what they say
+failures_told : (plan : Experiment) (n : Network) (series : Series) (named : Option (List ℕ)) (content : List ℕ → Option (List ℕ)) (text : List ℕ) →
+    FailuresText (IsReported plan n series) n series named content 0 text →
+    (failures : Failures) × TellsFailures n series named content failures × IsReport plan n series failures text
+failures_told plan n series None content text x = (no_failures, refl, x.1)
+failures_told plan n series (Some file) content text (bytes, is, inl x) = absurd (omega (arith, x.0))
+failures_told plan n series (Some file) content text (bytes, is, inr (failures, reads, x)) = (failures, (bytes, is, reads), x.1)
+
+-- what the told files mean at status 0 is a report of what they say
+pub report_told : (file : List ℕ) (content : List ℕ → Option (List ℕ)) (text : List ℕ) → Means (run file) content 0 text → IsReportOf file content text
+report_told file content text (bytes, is, inl x) = absurd (omega (arith, x.0))
+report_told file content text (bytes, is, inr (plan, says, (rows, told, inl x))) = absurd (omega (arith, x.0))
+report_told file content text (bytes, is, inr (plan, says, (rows, told, inr (n, makes, (demands, given, inl x))))) = absurd (omega (arith, x.0))
+report_told file content text (bytes, is, inr (plan, says, (rows, told, inr (n, makes, (demands, given, inr (series, reads, x)))))) =
+    let by = failures_told plan n series plan.failures content text x in
+    record {
+      plan = plan;
+      network = n;
+      series = series;
+      failures = by.0;
+      told = record { told_plan = (bytes, is, says); told_network = (rows, told, makes); told_series = (demands, given, reads) };
+      told_failures = by.1;
+      report = by.2;
+    }
 
 -- a yes of the told files is true
 pub means_ratio : (command : Command) (content : List ℕ → Option (List ℕ)) (line : List ℕ) → Means command content 0 line → MeansRatio command content
@@ -91,3 +117,4 @@ means_ratio (check_network file topology) content line x = (x.0, x.1, network_pr
 means_ratio (publish file) content line x =
     let is = publication_told file content line x in
     (line, x, (publication_accepted is.plan is.network is.series line is.published).proof)
+means_ratio (run file) content line x = tt

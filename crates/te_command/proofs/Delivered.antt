@@ -5,14 +5,14 @@ use Rattle.std.specs.declared.string.String.{String}
 use Rattle.std.specs.declared.alloc.Global.{Global}
 use Rattle.te_ports.specs.Ports.{Rose, AppendsPart}
 use Rattle.te_command.specs.declared.answer.Answer.{Answer}
-use Rattle.te_command.specs.declared.answer.Answer.TheVariants.{Yes, No, Published, NoPath}
-use Rattle.te_command.specs.Command.{Command, check, check_network, publish, IsCheck, command_of}
+use Rattle.te_command.specs.declared.answer.Answer.TheVariants.{Yes, No, Published, Report, NoPath}
+use Rattle.te_command.specs.Command.{Command, check, check_network, publish, run, IsCheck, IsPublish, command_of}
 use Rattle.te_command.specs.PublishText.{IsAccepted}
-use Rattle.te_command.specs.Meaning.{IsTold, IsAnswer, IsPublicationOf, Means, MeansRatio, MeansStatus, ReadFailed}
+use Rattle.te_command.specs.Meaning.{IsTold, IsAnswer, IsPublicationOf, IsReportOf, Means, MeansRatio, MeansStatus, ReadFailed}
 use Rattle.te_command.specs.Outcome.{status_of, text_of}
 use Rattle.te_command.specs.Run.{OfCommand, OfToldCommand, Says, SaysSome, Writes, WritesPart, Answers, message}
 use Rattle.te_command.proofs.Once.{status_once, status_meant}
-use Rattle.te_command.proofs.Accepted.{means_ratio, publication_told}
+use Rattle.te_command.proofs.Accepted.{means_ratio, publication_told, report_told}
 
 asked_is : (words : Option Command) (asked command : Command) → Some asked ≡ words → words ≡ Some command → asked ≡ command
 asked_is words asked command is named = cc
@@ -56,6 +56,7 @@ pub part_written : (P : ℕ → List ℕ → Type 0) (answer : Answer) (result :
 part_written P (Yes line) result old new delivered meant is part = (string_bytes line, inl meant, part)
 part_written P (No line) result old new delivered meant is part = (string_bytes line, inr meant, part)
 part_written P (Published file) result old new delivered meant is part = (file.items, inl meant, part)
+part_written P (Report text) result old new delivered meant is part = (text.items, inl meant, part)
 part_written P (NoPath line) result old new (inl seven) meant is part = absurd (omega arith)
 part_written P (NoPath line) result old new (inr failed) meant is part = absurd (omega (arith, failed.1))
 
@@ -96,6 +97,14 @@ published file content answer result old new delivered whole meant is =
     let text = written (Means (publish file) content) answer result 0 old new delivered whole meant (omega arith) is in
     (text.0, publication_told file content text.0 text.1, text.2)
 
+-- at status 0 of `run` what was written is a report
+pub reported : (file : List ℕ) (content : List ℕ → Option (List ℕ)) (answer : Answer) (result : ℕ) (old new : Option (List ℕ)) → Delivered result answer →
+    (result ≤ 1 → new ≡ append_known old (text_of answer)) → Means (run file) content (status_of answer) (text_of answer) → result ≡ 0 →
+    Writes (IsReportOf file content) old new
+reported file content answer result old new delivered whole meant is =
+    let text = written (Means (run file) content) answer result 0 old new delivered whole meant (omega arith) is in
+    (text.0, report_told file content text.0 text.1, text.2)
+
 accepted_text : (file text : List ℕ) → IsAnswer (publish file) 0 text → IsAccepted text
 accepted_text file text (inl x) = x.1
 accepted_text file text (inr x) = absurd (omega (arith, x))
@@ -113,6 +122,7 @@ no_of_check (check file) text form = tt
 no_of_check (check_network file topology) text form = tt
 no_of_check (publish file) text (inl x) = absurd (omega (arith, x.0))
 no_of_check (publish file) text (inr x) = absurd (omega (arith, x))
+no_of_check (run file) text form = absurd (omega (arith, form))
 
 pub no_is_of_check : (command : Command) (answer : Answer) (result : ℕ) → Delivered result answer → IsAnswer command (status_of answer) (text_of answer) → result ≡ 1 →
     IsCheck command
@@ -120,13 +130,14 @@ no_is_of_check command answer result delivered form is =
     no_of_check command (text_of answer) (at_status (IsAnswer command) answer result 1 delivered is (λ five. absurd (omega arith)) form)
 
 -- a pair without a path is one of `publish`
-no_path_of_publish : (command : Command) (text : List ℕ) → IsAnswer command 7 text → ¬ IsCheck command
-no_path_of_publish (check file) text form is = omega (arith, form)
-no_path_of_publish (check_network file topology) text form is = omega (arith, form)
-no_path_of_publish (publish file) text form is = is
+no_path_of_publish : (command : Command) (text : List ℕ) → IsAnswer command 7 text → IsPublish command
+no_path_of_publish (check file) text form = absurd (omega (arith, form))
+no_path_of_publish (check_network file topology) text form = absurd (omega (arith, form))
+no_path_of_publish (publish file) text form = tt
+no_path_of_publish (run file) text form = absurd (omega (arith, form))
 
 pub no_path_is_of_publish : (command : Command) (answer : Answer) (result : ℕ) → Delivered result answer → IsAnswer command (status_of answer) (text_of answer) → result ≡ 7 →
-    ¬ IsCheck command
+    IsPublish command
 no_path_is_of_publish command answer result delivered form is =
     no_path_of_publish command (text_of answer) (at_status (IsAnswer command) answer result 7 delivered is (λ five. absurd (omega arith)) form)
 
@@ -250,6 +261,14 @@ words_published asked read words content answer result old new file is same name
     let P : Command → Type 0 = λ k. IsTold k content → Means k content (status_of answer) (text_of answer) in
     published file content answer result old new delivered whole (subst P (same_command asked (publish file) read words is same named) meant told) at
 
+pub words_reported : (asked : Command) (read words : List (String Global)) (content : List ℕ → Option (List ℕ)) (answer : Answer) (result : ℕ) (old new : Option (List ℕ)) (file : List ℕ) →
+    Some asked ≡ command_of (map string_bytes read) → read ≡ words → command_of (map string_bytes words) ≡ Some (run file) → Delivered result answer →
+    (result ≤ 1 → new ≡ append_known old (text_of answer)) → (IsTold asked content → Means asked content (status_of answer) (text_of answer)) → result ≡ 0 →
+    IsTold (run file) content → Writes (IsReportOf file content) old new
+words_reported asked read words content answer result old new file is same named delivered whole meant at told =
+    let P : Command → Type 0 = λ k. IsTold k content → Means k content (status_of answer) (text_of answer) in
+    reported file content answer result old new delivered whole (subst P (same_command asked (run file) read words is same named) meant told) at
+
 pub words_accepted : (asked : Command) (read words : List (String Global)) (answer : Answer) (result : ℕ) (old new : Option (List ℕ)) (file : List ℕ) →
     Some asked ≡ command_of (map string_bytes read) → read ≡ words → command_of (map string_bytes words) ≡ Some (publish file) → Delivered result answer →
     (result ≤ 1 → new ≡ append_known old (text_of answer)) → IsAnswer asked (status_of answer) (text_of answer) → result ≡ 0 → Writes IsAccepted old new
@@ -263,6 +282,6 @@ words_no asked read words answer result is same delivered form at =
     of_words IsCheck asked read words is same (no_is_of_check asked answer result delivered form at)
 
 pub words_no_path : (asked : Command) (read words : List (String Global)) (answer : Answer) (result : ℕ) → Some asked ≡ command_of (map string_bytes read) → read ≡ words →
-    Delivered result answer → IsAnswer asked (status_of answer) (text_of answer) → result ≡ 7 → OfCommand (map string_bytes words) (λ command. ¬ IsCheck command)
+    Delivered result answer → IsAnswer asked (status_of answer) (text_of answer) → result ≡ 7 → OfCommand (map string_bytes words) IsPublish
 words_no_path asked read words answer result is same delivered form at =
-    of_words (λ k. ¬ IsCheck k) asked read words is same (no_path_is_of_publish asked answer result delivered form at)
+    of_words IsPublish asked read words is same (no_path_is_of_publish asked answer result delivered form at)

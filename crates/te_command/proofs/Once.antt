@@ -6,14 +6,17 @@ use Rattle.te_model.specs.Inequalities.{LinkFailure, first_failure}
 use Rattle.te_model.specs.Text.{Spells}
 use Rattle.cert_text.proofs.Laws.{one_spelling, one_fault, one_rule_fault, spelled_or_ruled}
 use Rattle.traffic_matrix.specs.declared.series.Series.{Series}
+use Rattle.failure.specs.declared.outage.Failures.{Failures}
 use Rattle.experiment.specs.declared.plan.Experiment.{Experiment}
 use Rattle.te_command.specs.declared.refusal.Refusal.{Refusal}
 use Rattle.te_command.specs.declared.refusal.Refusal.TheVariants.{Shape, Rule}
-use Rattle.te_command.specs.Command.{Command, check, check_network, publish, IsCheck}
-use Rattle.te_command.specs.Refusals.{IsCertificate, IsCertificateFault, IsCertificateRefusal, IsTopology, IsTopologyRefusal, IsMatrices, IsMatricesRefusal, IsPlan, IsPlanRefusal, topology_in, matrices_in, plan_in, refused_line}
+use Rattle.te_command.specs.Command.{Command, check, check_network, publish, run, IsCheck}
+use Rattle.te_command.specs.Refusals.{IsCertificate, IsCertificateFault, IsCertificateRefusal, IsTopology, IsTopologyRefusal, IsMatrices, IsMatricesRefusal, IsFailures, IsFailuresRefusal, IsPlan, IsPlanRefusal, topology_in, matrices_in, failures_in, plan_in, refused_line}
 use Rattle.te_command.specs.Files.{FileText, ToldText}
 use Rattle.te_command.specs.CheckText.{IsVerdict, IsNetworkVerdict, CheckText, TopologyText, CheckNetworkText, no_line}
-use Rattle.te_command.specs.PublishText.{IsPublication, IsPublicationStatus, MatricesText, PlanTopologyText, PlanText}
+use Rattle.te_command.specs.PlanText.{MatricesText, PlanTopologyText, PlanText}
+use Rattle.te_command.specs.PublishText.{IsPublication, IsPublicationStatus}
+use Rattle.te_command.specs.ReportText.{no_failures, FailuresText, IsReported, IsReportedStatus, ReportText, ReportStatus}
 use Rattle.te_command.specs.Meaning.{Means, MeansStatus}
 
 -- two answers agree in so far: they have one status, or one status and one text
@@ -88,6 +91,9 @@ topologies_once = function_once topology_in
 
 matrices_once : (n : Network) → ReadsOnce (IsMatricesRefusal n) (IsMatrices n)
 matrices_once n = function_once (matrices_in n)
+
+failures_once : (n : Network) (series : Series) → ReadsOnce (IsFailuresRefusal n series) (IsFailures n series)
+failures_once n series = function_once (failures_in n series)
 
 plans_once : ReadsOnce IsPlanRefusal IsPlan
 plans_once = function_once plan_in
@@ -171,29 +177,46 @@ check_once (check file) content is = told_text_once SameAnswer (CheckText file) 
 check_once (check_network file topology) content is =
     told_text_once SameAnswer (CheckNetworkText file topology (content topology)) (check_network_once file topology (content topology)) (content file)
 check_once (publish file) content is = absurd is
+check_once (run file) content is = absurd is
 
-matrices_text_once : (plan : Experiment) (n : Network) (file rows : List ℕ) → IsOne SameStatus (MatricesText (IsPublicationStatus plan n) n file rows)
-matrices_text_once plan n file rows =
-    file_text_once SameStatus alone (IsMatricesRefusal n) (IsMatrices n) (IsPublicationStatus plan n) (matrices_once n) (publication_once plan n) file rows
+-- a plan has one status, where what its files give has one
+plan_text_once : (P : Experiment → Network → Series → ℕ → List ℕ → Type 0) → ((plan : Experiment) (n : Network) (series : Series) → IsOne SameStatus (P plan n series)) →
+    (content : List ℕ → Option (List ℕ)) (file : List ℕ) → IsOne SameStatus (ToldText (PlanText P content file) (content file))
+plan_text_once P one content file = told_text_once SameStatus (PlanText P content file) plans (content file)
+  where
+    demands : (plan : Experiment) (n : Network) (rows : List ℕ) → IsOne SameStatus (MatricesText (P plan n) n plan.matrices rows)
+    demands plan n rows =
+        file_text_once SameStatus alone (IsMatricesRefusal n) (IsMatrices n) (P plan n) (matrices_once n) (one plan n) plan.matrices rows
 
-plan_topology_once : (plan : Experiment) (content : List ℕ → Option (List ℕ)) (matrices file rows : List ℕ) →
-    IsOne SameStatus (PlanTopologyText (IsPublicationStatus plan) content matrices file rows)
-plan_topology_once plan content matrices file rows =
-    file_text_once SameStatus alone IsTopologyRefusal IsTopology (λ n. ToldText (MatricesText (IsPublicationStatus plan n) n matrices) (content matrices)) topologies_once
-    (λ n. told_text_once SameStatus (MatricesText (IsPublicationStatus plan n) n matrices) (matrices_text_once plan n matrices) (content matrices)) file rows
+    topologies : (plan : Experiment) (rows : List ℕ) → IsOne SameStatus (PlanTopologyText (P plan) content plan.matrices plan.topology rows)
+    topologies plan rows =
+        file_text_once SameStatus alone IsTopologyRefusal IsTopology (λ n. ToldText (MatricesText (P plan n) n plan.matrices) (content plan.matrices)) topologies_once
+        (λ n. told_text_once SameStatus (MatricesText (P plan n) n plan.matrices) (demands plan n) (content plan.matrices)) plan.topology rows
 
-plan_text_once : (content : List ℕ → Option (List ℕ)) (file bytes : List ℕ) → IsOne SameStatus (PlanText IsPublicationStatus content file bytes)
-plan_text_once content file bytes =
-    file_text_once SameStatus alone IsPlanRefusal IsPlan (λ plan. ToldText (PlanTopologyText (IsPublicationStatus plan) content plan.matrices plan.topology) (content plan.topology)) plans_once
-    (λ plan. told_text_once SameStatus (PlanTopologyText (IsPublicationStatus plan) content plan.matrices plan.topology)
-    (plan_topology_once plan content plan.matrices plan.topology) (content plan.topology)) file bytes
+    plans : (bytes : List ℕ) → IsOne SameStatus (PlanText P content file bytes)
+    plans bytes =
+        file_text_once SameStatus alone IsPlanRefusal IsPlan (λ plan. ToldText (PlanTopologyText (P plan) content plan.matrices plan.topology) (content plan.topology)) plans_once
+        (λ plan. told_text_once SameStatus (PlanTopologyText (P plan) content plan.matrices plan.topology) (topologies plan) (content plan.topology)) file bytes
+
+reported_once : (failures : Failures) → IsOne SameStatus (IsReportedStatus failures)
+reported_once failures s t a b x y = x ∙ sym y
+
+-- the failures that a plan names have one status
+failures_text_once : (n : Network) (series : Series) (named : Option (List ℕ)) (content : List ℕ → Option (List ℕ)) →
+    IsOne SameStatus (FailuresText IsReportedStatus n series named content)
+failures_text_once n series None content = reported_once no_failures
+failures_text_once n series (Some file) content =
+    told_text_once SameStatus (FileText (IsFailuresRefusal n series) (IsFailures n series) IsReportedStatus file)
+    (λ bytes. file_text_once SameStatus alone (IsFailuresRefusal n series) (IsFailures n series) IsReportedStatus (failures_once n series) reported_once file bytes)
+    (content file)
 
 -- the told files mean one status
 pub status_once : (command : Command) (content : List ℕ → Option (List ℕ)) (s t : ℕ) → MeansStatus command content s → MeansStatus command content t → s ≡ t
 status_once (check file) content s t x y = (check_once (check file) content tt s t x.0 y.0 x.1 y.1).0
 status_once (check_network file topology) content s t x y = (check_once (check_network file topology) content tt s t x.0 y.0 x.1 y.1).0
-status_once (publish file) content s t x y =
-    told_text_once SameStatus (PlanText IsPublicationStatus content file) (plan_text_once content file) (content file) s t x.0 y.0 x.1 y.1
+status_once (publish file) content s t x y = plan_text_once IsPublicationStatus publication_once content file s t x.0 y.0 x.1 y.1
+status_once (run file) content s t x y =
+    plan_text_once (ReportStatus content) (λ plan n series. failures_text_once n series plan.failures content) content file s t x.0 y.0 x.1 y.1
 
 -- an answer by a weaker meaning
 file_text_weaker : {A : Type 0} (Cause : List ℕ → Refusal → Type 0) (Gives : List ℕ → A → Type 0) (P Q : A → ℕ → List ℕ → Type 0) (file bytes : List ℕ) (s : ℕ) (a : List ℕ) →
@@ -205,6 +228,37 @@ told_text_weaker : (P Q : List ℕ → ℕ → List ℕ → Type 0) (told : Opti
     ToldText P told s a → ToldText Q told s a
 told_text_weaker P Q told s a weaker x = (x.0, x.1, weaker x.0 x.2)
 
+-- the same of a plan
+pub plan_text_weaker : (P Q : Experiment → Network → Series → ℕ → List ℕ → Type 0) (content : List ℕ → Option (List ℕ)) (file : List ℕ) (s : ℕ) (a : List ℕ) →
+    ((plan : Experiment) (n : Network) (series : Series) → P plan n series s a → Q plan n series s a) →
+    ToldText (PlanText P content file) (content file) s a → ToldText (PlanText Q content file) (content file) s a
+plan_text_weaker P Q content file s a weaker x = told_text_weaker (PlanText P content file) (PlanText Q content file) (content file) s a plans x
+  where
+    demands : (plan : Experiment) (n : Network) (rows : List ℕ) → MatricesText (P plan n) n plan.matrices rows s a → MatricesText (Q plan n) n plan.matrices rows s a
+    demands plan n rows = file_text_weaker (IsMatricesRefusal n) (IsMatrices n) (P plan n) (Q plan n) plan.matrices rows s a (weaker plan n)
+
+    topologies : (plan : Experiment) (rows : List ℕ) → PlanTopologyText (P plan) content plan.matrices plan.topology rows s a →
+        PlanTopologyText (Q plan) content plan.matrices plan.topology rows s a
+    topologies plan rows =
+        file_text_weaker IsTopologyRefusal IsTopology (λ n. ToldText (MatricesText (P plan n) n plan.matrices) (content plan.matrices))
+        (λ n. ToldText (MatricesText (Q plan n) n plan.matrices) (content plan.matrices)) plan.topology rows s a
+        (λ n. told_text_weaker (MatricesText (P plan n) n plan.matrices) (MatricesText (Q plan n) n plan.matrices) (content plan.matrices) s a (demands plan n))
+
+    plans : (bytes : List ℕ) → PlanText P content file bytes s a → PlanText Q content file bytes s a
+    plans bytes =
+        file_text_weaker IsPlanRefusal IsPlan (λ plan. ToldText (PlanTopologyText (P plan) content plan.matrices plan.topology) (content plan.topology))
+        (λ plan. ToldText (PlanTopologyText (Q plan) content plan.matrices plan.topology) (content plan.topology)) file bytes s a
+        (λ plan. told_text_weaker (PlanTopologyText (P plan) content plan.matrices plan.topology) (PlanTopologyText (Q plan) content plan.matrices plan.topology)
+        (content plan.topology) s a (topologies plan))
+
+-- and of the failures that it names
+failures_text_weaker : (P Q : Failures → ℕ → List ℕ → Type 0) (n : Network) (series : Series) (named : Option (List ℕ)) (content : List ℕ → Option (List ℕ)) (s : ℕ) (a : List ℕ) →
+    ((failures : Failures) → P failures s a → Q failures s a) → FailuresText P n series named content s a → FailuresText Q n series named content s a
+failures_text_weaker P Q n series None content s a weaker x = weaker no_failures x
+failures_text_weaker P Q n series (Some file) content s a weaker x =
+    told_text_weaker (FileText (IsFailuresRefusal n series) (IsFailures n series) P file) (FileText (IsFailuresRefusal n series) (IsFailures n series) Q file) (content file) s a
+    (λ bytes. file_text_weaker (IsFailuresRefusal n series) (IsFailures n series) P Q file bytes s a weaker) x
+
 publication_status : (plan : Experiment) (n : Network) (series : Series) (s : ℕ) (a : List ℕ) → IsPublication plan n series s a → IsPublicationStatus plan n series s a
 publication_status plan n series s a (inl x) = inl (x.0, x.1)
 publication_status plan n series s a (inr x) = inr x
@@ -213,25 +267,9 @@ publication_status plan n series s a (inr x) = inr x
 pub status_meant : (command : Command) (content : List ℕ → Option (List ℕ)) (s : ℕ) (a : List ℕ) → Means command content s a → MeansStatus command content s
 status_meant (check file) content s a x = (a, x)
 status_meant (check_network file topology) content s a x = (a, x)
-status_meant (publish file) content s a x = (a, told_text_weaker (PlanText IsPublication content file) (PlanText IsPublicationStatus content file) (content file) s a plans x)
-  where
-    demands : (plan : Experiment) (n : Network) (rows : List ℕ) → MatricesText (IsPublication plan n) n plan.matrices rows s a →
-        MatricesText (IsPublicationStatus plan n) n plan.matrices rows s a
-    demands plan n rows =
-        file_text_weaker (IsMatricesRefusal n) (IsMatrices n) (IsPublication plan n) (IsPublicationStatus plan n) plan.matrices rows s a
-        (λ series. publication_status plan n series s a)
-
-    topologies : (plan : Experiment) (rows : List ℕ) → PlanTopologyText (IsPublication plan) content plan.matrices plan.topology rows s a →
-        PlanTopologyText (IsPublicationStatus plan) content plan.matrices plan.topology rows s a
-    topologies plan rows =
-        file_text_weaker IsTopologyRefusal IsTopology (λ n. ToldText (MatricesText (IsPublication plan n) n plan.matrices) (content plan.matrices))
-        (λ n. ToldText (MatricesText (IsPublicationStatus plan n) n plan.matrices) (content plan.matrices)) plan.topology rows s a
-        (λ n. told_text_weaker (MatricesText (IsPublication plan n) n plan.matrices) (MatricesText (IsPublicationStatus plan n) n plan.matrices)
-        (content plan.matrices) s a (demands plan n))
-
-    plans : (bytes : List ℕ) → PlanText IsPublication content file bytes s a → PlanText IsPublicationStatus content file bytes s a
-    plans bytes =
-        file_text_weaker IsPlanRefusal IsPlan (λ plan. ToldText (PlanTopologyText (IsPublication plan) content plan.matrices plan.topology) (content plan.topology))
-        (λ plan. ToldText (PlanTopologyText (IsPublicationStatus plan) content plan.matrices plan.topology) (content plan.topology)) file bytes s a
-        (λ plan. told_text_weaker (PlanTopologyText (IsPublication plan) content plan.matrices plan.topology)
-        (PlanTopologyText (IsPublicationStatus plan) content plan.matrices plan.topology) (content plan.topology) s a (topologies plan))
+status_meant (publish file) content s a x = (a, plan_text_weaker IsPublication IsPublicationStatus content file s a (λ plan n series. publication_status plan n series s a) x)
+status_meant (run file) content s a x = (
+  a,
+  plan_text_weaker (ReportText content) (ReportStatus content) content file s a
+      (λ plan n series. failures_text_weaker (IsReported plan n series) IsReportedStatus n series plan.failures content s a (λ failures is. is.0)) x,
+)

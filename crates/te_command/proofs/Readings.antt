@@ -7,13 +7,17 @@ use Rattle.topology.specs.Topology.{topology_of}
 use Rattle.topology.specs.declared.fault.TopologyFault.{TopologyFault}
 use Rattle.traffic_matrix.specs.Rows.{series_in}
 use Rattle.traffic_matrix.specs.declared.fault.MatrixFault.{MatrixFault}
+use Rattle.failure.specs.File.{failures_of}
+use Rattle.failure.specs.declared.fault.FailureFault.{FailureFault}
+use Rattle.te_model.specs.Network.{link_count}
+use Rattle.traffic_matrix.specs.declared.series.Series.{Series}
 use Rattle.experiment.specs.Plan.{plan_of}
 use Rattle.experiment.specs.declared.plan_fault.PlanFault.{PlanFault}
 use Rattle.te_command.specs.declared.answer.Fault.{Fault}
 use Rattle.te_command.specs.declared.answer.Fault.TheVariants.{Refused, Read, Memory}
 use Rattle.te_command.specs.declared.refusal.Refusal.{Refusal}
-use Rattle.te_command.specs.declared.refusal.Refusal.TheVariants.{TooLong, Topology, Matrices, Plan}
-use Rattle.te_command.specs.Refusals.{within, refused_as, input_limit, topology_in, matrices_in, plan_in, refused_line}
+use Rattle.te_command.specs.declared.refusal.Refusal.TheVariants.{TooLong, Topology, Matrices, Failures, Plan}
+use Rattle.te_command.specs.Refusals.{within, refused_as, input_limit, topology_in, matrices_in, failures_in, plan_in, refused_line}
 use Rattle.te_command.specs.Outcome.{OnRefused, IsRefusalOf, ReadsAs}
 
 -- a file that is not too long gives what its reader answers
@@ -57,6 +61,11 @@ topology_refused bytes fault few said = within_limit bytes _ few ∙ ap (refused
 pub matrices_refused : (net : Network) (bytes : List ℕ) (fault : MatrixFault) → length bytes ≤ input_limit → series_in net bytes ≡ Err fault →
     matrices_in net bytes ≡ Err (Matrices fault)
 matrices_refused net bytes fault few said = within_limit bytes _ few ∙ ap (refused_as Matrices) said
+
+-- and one of a failure file's rows
+pub failures_refused : (net : Network) (series : Series) (bytes : List ℕ) (fault : FailureFault) → length bytes ≤ input_limit →
+    failures_of (link_count net) (length series.steps) bytes ≡ Err fault → failures_in net series bytes ≡ Err (Failures fault)
+failures_refused net series bytes fault few said = within_limit bytes _ few ∙ ap (refused_as Failures) said
 
 -- a fault that is no failed read is none in an answer
 pub no_read : {A : Type 0} (fault : Fault) → (fault ≡ Read → ⊥) → ◌≡◌ {A = Result A Fault} (Err fault) (Err Read) → ⊥

@@ -1,5 +1,5 @@
 -- What was found of the files gives the answer.
-use Rattle.std.proofs.Common.{◌≡◌, ℕ, List, Option, Some, None, Result, Ok, Err, IfOk, inl, inr, refl}
+use Rattle.std.proofs.Common.{◌≡◌, ℕ, List, Option, Some, None, Result, Ok, Err, IfOk, string_bytes, inl, inr, refl, subst}
 use Rattle.te_ports.specs.Ports.{Told}
 use Rattle.te_model.specs.declared.memory.Memory.{Memory}
 use Rattle.te_model.specs.declared.certificate.Certificate.{Certificate}
@@ -7,18 +7,22 @@ use Rattle.te_model.specs.declared.network.Network.{Network}
 use Rattle.te_model.specs.Inequalities.{LinkFailure, first_failure}
 use Rattle.ratio_checker.specs.Finding.{finding_of}
 use Rattle.ratio_checker.specs.declared.finding.Finding.{Finding}
+use Rattle.traffic_matrix.specs.declared.series.Series.{Series}
+use Rattle.failure.specs.declared.outage.Failures.{Failures}
 use Rattle.experiment.specs.declared.plan.Experiment.{Experiment}
 use Rattle.te_command.specs.declared.answer.Answer.{Answer}
 use Rattle.te_command.specs.declared.answer.Fault.{Fault}
 use Rattle.te_command.specs.declared.answer.Fault.TheVariants.{Refused, Read, Memory as OutOfMemory}
 use Rattle.te_command.specs.declared.refusal.Refusal.{Refusal}
-use Rattle.te_command.specs.Command.{check_network, publish}
-use Rattle.te_command.specs.Refusals.{IsCertificate, IsCertificateRefusal, IsTopology, IsTopologyRefusal, IsPlan, IsPlanRefusal}
-use Rattle.te_command.specs.Files.{IsToldFile, Tells, FileText, ToldText, SaysRefused}
+use Rattle.te_command.specs.Command.{check_network}
+use Rattle.te_command.specs.Refusals.{IsCertificate, IsCertificateRefusal, IsTopology, IsTopologyRefusal, IsMatrices, IsMatricesRefusal, IsFailures, IsFailuresRefusal, IsPlan, IsPlanRefusal}
+use Rattle.te_command.specs.Files.{IsToldFile, FileText, ToldText, SaysRefused}
 use Rattle.te_command.specs.CheckText.{IsVerdict, IsNetworkVerdict, TopologyText}
-use Rattle.te_command.specs.PublishText.{IsPublication, MatricesText, PlanTopologyText}
+use Rattle.te_command.specs.PlanText.{ArePlanFilesTold, TellsPlan, GivesPlan, MatricesText, PlanTopologyText, PlanText}
+use Rattle.te_command.specs.ReportText.{no_failures, AreFailuresTold, FailuresText}
 use Rattle.te_command.specs.Meaning.{IsTold, Means}
-use Rattle.te_command.specs.Outcome.{IsLineOf, OnRefused, ReadsAs, Meant, status_of, text_of}
+use Rattle.te_command.specs.Outcome.{IsLineOf, OnRefused, ReadsAs, Meant, RefusesPlan, ReadsFailures, status_of, text_of}
+use Rattle.te_command.proofs.Once.{plan_text_weaker}
 
 -- what the first failure gives
 line_of_failure : (c : Certificate) (failure : Option LinkFailure) (answer : Answer) → first_failure c ≡ failure →
@@ -77,28 +81,80 @@ check_network_then file topology content c r reads rest told =
     meant_through IsCertificateRefusal IsCertificate (λ certificate. ToldText (TopologyText certificate topology) (content topology))
     file told.0.0 (content file) c r told.0.1 is (rest (told.1 c (told.0.0, told.0.1, is)))
 
--- the later files of a plan that are to be told
-abbrev pub AreTold : (List ℕ → Option (List ℕ)) → Experiment → Type 0
-AreTold content plan =
-    IsToldFile (content plan.topology)
-    × ((network : Network) → Tells IsTopology (content plan.topology) network → IsToldFile (content plan.matrices))
+-- where the plan, its topology and its matrices are read, the answer of what they give is that of the plan
+pub plan_then : (P : Experiment → Network → Series → ℕ → List ℕ → Type 0) (file : List ℕ) (content : List ℕ → Option (List ℕ)) (plan : Experiment) (n : Network) (series : Series)
+    (r : Result Answer Fault) → GivesPlan file content plan n series → (TellsPlan file content plan n series → Meant (P plan n series) r) → ArePlanFilesTold file content →
+    Meant (ToldText (PlanText P content file) (content file)) r
+plan_then P file content plan n series r gives rest told =
+    let says = gives.gives_plan told.0.0 told.0.1 in
+    let named = told.1 plan (told.0.0, told.0.1, says) in
+    let makes = gives.gives_network named.0.0 named.0.1 in
+    let is = named.1 n (named.0.0, named.0.1, makes) in
+    let reads = gives.gives_series is.0 is.1 in
+    meant_through IsPlanRefusal IsPlan (λ x. ToldText (PlanTopologyText (P x) content x.matrices x.topology) (content x.topology)) file told.0.0 (content file) plan r told.0.1 says
+    (meant_through IsTopologyRefusal IsTopology (λ x. ToldText (MatricesText (P plan x) x plan.matrices) (content plan.matrices))
+    plan.topology named.0.0 (content plan.topology) n r named.0.1 makes
+    (meant_through (IsMatricesRefusal n) (IsMatrices n) (P plan n) plan.matrices is.0 (content plan.matrices) series r is.1 reads
+    (rest (record { told_plan = (told.0.0, told.0.1, says); told_network = (named.0.0, named.0.1, makes); told_series = (is.0, is.1, reads) }))))
 
--- where the plan is read, the answer of its topology is that of the plan
-pub publish_then : (file : List ℕ) (content : List ℕ → Option (List ℕ)) (plan : Experiment) (r : Result Answer Fault) →
-    Told (content file) (ReadsAs IsPlanRefusal IsPlan file (Ok plan)) →
-    (AreTold content plan → Meant (ToldText (PlanTopologyText (IsPublication plan) content plan.matrices plan.topology) (content plan.topology)) r) →
-    IsTold (publish file) content → Meant (Means (publish file) content) r
-publish_then file content plan r reads rest told =
-    let is = reads told.0.0 told.0.1 in
-    meant_through IsPlanRefusal IsPlan (λ named. ToldText (PlanTopologyText (IsPublication named) content named.matrices named.topology) (content named.topology))
-    file told.0.0 (content file) plan r told.0.1 is (rest (told.1 plan (told.0.0, told.0.1, is)))
+-- no answer of what the files of a plan give
+abbrev Nothing : Experiment → Network → Series → ℕ → List ℕ → Type 0
+Nothing plan n series status text = ⊥
 
--- where the topology is read, the answer of the matrices is that of both
-pub topology_then : (content : List ℕ → Option (List ℕ)) (plan : Experiment) (n : Network) (r : Result Answer Fault) →
-    Told (content plan.topology) (ReadsAs IsTopologyRefusal IsTopology plan.topology (Ok n)) →
-    (IsToldFile (content plan.matrices) → Meant (ToldText (MatricesText (IsPublication plan n) n plan.matrices) (content plan.matrices)) r) →
-    AreTold content plan → Meant (ToldText (PlanTopologyText (IsPublication plan) content plan.matrices plan.topology) (content plan.topology)) r
-topology_then content plan n r reads rest told =
-    let is = reads told.0.0 told.0.1 in
-    meant_through IsTopologyRefusal IsTopology (λ network. ToldText (MatricesText (IsPublication plan network) network plan.matrices) (content plan.matrices))
-    plan.topology told.0.0 (content plan.topology) n r told.0.1 is (rest (told.1 n (told.0.0, told.0.1, is)))
+-- a plan that is refused
+pub plan_refuses : (file : List ℕ) (content : List ℕ → Option (List ℕ)) (fault : Fault) → Told (content file) (ReadsAs IsPlanRefusal IsPlan file (Err fault)) →
+    ArePlanFilesTold file content → OnRefused fault (RefusesPlan file content)
+plan_refuses file content fault reads told =
+    file_refused IsPlanRefusal IsPlan (λ plan. ToldText (PlanTopologyText (Nothing plan) content plan.matrices plan.topology) (content plan.topology))
+    file (content file) fault reads told.0
+
+-- a topology that is refused
+pub topology_refuses : (file : List ℕ) (content : List ℕ → Option (List ℕ)) (plan : Experiment) (fault : Fault) → Told (content file) (λ bytes. IsPlan bytes plan) →
+    Told (content plan.topology) (ReadsAs IsTopologyRefusal IsTopology plan.topology (Err fault)) → ArePlanFilesTold file content → OnRefused fault (RefusesPlan file content)
+topology_refuses file content plan fault gives reads told =
+    let says = gives told.0.0 told.0.1 in
+    let named = told.1 plan (told.0.0, told.0.1, says) in
+    meant_through IsPlanRefusal IsPlan (λ x. ToldText (PlanTopologyText (Nothing x) content x.matrices x.topology) (content x.topology))
+    file told.0.0 (content file) plan (Err fault) told.0.1 says
+    (file_refused IsTopologyRefusal IsTopology (λ x. ToldText (MatricesText (Nothing plan x) x plan.matrices) (content plan.matrices))
+    plan.topology (content plan.topology) fault reads named.0)
+
+-- matrices that are refused
+pub matrices_refuse : (file : List ℕ) (content : List ℕ → Option (List ℕ)) (plan : Experiment) (n : Network) (fault : Fault) → Told (content file) (λ bytes. IsPlan bytes plan) →
+    Told (content plan.topology) (λ rows. IsTopology rows n) → Told (content plan.matrices) (ReadsAs (IsMatricesRefusal n) (IsMatrices n) plan.matrices (Err fault)) →
+    ArePlanFilesTold file content → OnRefused fault (RefusesPlan file content)
+matrices_refuse file content plan n fault gives made reads told =
+    let says = gives told.0.0 told.0.1 in
+    let named = told.1 plan (told.0.0, told.0.1, says) in
+    let makes = made named.0.0 named.0.1 in
+    let is = named.1 n (named.0.0, named.0.1, makes) in
+    meant_through IsPlanRefusal IsPlan (λ x. ToldText (PlanTopologyText (Nothing x) content x.matrices x.topology) (content x.topology))
+    file told.0.0 (content file) plan (Err fault) told.0.1 says
+    (meant_through IsTopologyRefusal IsTopology (λ x. ToldText (MatricesText (Nothing plan x) x plan.matrices) (content plan.matrices))
+    plan.topology named.0.0 (content plan.topology) n (Err fault) named.0.1 makes
+    (file_refused (IsMatricesRefusal n) (IsMatrices n) (Nothing plan n) plan.matrices (content plan.matrices) fault reads is))
+
+-- a refusal of one of these files is an answer of the plan
+pub refusal_answers : (P : Experiment → Network → Series → ℕ → List ℕ → Type 0) (file : List ℕ) (content : List ℕ → Option (List ℕ)) (fault : Fault) →
+    OnRefused fault (RefusesPlan file content) → Meant (ToldText (PlanText P content file) (content file)) (Err fault)
+refusal_answers P file content (Refused line) says = plan_text_weaker Nothing P content file 3 (string_bytes line) (λ plan n series none. absurd none) says
+refusal_answers P file content Read says = tt
+refusal_answers P file content OutOfMemory says = tt
+
+-- a failure file that is refused
+pub failures_refuse : (P : Failures → ℕ → List ℕ → Type 0) (n : Network) (series : Series) (named : Option (List ℕ)) (content : List ℕ → Option (List ℕ)) (fault : Fault) →
+    ReadsFailures n series named content (Err fault) → AreFailuresTold named content → Meant (FailuresText P n series named content) (Err fault)
+failures_refuse P n series None content fault reads told = let no : ⊥ = cc in absurd no
+failures_refuse P n series (Some file) content fault reads told =
+    file_refused (IsFailuresRefusal n series) (IsFailures n series) P file (content file) fault reads told
+
+-- failures that are read
+pub failures_then : (P : Failures → ℕ → List ℕ → Type 0) (n : Network) (series : Series) (named : Option (List ℕ)) (content : List ℕ → Option (List ℕ)) (failures : Failures)
+    (answer : Answer) → ReadsFailures n series named content (Ok failures) → P failures (status_of answer) (text_of answer) → AreFailuresTold named content →
+    Meant (FailuresText P n series named content) (Ok answer)
+failures_then P n series None content failures answer reads is told =
+    let same : failures ≡ no_failures = cc in
+    let Q : Failures → Type 0 = λ x. P x (status_of answer) (text_of answer) in
+    subst Q same is
+failures_then P n series (Some file) content failures answer reads is told =
+    file_read (IsFailuresRefusal n series) (IsFailures n series) P file (content file) failures (Ok answer) reads is told

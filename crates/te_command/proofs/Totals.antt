@@ -14,15 +14,16 @@ use Rattle.traffic_matrix.specs.declared.series.Series.{Series}
 use Rattle.experiment.specs.declared.plan.Experiment.{Experiment}
 use Rattle.te_command.specs.declared.refusal.Refusal.{Refusal}
 use Rattle.te_command.specs.declared.refusal.Refusal.TheVariants.{TooLong, Shape, Rule}
-use Rattle.te_command.specs.Command.{Command, check, check_network, publish, IsCheck}
-use Rattle.te_command.specs.Refusals.{certificate_limit, IsCertificate, IsCertificateRefusal, IsTopology, IsTopologyRefusal, IsMatrices, IsMatricesRefusal, IsPlan, IsPlanRefusal, topology_in, matrices_in, plan_in, refused_line}
-use Rattle.te_command.specs.Files.{IsToldFile, FileText, ToldText}
+use Rattle.te_command.specs.Command.{Command, check, check_network, publish, run, IsCheck}
+use Rattle.te_command.specs.Refusals.{certificate_limit, IsCertificate, IsCertificateRefusal, IsTopology, IsTopologyRefusal, IsMatrices, IsMatricesRefusal, IsFailures, IsFailuresRefusal, IsPlan, IsPlanRefusal, topology_in, matrices_in, failures_in, plan_in, refused_line}
+use Rattle.te_command.specs.Files.{IsToldFile, Tells, FileText, ToldText}
 use Rattle.te_command.specs.CheckText.{IsVerdict, IsNetworkVerdict, TopologyText, yes_line, no_line, no_network_line}
-use Rattle.te_command.specs.PublishText.{IsPublicationStatus, MatricesText, PlanTopologyText, PlanText, no_path_line}
+use Rattle.te_command.specs.PlanText.{ArePlanFilesTold, TellsPlan, MatricesText, PlanTopologyText, PlanText}
+use Rattle.te_command.specs.PublishText.{IsPublicationStatus, no_path_line}
+use Rattle.te_command.specs.ReportText.{AreFailuresTold, FailuresText, IsReportedStatus, ReportStatus}
 use Rattle.te_command.specs.Meaning.{IsTold, Means, MeansStatus}
 use Rattle.te_command.proofs.Owed.{same_or_not}
 use Rattle.te_command.proofs.Reaching.{reached_or_first}
-use Rattle.te_command.proofs.Texts.{AreTold}
 
 -- there is a status and a text
 abbrev pub HasAnswer : (ℕ → List ℕ → Type 0) → Type 0
@@ -89,6 +90,7 @@ check_some (check_network file topology) content is told =
     told_some IsCertificateRefusal IsCertificate (λ c. ToldText (TopologyText c topology) (content topology)) file told.0.0 (content file) told.0.1
     (λ c spells. topology_some c topology (content topology) (told.1 c (told.0.0, told.0.1, spells))) (certificate_read told.0.0)
 check_some (publish file) content is told = absurd is
+check_some (run file) content is told = absurd is
 
 publication_some : (plan : Experiment) (n : Network) (series : Series) → HasAnswer (IsPublicationStatus plan n series)
 publication_some plan n series = go (reached_or_first n series.pairs.list)
@@ -97,28 +99,44 @@ publication_some plan n series = go (reached_or_first n series.pairs.list)
     go (inl reached) = (0, [], inl (refl, reached))
     go (inr x) = (7, no_path_line n (pair_at series.pairs.list x.0), inr (refl, record { place = x.0; first = x.1; line_is = refl }))
 
--- the told files of `publish` mean a status
-publish_some : (file : List ℕ) (content : List ℕ → Option (List ℕ)) → IsTold (publish file) content →
-    HasAnswer (ToldText (PlanText IsPublicationStatus content file) (content file))
-publish_some file content told =
-    told_some IsPlanRefusal IsPlan (λ plan. ToldText (PlanTopologyText (IsPublicationStatus plan) content plan.matrices plan.topology) (content plan.topology))
-    file told.0.0 (content file) told.0.1 (λ plan says. topologies plan (told.1 plan (told.0.0, told.0.1, says))) (function_read plan_in told.0.0 (plan_in told.0.0) refl)
+-- the told files of a plan mean a status, where what they give has one
+plan_some : (P : Experiment → Network → Series → ℕ → List ℕ → Type 0) (file : List ℕ) (content : List ℕ → Option (List ℕ)) → ArePlanFilesTold file content →
+    ((plan : Experiment) (n : Network) (series : Series) → TellsPlan file content plan n series → HasAnswer (P plan n series)) →
+    HasAnswer (ToldText (PlanText P content file) (content file))
+plan_some P file content told each =
+    told_some IsPlanRefusal IsPlan (λ plan. ToldText (PlanTopologyText (P plan) content plan.matrices plan.topology) (content plan.topology))
+    file told.0.0 (content file) told.0.1 (λ plan says. topologies plan (told.0.0, told.0.1, says)) (function_read plan_in told.0.0 (plan_in told.0.0) refl)
   where
-    demands : (plan : Experiment) (n : Network) → IsToldFile (content plan.matrices) →
-        HasAnswer (ToldText (MatricesText (IsPublicationStatus plan n) n plan.matrices) (content plan.matrices))
-    demands plan n is =
-        told_some (IsMatricesRefusal n) (IsMatrices n) (IsPublicationStatus plan n) plan.matrices is.0 (content plan.matrices) is.1
-        (λ series reads. publication_some plan n series) (function_read (matrices_in n) is.0 (matrices_in n is.0) refl)
+    demands : (plan : Experiment) (n : Network) → Tells IsPlan (content file) plan → Tells IsTopology (content plan.topology) n → IsToldFile (content plan.matrices) →
+        HasAnswer (ToldText (MatricesText (P plan n) n plan.matrices) (content plan.matrices))
+    demands plan n says makes is =
+        told_some (IsMatricesRefusal n) (IsMatrices n) (P plan n) plan.matrices is.0 (content plan.matrices) is.1
+        (λ series reads. each plan n series (record { told_plan = says; told_network = makes; told_series = (is.0, is.1, reads) }))
+        (function_read (matrices_in n) is.0 (matrices_in n is.0) refl)
 
-    topologies : (plan : Experiment) → AreTold content plan →
-        HasAnswer (ToldText (PlanTopologyText (IsPublicationStatus plan) content plan.matrices plan.topology) (content plan.topology))
-    topologies plan are =
-        told_some IsTopologyRefusal IsTopology (λ n. ToldText (MatricesText (IsPublicationStatus plan n) n plan.matrices) (content plan.matrices))
-        plan.topology are.0.0 (content plan.topology) are.0.1 (λ n makes. demands plan n (are.1 n (are.0.0, are.0.1, makes))) (topology_read are.0.0)
+    topologies : (plan : Experiment) → Tells IsPlan (content file) plan →
+        HasAnswer (ToldText (PlanTopologyText (P plan) content plan.matrices plan.topology) (content plan.topology))
+    topologies plan says =
+        let are = told.1 plan says in
+        told_some IsTopologyRefusal IsTopology (λ n. ToldText (MatricesText (P plan n) n plan.matrices) (content plan.matrices))
+        plan.topology are.0.0 (content plan.topology) are.0.1
+        (λ n makes. demands plan n says (are.0.0, are.0.1, makes) (are.1 n (are.0.0, are.0.1, makes))) (topology_read are.0.0)
+
+-- a report has its status, where the failures that the plan names are told
+report_some : (n : Network) (series : Series) (named : Option (List ℕ)) (content : List ℕ → Option (List ℕ)) → AreFailuresTold named content →
+    HasAnswer (FailuresText IsReportedStatus n series named content)
+report_some n series None content told = (0, [], refl)
+report_some n series (Some file) content told =
+    told_some (IsFailuresRefusal n series) (IsFailures n series) IsReportedStatus file told.0 (content file) told.1 (λ failures reads. (0, [], refl))
+    (function_read (failures_in n series) told.0 (failures_in n series told.0) refl)
 
 -- the told files of a command mean a status
 pub status_some : (command : Command) (content : List ℕ → Option (List ℕ)) → IsTold command content → (status : ℕ) × MeansStatus command content status
 status_some (check file) content told = let answer = check_some (check file) content tt told in (answer.0, (answer.1, answer.2))
 status_some (check_network file topology) content told =
     let answer = check_some (check_network file topology) content tt told in (answer.0, (answer.1, answer.2))
-status_some (publish file) content told = let answer = publish_some file content told in (answer.0, (answer.1, answer.2))
+status_some (publish file) content told =
+    let answer = plan_some IsPublicationStatus file content told (λ plan n series tells. publication_some plan n series) in (answer.0, (answer.1, answer.2))
+status_some (run file) content told =
+    let answer = plan_some (ReportStatus content) file content told.0 (λ plan n series tells. report_some n series plan.failures content (told.1 plan n series tells)) in
+    (answer.0, (answer.1, answer.2))

@@ -2,7 +2,9 @@ pub mod Command
 pub mod Refusals
 pub mod Files
 pub mod CheckText
+pub mod PlanText
 pub mod PublishText
+pub mod ReportText
 pub mod Meaning
 pub mod Run
 pub mod Outcome

@@ -1,5 +1,5 @@
 -- What the files of `publish` answer: the file of a certificate, or which pair has no path, or which file is refused and why.
-use Rattle.std.specs.Prelude.{◌≡◌, ◌≤◌, ◌⊎◌, ℕ, List, [], ◌∷◌, ◌++◌, length, codes, Option}
+use Rattle.std.specs.Prelude.{◌≡◌, ◌≤◌, ◌⊎◌, ℕ, List, [], ◌∷◌, ◌++◌, length, codes}
 use Rattle.te_model.specs.declared.network.Network.{Network}
 use Rattle.te_model.specs.declared.route.Pair.{Pair}
 use Rattle.te_model.specs.Network.{name_at}
@@ -7,8 +7,7 @@ use Rattle.scheme.specs.Reach.{AllReached, IsFirstWithout, pair_at}
 use Rattle.traffic_matrix.specs.declared.series.Series.{Series}
 use Rattle.experiment.specs.declared.plan.Experiment.{Experiment}
 use Rattle.publication.specs.Published.{IsPublished}
-use Rattle.te_command.specs.Refusals.{certificate_limit, IsTopology, IsTopologyRefusal, IsMatrices, IsMatricesRefusal, IsPlan, IsPlanRefusal}
-use Rattle.te_command.specs.Files.{FileText, ToldText}
+use Rattle.te_command.specs.Refusals.{certificate_limit}
 use Rattle.te_command.specs.CheckText.{CheckText, ProvesRatio, yes_line}
 
 -- the line of a pair that has no path, by the names of its nodes
@@ -33,20 +32,6 @@ IsPublication plan network series status text =
 abbrev pub IsPublicationStatus : Experiment → Network → Series → ℕ → List ℕ → Type 0
 IsPublicationStatus plan network series status text =
     ((status ≡ 0) × AllReached network series.pairs.list) ⊎ ((status ≡ 7) × SaysNoPath network series.pairs.list text)
-
--- the answer of the rows of the plan's matrix file for its network
-abbrev pub MatricesText : (Series → ℕ → List ℕ → Type 0) → Network → List ℕ → List ℕ → ℕ → List ℕ → Type 0
-MatricesText Answer network file rows = FileText (IsMatricesRefusal network) (IsMatrices network) Answer file rows
-
--- the answer of the rows of the plan's topology, and then of its matrix file
-abbrev pub PlanTopologyText : (Network → Series → ℕ → List ℕ → Type 0) → (List ℕ → Option (List ℕ)) → List ℕ → List ℕ → List ℕ → ℕ → List ℕ → Type 0
-PlanTopologyText Answer content matrices file rows =
-    FileText IsTopologyRefusal IsTopology (λ network. ToldText (MatricesText (Answer network) network matrices) (content matrices)) file rows
-
--- the answer of the bytes of a plan, and then of the files that it names
-abbrev pub PlanText : (Experiment → Network → Series → ℕ → List ℕ → Type 0) → (List ℕ → Option (List ℕ)) → List ℕ → List ℕ → ℕ → List ℕ → Type 0
-PlanText Answer content file bytes =
-    FileText IsPlanRefusal IsPlan (λ plan. ToldText (PlanTopologyText (Answer plan) content plan.matrices plan.topology) (content plan.topology)) file bytes
 
 -- the bytes are a file to which `check` says yes: they are not too many, they prove a ratio, and under any name the answer
 -- of them is the line of that yes

@@ -5,6 +5,7 @@ use Rattle.te_model.specs.declared.certificate.Certificate.{Certificate}
 use Rattle.te_model.specs.declared.certificate.RuleFault.{RuleFault}
 use Rattle.te_model.specs.declared.network.Network.{Network}
 use Rattle.te_model.specs.declared.limits.TheConstants.{FORMAT_1}
+use Rattle.te_model.specs.Network.{link_count}
 use Rattle.te_model.specs.Text.{Spells}
 use Rattle.te_model.specs.Faults.{IsShapeFault, IsRuleFault}
 use Rattle.topology.specs.Topology.{topology_of}
@@ -14,13 +15,17 @@ use Rattle.traffic_matrix.specs.Rows.{series_in}
 use Rattle.traffic_matrix.specs.declared.series.Series.{Series}
 use Rattle.traffic_matrix.specs.declared.fault.MatrixFault.{MatrixFault}
 use Rattle.traffic_matrix.specs.declared.fault.MatrixFault.TheVariants as demand_fault
+use Rattle.failure.specs.File.{failures_of}
+use Rattle.failure.specs.declared.outage.Failures.{Failures as Outages}
+use Rattle.failure.specs.declared.fault.FailureFault.{FailureFault}
+use Rattle.failure.specs.declared.fault.FailureFault.TheVariants as outage_fault
 use Rattle.experiment.specs.Plan.{plan_of}
 use Rattle.experiment.specs.Words.{word}
 use Rattle.experiment.specs.declared.plan.Experiment.{Experiment}
 use Rattle.experiment.specs.declared.plan_fault.PlanFault.{PlanFault}
 use Rattle.experiment.specs.declared.plan_fault.PlanFault.TheVariants as plan_fault
 use Rattle.te_command.specs.declared.refusal.Refusal.{Refusal}
-use Rattle.te_command.specs.declared.refusal.Refusal.TheVariants.{TooLong, Shape, Rule, Topology, Matrices, Plan}
+use Rattle.te_command.specs.declared.refusal.Refusal.TheVariants.{TooLong, Shape, Rule, Topology, Matrices, Failures, Plan}
 
 -- the greatest certificate file, in bytes
 abbrev pub certificate_limit : ℕ
@@ -63,6 +68,10 @@ topology_in bytes = within bytes (refused_as Topology (topology_of bytes))
 abbrev pub matrices_in : Network → List ℕ → Result Series Refusal
 matrices_in network bytes = within bytes (refused_as Matrices (series_in network bytes))
 
+-- the outages that a failure file's rows make for the network and the steps of the series, or their first fault
+abbrev pub failures_in : Network → Series → List ℕ → Result Outages Refusal
+failures_in network series bytes = within bytes (refused_as Failures (failures_of (link_count network) (length series.steps) bytes))
+
 -- what a plan says, or its first fault
 abbrev pub plan_in : List ℕ → Result Experiment Refusal
 plan_in bytes = within bytes (refused_as Plan (plan_of bytes))
@@ -79,6 +88,12 @@ IsMatrices network bytes series = matrices_in network bytes ≡ Ok series
 
 abbrev pub IsMatricesRefusal : Network → List ℕ → Refusal → Type 0
 IsMatricesRefusal network bytes refusal = matrices_in network bytes ≡ Err refusal
+
+abbrev pub IsFailures : Network → Series → List ℕ → Outages → Type 0
+IsFailures network series bytes failures = failures_in network series bytes ≡ Ok failures
+
+abbrev pub IsFailuresRefusal : Network → Series → List ℕ → Refusal → Type 0
+IsFailuresRefusal network series bytes refusal = failures_in network series bytes ≡ Err refusal
 
 abbrev pub IsPlan : List ℕ → Experiment → Type 0
 IsPlan bytes experiment = plan_in bytes ≡ Ok experiment
@@ -109,6 +124,15 @@ matrices_reason (demand_fault.SelfPair n) = codes "self pair at row " ++ decimal
 matrices_reason (demand_fault.TooManySteps n) = codes "too many steps at row " ++ decimal n
 matrices_reason demand_fault.Memory = codes "memory"
 
+-- the words for a failure file's fault
+abbrev pub failures_reason : FailureFault → List ℕ
+failures_reason outage_fault.Header = codes "header"
+failures_reason (outage_fault.Fields n) = codes "fields at row " ++ decimal n
+failures_reason (outage_fault.Number n) = codes "number at row " ++ decimal n
+failures_reason (outage_fault.NoSuchLink n) = codes "no such link at row " ++ decimal n
+failures_reason (outage_fault.Interval n) = codes "interval at row " ++ decimal n
+failures_reason outage_fault.Memory = codes "memory"
+
 -- the words for a plan's fault, which name the key
 abbrev pub plan_reason : PlanFault → List ℕ
 plan_reason plan_fault.NotJson = codes "not json"
@@ -126,6 +150,7 @@ reason (Shape line) = codes "shape at line " ++ decimal line
 reason (Rule rule) = codes "rule V" ++ (decimal rule.number ++ (codes " at " ++ decimal rule.place))
 reason (Topology fault) = topology_reason fault
 reason (Matrices fault) = matrices_reason fault
+reason (Failures fault) = failures_reason fault
 reason (Plan fault) = plan_reason fault
 
 -- the line that refuses a file, by its name as it was given

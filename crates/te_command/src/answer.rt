@@ -12,6 +12,8 @@ pub enum Answer {
     No(String),
     /// The file that is published.
     Published(Vec<u8>),
+    /// The report of the schemes that are compared.
+    Report(Vec<u8>),
     /// A declared pair has no path, and the line names it.
     NoPath(String),
 }

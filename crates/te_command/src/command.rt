@@ -19,6 +19,10 @@ pub enum Command<'a> {
     Publish {
         plan: &'a str,
     },
+    /// The report of the schemes that the plan in the file of this name compares.
+    Run {
+        plan: &'a str,
+    },
 }
 
 /// The command of the words, where they are one of the forms.
@@ -30,6 +34,9 @@ pub fn command_of(words: &[String]) -> Option<Command<'_>>
             certificate: certificate.as_str(),
         }),
         [command, plan] if command.as_str() == "publish" => Some(Command::Publish {
+            plan: plan.as_str(),
+        }),
+        [command, plan] if command.as_str() == "run" => Some(Command::Run {
             plan: plan.as_str(),
         }),
         [command, certificate, topology] if command.as_str() == "check" => {

@@ -5,13 +5,14 @@ ghost use Rattle.te_model.specs.Network.{is_well_formed, link_count, node_count}
 ghost use Rattle.te_model.specs.Validity.{IsValid};
 ghost use Rattle.traffic_matrix.specs.Limits.{IsSeries};
 ghost use Rattle.experiment.specs.Plan.{InRange};
-ghost use Rattle.te_command.specs.Refusals.{IsCertificate, IsCertificateRefusal, IsTopology, IsTopologyRefusal, IsMatrices, IsMatricesRefusal, IsPlan, IsPlanRefusal, certificate_limit, input_limit, refused_line};
+ghost use Rattle.te_command.specs.Refusals.{IsCertificate, IsCertificateRefusal, IsTopology, IsTopologyRefusal, IsMatrices, IsMatricesRefusal, IsFailures, IsFailuresRefusal, IsPlan, IsPlanRefusal, certificate_limit, input_limit, refused_line};
 ghost use Rattle.te_command.specs.Outcome.{IsRefusalOf, OnRefused, ReadsAs};
 
 use crate::answer::Fault;
 use crate::refusal::Refusal;
 use cert_text::CertFault;
 use experiment::{Experiment, PlanFault, read_plan};
+use failure::{FailureFault, Failures};
 use std::alloc::Global;
 use te_model::{Certificate, Network};
 use te_ports::{Depot, LoadFault, load};
@@ -105,6 +106,28 @@ fn series_of(alloc: Global, network: &Network, file: &str, bytes: &[u8]) -> Resu
     }
 }
 
+// The outages that the rows of the bytes make for the network and the steps of the series.
+fn failures_of(
+    alloc: Global,
+    network: &Network,
+    series: &Series,
+    file: &str,
+    bytes: &[u8],
+) -> Result<Failures, Fault>
+    requires network { IsTrue (is_well_formed network.now) }
+    requires series { IsSeries (node_count network.now) series.now }
+    requires few { length bytes.now ≤ input_limit }
+    ensures reads { ReadsAs (IsFailuresRefusal network.now series.now) (IsFailures network.now series.now) file.now result bytes.now }
+    ensures read { result ≢ Err Fault.Read }
+{
+    let steps = series.steps.as_slice().len() as u32;
+    match failure::read(alloc, network, steps, bytes) {
+        Ok(failures) => Ok(failures),
+        Err(FailureFault::Memory) => Err(Fault::Memory),
+        Err(fault) => Err(refuse(alloc, file, Refusal::Failures(fault))),
+    }
+}
+
 // What the bytes of a plan say.
 fn plan_of(alloc: Global, file: &str, bytes: &[u8]) -> Result<Experiment, Fault>
     requires { length bytes.now ≤ input_limit }
@@ -174,6 +197,29 @@ pub fn series_in<D: Depot>(
 {
     let bytes = bytes_in(alloc, depot, file, INPUT_LIMIT)?;
     series_of(alloc, network, file, &bytes)
+}
+
+/// The outages of the failure file of this name, of the links of the network in the steps of the series.
+///
+/// `Refused` comes only for what is told of the file, and `Read` only where a read of it failed in the call.
+pub fn failures_in<D: Depot>(
+    alloc: Global,
+    depot: &mut D,
+    network: &Network,
+    series: &Series,
+    file: &str,
+) -> Result<Failures, Fault>
+    requires network { IsTrue (is_well_formed network.now) }
+    requires series { IsSeries (node_count network.now) series.now }
+    ensures told { Told (D.content depot.old file.now)
+        (ReadsAs (IsFailuresRefusal network.now series.now) (IsFailures network.now series.now) file.now result) }
+    ensures read { IsErrOf result Fault.Read → Rose (D.faults depot.old file.now) (D.faults depot.new file.now) }
+    ensures steady { result ≢ Err Fault.Read → D.faults depot.new ≡ D.faults depot.old }
+    ensures later { (other : List ℕ) → D.faults depot.old other ≤ D.faults depot.new other }
+    ensures content { D.content depot.new ≡ D.content depot.old }
+{
+    let bytes = bytes_in(alloc, depot, file, INPUT_LIMIT)?;
+    failures_of(alloc, network, series, file, &bytes)
 }
 
 /// What the plan in the file of this name says. Its numbers are in their ranges.

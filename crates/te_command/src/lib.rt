@@ -5,10 +5,12 @@ mod answer;
 mod check;
 mod command;
 mod files;
+mod inputs;
 pub mod laws;
 mod publish;
 mod reasons;
 mod refusal;
+mod report;
 mod top;
 
 pub use top::run;

@@ -10,7 +10,7 @@ ghost use Rattle.te_command.specs.Meaning.{IsTold, Means, IsAnswer, ReadFailed};
 ghost use Rattle.te_command.specs.Outcome.{Meant, status_of, text_of};
 
 use crate::answer::{Answer, Fault};
-use crate::files::{network_in, plan_in, series_in};
+use crate::inputs::inputs_in;
 use experiment::Experiment;
 use scheme::SchemeFault;
 use std::alloc::Global;
@@ -67,10 +67,6 @@ pub fn publish<D: Depot>(alloc: Global, depot: &mut D, plan: &str) -> Result<Ans
     ensures later { (other : List ℕ) → D.faults depot.old other ≤ D.faults depot.new other }
     ensures content { D.content depot.new ≡ D.content depot.old }
 {
-    let named = plan_in(alloc, depot, plan)?;
-    let topology = named.topology.as_str();
-    let network = network_in(alloc, depot, topology)?;
-    let matrices = named.matrices.as_str();
-    let series = series_in(alloc, depot, &network, matrices)?;
-    Ok(certify(alloc, &named, &network, &series)?)
+    let inputs = inputs_in(alloc, depot, plan)?;
+    Ok(certify(alloc, &inputs.plan, &inputs.network, &inputs.series)?)
 }

@@ -1,5 +1,6 @@
-//! The words for the faults of topologies, matrix files and plans. No bytes are refused for the want of memory.
+//! The words for the faults of topologies, matrix files, failure files and plans. No bytes are refused for the want of memory.
 use experiment::PlanFault;
+use failure::FailureFault;
 use std::fmt;
 use topology::TopologyFault;
 use traffic_matrix::MatrixFault;
@@ -49,6 +50,28 @@ impl fmt::Display for MatrixReason {
             MatrixFault::SelfPair(row) => write!(f, "self pair at row {row}"),
             MatrixFault::TooManySteps(row) => write!(f, "too many steps at row {row}"),
             MatrixFault::Memory => write!(f, "memory"),
+        }
+    }
+}
+
+/// A fault of a failure file, which shows as its words.
+#[derive(Clone, Copy)]
+pub struct FailureReason(pub FailureFault);
+
+impl fmt::Display for FailureReason {
+    ghost use Rattle.std.specs.Prelude.{Some};
+    ghost use Rattle.te_command.specs.Refusals.{failures_reason};
+
+    ghost output = { λ reason. Some (failures_reason reason.0) };
+
+    fn fmt<W: fmt::Write>(&self, f: &mut fmt::Formatter<W>) -> fmt::Result {
+        match self.0 {
+            FailureFault::Header => write!(f, "header"),
+            FailureFault::Fields(row) => write!(f, "fields at row {row}"),
+            FailureFault::Number(row) => write!(f, "number at row {row}"),
+            FailureFault::NoSuchLink(row) => write!(f, "no such link at row {row}"),
+            FailureFault::Interval(row) => write!(f, "interval at row {row}"),
+            FailureFault::Memory => write!(f, "memory"),
         }
     }
 }

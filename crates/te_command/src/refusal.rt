@@ -1,6 +1,7 @@
 //! Why a file is refused.
-use crate::reasons::{MatrixReason, PlanReason, TopologyReason};
+use crate::reasons::{FailureReason, MatrixReason, PlanReason, TopologyReason};
 use experiment::PlanFault;
+use failure::FailureFault;
 use std::fmt;
 use te_model::RuleFault;
 use topology::TopologyFault;
@@ -19,6 +20,8 @@ pub enum Refusal {
     Topology(TopologyFault),
     /// Of a matrix file: the first fault of its first offending row.
     Matrices(MatrixFault),
+    /// Of a failure file: the first fault of its first offending row.
+    Failures(FailureFault),
     /// Of a plan: its first fault.
     Plan(PlanFault),
 }
@@ -36,6 +39,7 @@ impl fmt::Display for Refusal {
             Refusal::Rule(RuleFault { number, place }) => write!(f, "rule V{number} at {place}"),
             Refusal::Topology(fault) => write!(f, "{}", TopologyReason(*fault)),
             Refusal::Matrices(fault) => write!(f, "{}", MatrixReason(*fault)),
+            Refusal::Failures(fault) => write!(f, "{}", FailureReason(*fault)),
             Refusal::Plan(fault) => write!(f, "{}", PlanReason(*fault)),
         }
     }

@@ -12,6 +12,7 @@ use std::process::Abort;
 use std::test::Fail;
 use te_ports::{MemDepot, MemSink};
 
+mod comparing;
 mod files;
 mod publishing;
 

@@ -2,9 +2,9 @@
 ghost use Rattle.std.specs.Prelude.{◌≡◌, ◌≢◌, ◌≤◌, ◌⊎◌, ◌↔◌, ℕ, List, IfOk, IsErrOf, Err, None};
 ghost use Rattle.std.specs.Io.KnownBytes.{append_known};
 ghost use Rattle.te_ports.specs.Ports.{Rose, AppendsPart};
-ghost use Rattle.te_command.specs.Command.{IsCheck, command_of, meant, publish};
+ghost use Rattle.te_command.specs.Command.{IsCheck, IsPublish, command_of, meant, publish, run};
 ghost use Rattle.te_command.specs.PublishText.{IsAccepted};
-ghost use Rattle.te_command.specs.Meaning.{IsTold, IsAnswer, IsPublicationOf, Means, MeansStatus, MeansRatio, ReadFailed};
+ghost use Rattle.te_command.specs.Meaning.{IsTold, IsAnswer, IsPublicationOf, IsReportOf, Means, MeansStatus, MeansRatio, ReadFailed};
 ghost use Rattle.te_command.specs.Outcome.{Meant, status_of, text_of};
 ghost use Rattle.te_command.specs.Run.{texts, message, OfCommand, OfToldCommand, Writes, WritesPart, Says, SaysSome, Answers};
 
@@ -12,6 +12,7 @@ use crate::answer::{Answer, Fault};
 use crate::check::{check, check_network};
 use crate::command::{Command, command_of};
 use crate::publish::publish;
+use crate::report::report;
 use std::alloc::Global;
 use te_ports::{Depot, Sink, put_all};
 
@@ -64,6 +65,7 @@ fn deliver<O: Sink, E: Sink>(out: &mut O, err: &mut E, answer: &Answer) -> u8
         Answer::Yes(line) => write(out, err, line.as_bytes(), 0),
         Answer::No(line) => write(out, err, line.as_bytes(), 1),
         Answer::Published(file) => write(out, err, file.as_slice(), 0),
+        Answer::Report(text) => write(out, err, text.as_slice(), 0),
         Answer::NoPath(line) => {
             say(err, line.as_bytes());
             7
@@ -89,6 +91,7 @@ fn answer<D: Depot>(alloc: Global, depot: &mut D, command: Command<'_>) -> Resul
             topology,
         } => check_network(alloc, depot, certificate, topology),
         Command::Publish { plan } => publish(alloc, depot, plan),
+        Command::Run { plan } => report(alloc, depot, plan),
     }
 }
 
@@ -96,7 +99,7 @@ fn answer<D: Depot>(alloc: Global, depot: &mut D, command: Command<'_>) -> Resul
 ///
 /// | Status | When | What is written |
 /// |---|---|---|
-/// | 0 | the answer is yes, or a certificate is published | the line or the certificate's file, to `out` |
+/// | 0 | the answer is yes, a certificate is published, or the schemes are compared | the line, the certificate's file or the report, to `out` |
 /// | 1 | the answer is no | the line, to `out` |
 /// | 2 | the words are no form of a command | `usage`, to `err` |
 /// | 3 | a file is refused | the file and the reason, to `err` |
@@ -127,7 +130,7 @@ pub fn run<D: Depot, O: Sink, E: Sink>(
         SaysSome (Means command (D.content depot.old) 7) (E.written err.old) (E.written err.new) (E.faults err.old) (E.faults err.new)) }
 
     // A yes is a proof: the stated ratio is an oblivious ratio of the routing that the told file spells, on the network of
-    // the told topology where one is given.
+    // the told topology where one is given. So is a file that is published; a report of `run` states no ratio.
     ensures oblivious { result ≡ 0 → OfToldCommand (texts words.now) (D.content depot.old) (λ command.
         MeansRatio command (D.content depot.old)) }
 
@@ -136,6 +139,12 @@ pub fn run<D: Depot, O: Sink, E: Sink>(
     ensures published { result ≡ 0 → (plan : List ℕ) → command_of (texts words.now) ≡ Some (publish plan) →
         IsTold (publish plan) (D.content depot.old) →
         Writes (IsPublicationOf plan (D.content depot.old)) (O.written out.old) (O.written out.new) }
+
+    // What is reported is a report of the told plan on the network of the told topology, the series of the told matrices and
+    // the told failures, or none where the plan names no file of them.
+    ensures report { result ≡ 0 → (plan : List ℕ) → command_of (texts words.now) ≡ Some (run plan) →
+        IsTold (run plan) (D.content depot.old) →
+        Writes (IsReportOf plan (D.content depot.old)) (O.written out.old) (O.written out.new) }
 
     // Whatever the files hold, each file that is published is one to which `check` says yes.
     ensures accepted { result ≡ 0 → (plan : List ℕ) → command_of (texts words.now) ≡ Some (publish plan) →
@@ -163,7 +172,7 @@ pub fn run<D: Depot, O: Sink, E: Sink>(
 
     // Whatever the files hold, no is an answer of `check` alone, and 7 one of `publish`.
     ensures no_of_check { result ≡ 1 → OfCommand (texts words.now) IsCheck }
-    ensures no_path_of_publish { result ≡ 7 → OfCommand (texts words.now) (λ command. ¬ IsCheck command) }
+    ensures no_path_of_publish { result ≡ 7 → OfCommand (texts words.now) IsPublish }
 
     // Nothing else is written to out, and nothing to err at 0 and 1.
     ensures silent { 2 ≤ result → result ≢ 5 → O.written out.new ≡ O.written out.old }

@@ -1,5 +1,5 @@
 use Rattle.std.proofs.Common.{arith, refl}
-use Rattle.te_command.proofs.Delivered.{other_status, form_known, form_usage, form_said, words_wrote, words_said, words_ratio, words_part, words_exact, words_complete, words_refused_exact, words_refused_complete, words_published, words_accepted, words_no, words_no_path}
+use Rattle.te_command.proofs.Delivered.{other_status, form_known, form_usage, form_said, words_wrote, words_said, words_ratio, words_part, words_exact, words_complete, words_refused_exact, words_refused_complete, words_published, words_reported, words_accepted, words_no, words_no_path}
 use Rattle.te_command.proofs.top.run.Goals as goal
 
 pub returns-in-Ok-clause-usage : goal.returns-in-Ok-clause-usage
@@ -27,6 +27,10 @@ returns-in-Ok-clause-oblivious g c = λ at.
 pub returns-in-Ok-clause-published : goal.returns-in-Ok-clause-published
 returns-in-Ok-clause-published g c = λ at plan named told.
     words_published _ _ _ (g.D.Depot.content c.args.depot.now) _ _ _ _ plan c.in-Some.ensures c.deref.ensures.value named c.deliver.ensures.status c.deliver.ensures.whole c.in-Ok.ensures.told at told
+
+pub returns-in-Ok-clause-report : goal.returns-in-Ok-clause-report
+returns-in-Ok-clause-report g c = λ at plan named told.
+    words_reported _ _ _ (g.D.Depot.content c.args.depot.now) _ _ _ _ plan c.in-Some.ensures c.deref.ensures.value named c.deliver.ensures.status c.deliver.ensures.whole c.in-Ok.ensures.told at told
 
 pub returns-in-Ok-clause-accepted : goal.returns-in-Ok-clause-accepted
 returns-in-Ok-clause-accepted g c = λ at plan named.
