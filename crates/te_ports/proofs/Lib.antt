@@ -1,2 +1,4 @@
-pub mod ReadSoFar
+pub mod Giving
+pub mod Recording
+pub mod Trying
 pub mod WrittenSoFar

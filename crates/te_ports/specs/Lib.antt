@@ -1,5 +1,11 @@
 pub mod Ports
+pub mod Record
+pub mod PieceOf
+pub mod Limit
 pub mod MemDepot
 pub mod MemSink
 pub mod SureDepot
 pub mod SureSink
+pub mod RecordDepot
+pub mod Trying
+pub mod SystemFaults

@@ -1,6 +1,7 @@
 //! A depot in memory whose reads can be made to fail.
 ghost use Rattle.std.specs.Prelude.{◌≡◌, ◌≢◌, ◌≤◌, ◌<◌, ◌+◌, ◌-◌, ◌^◌, ◌↔◌, ◌⊎◌, min, Contains, [], ◌∷◌, ◌++◌, ℕ, List, length, take, drop, IfOk, OnOk, OnErr, IsErr, Some, None};
 ghost use Rattle.te_ports.specs.Ports.{Rose, Told};
+ghost use Rattle.te_ports.specs.Record.{IsPiece, IsPieceOf, Grows};
 
 use crate::{Depot, Failed};
 use std::alloc::Global;
@@ -88,11 +89,16 @@ pub(crate) fn copy_piece(bytes: &[u8], at: u64, piece: usize, buf: &mut [u8]) ->
 }
 
 impl Depot for MemDepot {
-    ghost use Rattle.te_ports.specs.MemDepot.{depot_content, depot_faults, depot_calls, depot_piece, depot_failing};
+    ghost use Rattle.te_ports.specs.MemDepot.{depot_content, depot_faults, depot_gave, depot_calls, depot_piece, depot_failing};
+    ghost use Rattle.te_ports.specs.PieceOf.{piece_of_told};
 
     ghost content = { depot_content };
 
     ghost faults = { depot_faults };
+
+    ghost gave = { depot_gave };
+
+    ghost gave_told = { λ depot name told is at bytes given. piece_of_told (depot_content depot name) told at bytes is given };
 
     fn fetch(&mut self, name: &str, at: u64, buf: &mut [u8]) -> Result<usize, Failed>
         ensures content { depot_content self.new ≡ depot_content self.old }
@@ -101,6 +107,8 @@ impl Depot for MemDepot {
             take n buf.new ≡ take n (drop at told))) }
         ensures end { IfOk result (λ n. Told (depot_content self.old name.now) (λ told.
             n ≡ 0 → 0 < length buf.new → length told ≤ at)) }
+        ensures gave { IfOk result (λ n. 0 < length buf.new → depot_gave self.new name.now at (take n buf.new)) }
+        ensures kept { Grows (depot_gave self.old) (depot_gave self.new) }
         ensures steady { OnOk result (depot_faults self.new ≡ depot_faults self.old) }
         ensures failed { OnErr result (Rose (depot_faults self.old name.now) (depot_faults self.new name.now)) }
         ensures later { (other : List ℕ) → depot_faults self.old other ≤ depot_faults self.new other }

@@ -1,9 +1,11 @@
 //! Reading a whole file.
 ghost use Rattle.std.specs.Prelude.{◌≡◌, ◌≢◌, ◌≤◌, ◌<◌, ◌^◌, ℕ, List, length, IfOk, IsErrOf, Err};
 ghost use Rattle.te_ports.specs.Ports.{Rose, Told};
+ghost use Rattle.te_ports.specs.Limit.{IsLimit};
+ghost use Rattle.te_ports.specs.Record.{IsRead, IsReadPast, IsReadPastAllowed, Grows};
 ghost use Rattle.te_ports.specs.declared.reading.LoadFault.TheVariants.{Memory as OutOfMemory};
 
-use crate::{Depot, Failed};
+use crate::{Depot, Failed, Limit};
 use std::alloc::{AllocError, Global};
 
 /// Why a file was not loaded.
@@ -39,11 +41,51 @@ impl From<Failed> for LoadFault {
 // How many bytes are asked for at once.
 const CHUNK: usize = 65_536;
 
-/// Reads the file of a name from its start to the first fetch that gives nothing, or until more than `limit` bytes
-/// were read.
+/// Reads the file of a name from its start to the first fetch that gives nothing, or until more bytes were read than
+/// the limit allows for them. No byte is read twice.
 ///
-/// `Failed` comes only where a read of this file failed in the call, `TooLong` only where a told file is longer than
-/// the limit.
+/// `Failed` comes only where a read of this file failed in the call, `TooLong` only where reads gave one byte more than
+/// the limit allows for them, and so only where a told file is longer than its limit.
+pub fn load_within<D: Depot, L: Limit>(
+    alloc: Global,
+    depot: &mut D,
+    name: &str,
+    limit: &L,
+) -> Result<Vec<u8>, LoadFault>
+    requires { IsLimit (L.allowed limit.now) }
+
+    // The bytes are those that reads gave, told or not.
+    ensures read { IfOk result (λ bytes. IsRead (D.gave depot.new name.now) bytes.items) }
+    ensures past { IsErrOf result LoadFault.TooLong →
+        IsReadPastAllowed (D.gave depot.new name.now) (L.allowed limit.now) }
+    ensures kept { Grows (D.gave depot.old) (D.gave depot.new) }
+    ensures told { IfOk result (λ bytes. Told (D.content depot.old name.now) (λ told. bytes.items ≡ told)) }
+    ensures within { IfOk result (λ bytes. length bytes.items ≤ L.allowed limit.now bytes.items) }
+    ensures too_long { IsErrOf result LoadFault.TooLong →
+        Told (D.content depot.old name.now) (λ told. L.allowed limit.now told < length told) }
+
+    ensures failed { IsErrOf result LoadFault.Failed → Rose (D.faults depot.old name.now) (D.faults depot.new name.now) }
+    ensures steady { result ≢ Err LoadFault.Failed → D.faults depot.new ≡ D.faults depot.old }
+    ensures later { (other : List ℕ) → D.faults depot.old other ≤ D.faults depot.new other }
+    ensures content { D.content depot.new ≡ D.content depot.old }
+{
+    let mut bytes = Vec::new(alloc);
+    let mut allowed = limit.allowed(&bytes);
+    let mut chunk = [0u8; CHUNK];
+    'chunks: while bytes.len() as u64 <= allowed {
+        let at = bytes.len() as u64;
+        let want = CHUNK.min((allowed + 1 - at) as usize);
+        let count = depot.fetch(name, at, &mut chunk[..want])?;
+        if count == 0 {
+            return Ok(bytes);
+        }
+        bytes.extend_from_slice(&chunk[..count])?;
+        allowed = limit.allowed(&bytes);
+    }
+    Err(LoadFault::TooLong)
+}
+
+/// Reads a file as `load_within` does, with one limit for all files.
 pub fn load<D: Depot>(
     alloc: Global,
     depot: &mut D,
@@ -51,6 +93,11 @@ pub fn load<D: Depot>(
     limit: u64,
 ) -> Result<Vec<u8>, LoadFault>
     requires { limit ≤ 2 ^ 30 }
+
+    // The bytes are those that reads gave, told or not.
+    ensures read { IfOk result (λ bytes. IsRead (D.gave depot.new name.now) bytes.items) }
+    ensures past { IsErrOf result LoadFault.TooLong → IsReadPast (D.gave depot.new name.now) limit }
+    ensures kept { Grows (D.gave depot.old) (D.gave depot.new) }
     ensures told { IfOk result (λ bytes. Told (D.content depot.old name.now) (λ told. bytes.items ≡ told)) }
     ensures within { IfOk result (λ bytes. length bytes.items ≤ limit) }
     ensures too_long { IsErrOf result LoadFault.TooLong → Told (D.content depot.old name.now) (λ told. limit < length told) }
@@ -60,16 +107,5 @@ pub fn load<D: Depot>(
     ensures later { (other : List ℕ) → D.faults depot.old other ≤ D.faults depot.new other }
     ensures content { D.content depot.new ≡ D.content depot.old }
 {
-    let mut bytes = Vec::new(alloc);
-    let mut chunk = [0u8; CHUNK];
-    'chunks: while bytes.len() as u64 <= limit {
-        let at = bytes.len() as u64;
-        let want = CHUNK.min((limit + 1 - at) as usize);
-        let count = depot.fetch(name, at, &mut chunk[..want])?;
-        if count == 0 {
-            return Ok(bytes);
-        }
-        bytes.extend_from_slice(&chunk[..count])?;
-    }
-    Err(LoadFault::TooLong)
+    load_within(alloc, depot, name, &limit)
 }

@@ -1,6 +1,7 @@
 //! A depot whose reads never fail.
 ghost use Rattle.std.specs.Prelude.{◌≡◌, ◌≢◌, ◌≤◌, ◌<◌, ◌-◌, min, [], ℕ, List, length, take, drop, IfOk, OnOk, OnErr, IsOk};
 ghost use Rattle.te_ports.specs.Ports.{Rose, Told};
+ghost use Rattle.te_ports.specs.Record.{IsPieceOf, Grows};
 
 use crate::memory_depot::copy_piece;
 use crate::{Depot, Failed};
@@ -43,11 +44,16 @@ impl SureDepot {
 }
 
 impl Depot for SureDepot {
-    ghost use Rattle.te_ports.specs.SureDepot.{sure_content, sure_told};
+    ghost use Rattle.te_ports.specs.SureDepot.{sure_content, sure_told, sure_gave};
+    ghost use Rattle.te_ports.specs.PieceOf.{piece_of_told};
 
     ghost content = { sure_told };
 
     ghost faults = { λ _ _. 0 };
+
+    ghost gave = { sure_gave };
+
+    ghost gave_told = { λ depot name told is at bytes given. piece_of_told (sure_told depot name) told at bytes is given };
 
     fn fetch(&mut self, name: &str, at: u64, buf: &mut [u8]) -> Result<usize, Failed>
         ensures content { sure_told self.new ≡ sure_told self.old }
@@ -56,6 +62,8 @@ impl Depot for SureDepot {
             take n buf.new ≡ take n (drop at told))) }
         ensures end { IfOk result (λ n. Told (sure_told self.old name.now) (λ told.
             n ≡ 0 → 0 < length buf.new → length told ≤ at)) }
+        ensures gave { IfOk result (λ n. 0 < length buf.new → sure_gave self.new name.now at (take n buf.new)) }
+        ensures kept { Grows (sure_gave self.old) (sure_gave self.new) }
         ensures failed { OnErr result (Rose 0 0) }
         ensures never_fails { IsOk result }
         ensures gives { IfOk result (λ n. n ≡ min (length (sure_content self.old name.now) - at) (length buf.new)) }

@@ -1,0 +1,93 @@
+//! The files of the system as a depot. They tell no content, and count each failure.
+ghost use Rattle.std.specs.Prelude.{◌≡◌, ◌≤◌, ◌<◌, ◌+◌, ◌-◌, ◌^◌, ℕ, List, length, take, IfOk, OnOk, OnErr};
+ghost use Rattle.std.specs.declared.result.Result.{Result};
+ghost use Rattle.std.specs.Io.{ReadsAtMost};
+ghost use Rattle.te_ports.specs.Ports.{Rose};
+ghost use Rattle.te_ports.specs.Trying.{IsTried, IsReadAnswer, read_call};
+ghost use Rattle.te_ports.specs.declared.system.SystemFault.{SystemFault as Fault};
+
+use crate::disk::{Disk, SystemDisk};
+use crate::system::TRIES;
+use crate::{Depot, Failed, SystemFault};
+use std::rt::Files;
+
+/// Files by their paths. The faults of every name are the count of all failed reads, which stands still at 2^64 - 1.
+///
+/// A read that a signal interrupts is tried again, a hundred times in all.
+#[derive(Drop)]
+pub struct RealDepot<D: Disk + Drop> {
+    disk: D,
+    faults: u64,
+}
+
+impl<R: Files + AllocGlobal + Drop> RealDepot<SystemDisk<R>> {
+    /// The files that the runtime reaches.
+    pub fn new(files: R) -> Self
+        ensures no_fault { result.faults ≡ 0 }
+    {
+        RealDepot::over(SystemDisk::new(files))
+    }
+}
+
+impl<D: Disk + Drop> RealDepot<D> {
+    /// The files of this disk.
+    pub fn over(disk: D) -> Self
+        ensures disk { result.disk ≡ disk }
+        ensures no_fault { result.faults ≡ 0 }
+    {
+        RealDepot { disk, faults: 0 }
+    }
+}
+
+// Asks until no signal interrupts, and answers what the system answered last.
+fn read_again<D: Disk>(
+    disk: &mut D,
+    name: &str,
+    at: u64,
+    buf: &mut [u8],
+) -> Result<usize, SystemFault>
+    ensures bound { ReadsAtMost result buf.new }
+    ensures tried { IsTried (read_call D.answers name.now at) (disk.old, buf.old) result (disk.new, buf.new) }
+{
+    let mut answer = disk.read_once(name, at, buf);
+    'tries: for _ in 1..TRIES {
+        let Err(SystemFault::Interrupted) = answer else {
+            break;
+        };
+        answer = disk.read_once(name, at, buf);
+    }
+    answer
+}
+
+impl<D: Disk + Drop> Depot for RealDepot<D> {
+    ghost use Rattle.std.specs.Prelude.{None};
+    ghost use Rattle.te_ports.specs.PieceOf.{nothing_is_told};
+
+    ghost content = { λ _ _. None };
+
+    ghost faults = { λ d _. d.faults };
+
+    ghost gave = { λ _ _ _ _. Unit {0} };
+
+    ghost gave_told = { λ _ _ told is at bytes _. nothing_is_told told at bytes is };
+
+    fn fetch(&mut self, name: &str, at: u64, buf: &mut [u8]) -> Result<usize, Failed>
+        ensures room { IfOk result (λ n. n ≤ length buf.new) }
+        ensures steady { OnOk result (self.new.faults ≡ self.old.faults) }
+        ensures failed { OnErr result (Rose self.old.faults self.new.faults) }
+        ensures later { self.old.faults ≤ self.new.faults }
+
+        // What the system answered last is the answer, and the buffer is as it left it.
+        ensures answered { (answer : Result ℕ Fault) ×
+            IsTried (read_call D.answers name.now at) (self.old.disk, buf.old) answer (self.new.disk, buf.new) ×
+            IsReadAnswer answer result }
+    {
+        match read_again(&mut self.disk, name, at, buf) {
+            Ok(count) => Ok(count),
+            Err(_) => {
+                self.faults = self.faults.saturating_add(1);
+                Err(Failed)
+            }
+        }
+    }
+}
