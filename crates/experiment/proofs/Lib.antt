@@ -1,2 +1,6 @@
-mod PlanLemmas
-pub mod RoutingWithin
+mod RoutingWithin
+mod PublishedSets
+mod Fields
+mod Reports
+mod ByName
+pub mod Accepted

@@ -1,7 +1,6 @@
 -- A routing of ascending pairs, with few paths of each, is within the limits of certificates.
-use Rattle.std.proofs.Common.{◌≡◌, ℕ, zero, suc, ◌+◌, ◌-◌, ◌*◌, ◌<◌, ◌≤◌, ◌⊎◌, true, List, length, map, get_or, arith, ap, sym, subst, ◌∙◌, inl, inr}
-use Rattle.std.specs.Prelude.{All}
-use Rattle.std.proofs.lemmas.Bool.{cases_lt, lt-ltb, eq-eqb}
+use Rattle.std.proofs.Common.{◌≡◌, ℕ, suc, ◌<◌, true, List, length, map, get_or, arith, ap, sym, subst, ◌∙◌, inl, inr}
+use Rattle.std.proofs.lemmas.Bool.{lt-ltb, eq-eqb}
 use Rattle.std.proofs.lemmas.Bool.Decides.{nat_tests}
 use Rattle.std.proofs.lemmas.List.{get_or-map, length-map}
 use Rattle.std.proofs.lemmas.List.Elements.{All-get_or}
@@ -13,77 +12,14 @@ use Rattle.te_model.specs.Path.{routes_at, no_routes, source_of, destination_of}
 use Rattle.routing.specs.Routes.{IsRoutingOf, HasFewPaths}
 use Rattle.scheme.specs.Reach.{ArePairsOf, IsPairOf, no_pair, pair_at}
 use Rattle.ratio_certificate.specs.Conditions.{IsRoutingWithin}
-use Rattle.experiment.specs.Publish.{AscendPairs}
+use Rattle.series_simulation.specs.AscendingPairs.{AscendPairs}
+use Rattle.series_simulation.proofs.FewPairs.{ascending_pairs_few}
 
 -- the pair of the routes at a place
 same_pair : (pairs : List Pair) (routes : List PairRoutes) (p : ℕ) → map (λ r. r.pair) routes ≡ pairs → p < length routes →
     (routes_at routes p).pair ≡ pair_at pairs p
 same_pair pairs routes p is below =
     sym (get_or-map (λ (r : PairRoutes). r.pair) routes p no_routes no_pair below) ∙ ap (λ (ps : List Pair). get_or ps p no_pair) is
-
--- the place of a pair of two different nodes of 64 among all such pairs
-place : Pair → ℕ
-place q = q.src * 63 + (q.dst - (1 - (q.src - q.dst)))
-
-place_small : (q : Pair) → q.src < 64 → q.dst < 64 → (q.src ≡ q.dst → ⊥) → place q < 4032
-unfolding place
-place_small q src dst apart = elim (cases_lt q.src q.dst) [
-  | inl lt ↦ omega arith
-  | inr ge ↦ elim (cases_lt q.dst q.src) [
-    | inl lt ↦ omega arith
-    | inr le ↦ absurd (apart (omega arith))
-  ]
-]
-
--- strictly ascending numbers below a limit are no more than the limit
-ascending_few : (n limit : ℕ) (f : ℕ → ℕ) → ((k : ℕ) → suc k < n → f k < f (suc k)) → ((k : ℕ) → k < n → f k < limit) → n ≤ limit
-ascending_few zero limit f ascend below = omega arith
-ascending_few (suc n) limit f ascend below = let up = go n (omega arith) in let last = below n (omega arith) in omega (arith, up, last)
-  where
-    go : (k : ℕ) → k < suc n → k ≤ f k
-    go zero inside = omega arith
-    go (suc k) inside = let rest = go k (omega arith) in let step = ascend k inside in omega (arith, rest, step)
-
-place_below : (p q : Pair) → p.src < 64 → p.dst < 64 → q.dst < 64 → (p.src ≡ p.dst → ⊥) → (q.src ≡ q.dst → ⊥) →
-    (p.src < q.src) ⊎ ((p.src ≡ q.src) × (p.dst < q.dst)) → place p < place q
-unfolding place
-place_below p q src dst dst_q apart_p apart_q (inl lt) =
-    elim (cases_lt p.src p.dst) [
-      | inl up ↦ omega arith
-      | inr ge ↦ elim (cases_lt p.dst p.src) [
-        | inl down ↦ omega arith
-        | inr le ↦ absurd (apart_p (omega arith))
-      ]
-    ]
-place_below p q src dst dst_q apart_p apart_q (inr (same, lt)) =
-    elim (cases_lt q.src q.dst) [
-      | inl up ↦ elim (cases_lt p.src p.dst) [
-        | inl up_p ↦ omega arith
-        | inr ge ↦ elim (cases_lt p.dst p.src) [
-          | inl down ↦ omega arith
-          | inr le ↦ absurd (apart_p (omega arith))
-        ]
-      ]
-      | inr ge ↦ elim (cases_lt q.dst q.src) [
-        | inl down ↦ omega arith
-        | inr le ↦ absurd (apart_q (omega arith))
-      ]
-    ]
-
--- ascending pairs of two different nodes of a network are at most 64 times 63
-pub ascending_pairs_few : (net : Network) (pairs : List Pair) → is_well_formed net ≡ true → All (IsPairOf net) pairs → AscendPairs pairs → length pairs ≤ 4032
-ascending_pairs_few net pairs formed each ascend =
-    let nodes : node_count net ≤ 64 = grind (arith, nat_tests) in
-    let of : (p : ℕ) → p < length pairs → IsPairOf net (pair_at pairs p) = λ p below. All-get_or (IsPairOf net) pairs p no_pair below each in
-    ascending_few (length pairs) 4032 (λ k. place (pair_at pairs k))
-    (λ k below.
-    let one = of k (omega (arith, below)) in
-    let two = of (suc k) below in
-    place_below (pair_at pairs k) (pair_at pairs (suc k)) (omega (arith, one.src_inside, nodes)) (omega (arith, one.dst_inside, nodes))
-    (omega (arith, two.dst_inside, nodes)) one.apart two.apart (ascend k below))
-    (λ k below.
-    let one = of k below in
-    place_small (pair_at pairs k) (omega (arith, one.src_inside, nodes)) (omega (arith, one.dst_inside, nodes)) one.apart)
 
 pub routing_within : (net : Network) (pairs : List Pair) (routes : List PairRoutes) → is_well_formed net ≡ true → ArePairsOf net pairs → AscendPairs pairs →
     IsRoutingOf net pairs routes → HasFewPaths 32 routes → IsRoutingWithin net routes

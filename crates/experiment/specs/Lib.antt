@@ -1,4 +1,4 @@
-pub mod Words
-pub mod Values
-pub mod Plan
-pub mod Publish
+pub mod Schemes
+pub mod Published
+pub mod Text
+pub mod Report

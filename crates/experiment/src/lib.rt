@@ -1,16 +1,27 @@
-//! Experiments: the plan file, and what it asks for.
+//! Experiments: what a plan asks for, published with a certificate or compared in a report.
+//!
+//! - `read_plan`: the plan of an experiment (crate `plan`).
+//! - `drive`: a scheme over a series of matrices, one `StepRow` for each step (crate `series_simulation`).
+//! - `publish`: a certificate of an oblivious scheme's routing.
+//! - `certificate_file`: the file of the certificate that a plan publishes.
+//! - `report`: the report of a plan's schemes over a series.
+//! - `published_files_are_accepted`: what every published file is.
 #![tactic(auto)]
 
-mod plan;
-mod plan_fault;
-mod plan_reader;
-mod plan_values;
+mod demand_set;
+mod figures;
+mod laws;
+mod lines;
+mod published_file;
 mod publishing;
+mod reporting;
 
-pub use plan::{Experiment, Key, Recovery, SchemeName};
-pub use plan_fault::PlanFault;
-pub use plan_reader::read_plan;
+pub use laws::published_files_are_accepted;
+pub use plan::{Experiment, Key, PlanFault, Recovery, SchemeName, read_plan};
+pub use published_file::certificate_file;
 pub use publishing::publish;
+pub use reporting::report;
+pub use series_simulation::{StepRow, drive};
 
 #[cfg(test)]
 mod tests;

@@ -1,15 +1,12 @@
 //! The publishing of an oblivious routing with its certificate.
-ghost use Rattle.std.specs.Prelude.{◌≡◌, ◌<◌, ◌≤◌, ℕ, All, IfOk, IfErr, OnOk, IsTrue, length};
-ghost use Rattle.te_model.specs.Inequalities.{Holds};
+ghost use Rattle.std.specs.Prelude.{◌≤◌, IfOk, IfErr, OnOk, IsTrue, length};
 ghost use Rattle.te_model.specs.Network.{is_well_formed, link_count};
-ghost use Rattle.te_model.specs.Validity.{IsValid};
 ghost use Rattle.path_budget.specs.Budget.{trimmed};
 ghost use Rattle.ratio_certificate.specs.Conditions.{IsSetWithin};
-ghost use Rattle.ratio_certificate.specs.Made.{HasBlock, HasShare, IsStartingBlock};
-ghost use Rattle.ratio_certificate.specs.Need.{IsGreatestNeed};
+ghost use Rattle.ratio_certificate.specs.Made.{IsMade};
 ghost use Rattle.scheme.specs.Fault.{IsFault};
 ghost use Rattle.scheme.specs.Reach.{AllReached, ArePairsOf};
-ghost use Rattle.experiment.specs.Publish.{AscendPairs};
+ghost use Rattle.series_simulation.specs.AscendingPairs.{AscendPairs};
 
 use path_budget::trim;
 use ratio_certificate::make;
@@ -37,14 +34,8 @@ pub fn publish<S: Oblivious>(
     requires set { IsSetWithin (length pairs.now.list) set }
     requires some { 1 ≤ budget }
     requires few { budget ≤ 32 }
-    ensures network { IfOk result (λ c. c.head.network ≡ net.now) }
-    ensures set { IfOk result (λ c. c.head.set ≡ set) }
-    ensures routing { IfOk result (λ c. (plan : S.Plan) × S.Scheme.is_plan scheme.now net.now pairs.now.list plan × (c.head.routes ≡ trimmed budget (S.fixed_routes scheme.now plan))) }
-    ensures best { IfOk result (λ c. All (IsStartingBlock net.now c.head.routes c.head.set) c.blocks) }
-    ensures blocks { IfOk result (λ c. (e : ℕ) → e < link_count net.now → HasShare c.head.routes e → HasBlock c.blocks e) }
-    ensures ratio { IfOk result (λ c. IsGreatestNeed net.now c.blocks c.head.ratio) }
-    ensures valid { IfOk result (λ c. IsValid c) }
-    ensures holds { IfOk result (λ c. Holds c) }
+    ensures made { IfOk result (λ c. (plan : S.Plan) × S.Scheme.is_plan scheme.now net.now pairs.now.list plan
+        × IsMade net.now (trimmed budget (S.fixed_routes scheme.now plan)) set c) }
     ensures reached { OnOk result (AllReached net.now pairs.now.list) }
     ensures fault { IfErr result (IsFault net.now pairs.now.list) }
 {

@@ -1,106 +1,153 @@
 use super::*;
+use failure::Failures;
 use std::alloc::Global;
 use std::test::Fail;
+use te_model::{Items, Link, Memory, Name, Network, well_formed};
 
-fn fault_of(alloc: Global, text: &str) -> Option<PlanFault> {
-    read_plan(alloc, text.as_bytes()).err()
+const HEADER: &str =
+    "scheme,step,offered,delivered,lost_full,lost_failed,lost_no_path,peak,parts,low\n";
+
+/// The network with these nodes and links (tail, head, capacity, cost).
+fn network(
+    alloc: Global,
+    nodes: &[&str],
+    ends: &[(u32, u32, u64, u32)],
+) -> Result<Network, Memory> {
+    let mut names = Vec::new(alloc);
+    for name in nodes {
+        names.push(Name::new(String::from_str(alloc, *name)?))?;
+    }
+    let mut links = Vec::new(alloc);
+    for (tail, head, capacity, cost) in ends {
+        links.push(Link {
+            tail: *tail,
+            head: *head,
+            capacity: *capacity,
+            cost: *cost,
+        })?;
+    }
+    Ok(Network {
+        names: Items::new(names),
+        links: Items::new(links),
+    })
 }
 
-// The fault of a plan with these members beside the two that it must have.
-fn fault_with(alloc: Global, members: &str) -> Result<Option<PlanFault>, Fail> {
+/// The report of a plan with these members beside its file names.
+fn report_of(
+    alloc: Global,
+    members: &str,
+    network: &Network,
+    matrices: &[u8],
+    outages: &[u8],
+) -> Result<Vec<u8>, Fail> {
+    if !well_formed(network) {
+        return Err(Fail::new("a network that is not well formed"));
+    }
     let text = format!(in alloc; "{{\"topology\":\"t\",\"matrices\":\"m\",{members}}}")?;
-    Ok(fault_of(alloc, text.as_str()))
+    let plan = read_plan(alloc, text.as_bytes())?;
+    let series = traffic_matrix::read(alloc, network, matrices)?;
+    let steps = series.steps.as_slice().len() as u32;
+    let failures = failure::read(alloc, network, steps, outages)?;
+    let text = report(alloc, &plan, network, &series, &failures)?;
+    Ok(text)
 }
 
 #[test]
-fn first_faults(rt: HostRuntime) -> Result<(), Fail> {
+fn a_failed_link_by_each_recovery(rt: HostRuntime) -> Result<(), Fail> {
     let alloc = rt.alloc();
-    assert_eq!(rt; fault_of(alloc, "no json"), Some(PlanFault::NotJson));
-    assert_eq!(rt;
-        read_plan(alloc, b"\"\xff\"").err(),
-        Some(PlanFault::NotJson)
-    );
-    assert_eq!(rt; fault_of(alloc, "[]"), Some(PlanFault::Kind(Key::Plan)));
-    assert_eq!(rt;
-        fault_of(alloc, "{\"plan\":1}"),
-        Some(PlanFault::UnknownKey)
-    );
-    assert_eq!(rt;
-        fault_of(alloc, "{}"),
-        Some(PlanFault::Missing(Key::Topology))
-    );
-    assert_eq!(rt;
-        fault_of(alloc, "{\"topology\":1}"),
-        Some(PlanFault::Missing(Key::Matrices))
-    );
-    assert_eq!(rt;
-        fault_of(alloc, "{\"topology\":\"\",\"matrices\":1}"),
-        Some(PlanFault::Range(Key::Topology))
-    );
-    assert_eq!(rt;
-        fault_with(alloc, "\"k\":0")?,
-        Some(PlanFault::Range(Key::K))
-    );
-    assert_eq!(rt;
-        fault_with(alloc, "\"k\":4.0")?,
-        Some(PlanFault::Kind(Key::K))
-    );
-    assert_eq!(rt; fault_with(alloc, "\"k\":0,\"k\":32")?, None);
-    assert_eq!(rt;
-        fault_with(alloc, "\"seed\":18446744073709551616")?,
-        Some(PlanFault::Kind(Key::Seed))
-    );
-    assert_eq!(rt;
-        fault_with(alloc, "\"publish\":\"smore\"")?,
-        Some(PlanFault::SchemeName(Key::Publish))
-    );
-    assert_eq!(rt;
-        fault_with(alloc, "\"recovery\":\"spare\"")?,
-        Some(PlanFault::Range(Key::Recovery))
-    );
-    assert_eq!(rt;
-        fault_with(alloc, "\"schemes\":[]")?,
-        Some(PlanFault::Range(Key::Schemes))
-    );
-    assert_eq!(rt;
-        fault_with(alloc, "\"schemes\":[\"x\",1]")?,
-        Some(PlanFault::Kind(Key::Schemes))
-    );
-    assert_eq!(rt;
-        fault_with(alloc, "\"schemes\":[\"spf\",\"x\"]")?,
-        Some(PlanFault::SchemeName(Key::Schemes))
-    );
-    assert_eq!(rt;
-        fault_with(alloc, "\"margin\":[2]")?,
-        Some(PlanFault::Kind(Key::Margin))
-    );
-    assert_eq!(rt;
-        fault_with(alloc, "\"margin\":[1,2]")?,
-        Some(PlanFault::Range(Key::Margin))
-    );
+    // A straight link from s to t, a way over x, and a narrow way over y to x.
+    let ends = [
+        (0, 1, 10, 1),
+        (0, 2, 10, 1),
+        (2, 1, 10, 1),
+        (0, 3, 3, 3),
+        (3, 2, 3, 3),
+    ];
+    let net = network(alloc, &["s", "t", "x", "y"], &ends)?;
+    let matrices = b"step,source,target,demand\n0,s,t,12\n1,s,t,12\n";
+    for (recovery, step, total) in [
+        (
+            "none",
+            "12,6,0,6,0,600000,600000,-",
+            "24,18,0,6,0,600000,600000,-",
+        ),
+        (
+            "scale",
+            "12,10,2,0,0,1000000,600000,-",
+            "24,22,2,0,0,1000000,600000,-",
+        ),
+        (
+            "bypass",
+            "12,9,3,0,0,1000000,600000,-",
+            "24,21,3,0,0,1000000,600000,-",
+        ),
+        (
+            "reroute",
+            "12,9,3,0,0,1000000,2000000,-",
+            "24,21,3,0,0,1000000,2000000,-",
+        ),
+    ] {
+        let members = format!(in alloc;
+            "\"schemes\":[\"ksp\"],\"k\":2,\"recovery\":\"{recovery}\""
+        )?;
+        let text = report_of(
+            alloc,
+            members.as_str(),
+            &net,
+            matrices,
+            b"from,to,link\n1,1,1\n",
+        )?;
+        let wanted = format!(in alloc;
+            "{HEADER}ksp,0,12,12,0,0,0,600000,600000,-\nksp,1,{step}\nksp,total,{total}\n"
+        )?;
+        assert_eq!(rt; text.as_slice(), wanted.as_bytes());
+    }
     Ok(())
 }
 
 #[test]
-fn defaults_and_values(rt: HostRuntime) -> Result<(), Fail> {
+fn a_pair_without_a_path(rt: HostRuntime) -> Result<(), Fail> {
     let alloc = rt.alloc();
-    let plan = read_plan(alloc, b"{\"topology\":\"t\",\"matrices\":\"m\"}")?;
-    assert_eq!(rt; plan.topology.as_str(), "t");
-    assert_eq!(rt; plan.matrices.as_str(), "m");
-    assert!(rt; plan.failures.is_none());
-    assert!(rt; plan.schemes.as_slice() == SchemeName::ALL.as_slice());
-    assert_eq!(rt; plan.recovery, Recovery::Keep);
-    assert_eq!(rt; plan.publish, SchemeName::Racke);
-    assert_eq!(rt; plan.margin, None);
-    assert_eq!(rt; (plan.k, plan.budget, plan.trees, plan.seed), (4, 4, 8, 0));
-    let text =
-        b"{\"topology\":\"t\",\"matrices\":\"m\",\"failures\":\"f\",\"schemes\":[\"smore\"],\"recovery\":\"bypass\",\"publish\":\"ksp\",\"margin\":[3,2],\"seed\":18446744073709551615}";
-    let plan = read_plan(alloc, text)?;
-    assert!(rt; plan.failures.is_some());
-    assert!(rt; plan.schemes.as_slice() == [SchemeName::Smore].as_slice());
-    assert_eq!(rt; plan.recovery, Recovery::Bypass);
-    assert_eq!(rt; plan.publish, SchemeName::Ksp);
-    assert_eq!(rt; plan.margin, Some((3, 2)));
-    assert_eq!(rt; plan.seed, u64::MAX);
+    let net = network(alloc, &["a", "b", "c"], &[(0, 1, 10, 1), (1, 2, 10, 1)])?;
+    // No link leads back from c.
+    let matrices = b"step,source,target,demand\n0,a,b,1\n0,a,c,1\n0,c,a,1\n";
+    let members = "\"schemes\":[\"spf\"]";
+    let text = report_of(alloc, members, &net, matrices, b"from,to,link\n")?;
+    let wanted = format!(in alloc;
+        "{HEADER}spf,0,3,2,0,0,1,200000,200000,-\nspf,total,3,2,0,0,1,200000,200000,-\n"
+    )?;
+    assert_eq!(rt; text.as_slice(), wanted.as_bytes());
+    Ok(())
+}
+
+#[test]
+fn every_scheme_on_two_parallel_links(rt: HostRuntime) -> Result<(), Fail> {
+    let alloc = rt.alloc();
+    let net = network(alloc, &["a", "b"], &[(0, 1, 10, 1), (0, 1, 30, 1)])?;
+    let matrices = b"step,source,target,demand\n0,a,b,40\n";
+    let text = report_of(alloc, "\"trees\":8", &net, matrices, b"from,to,link\n")?;
+    let text = String::from_utf8(text)?;
+    let fixed = format!(in alloc;
+        "{HEADER}{}{}{}{}{}{}",
+        "spf,0,40,10,30,0,0,1000000,4000000,-\n",
+        "spf,total,40,10,30,0,0,1000000,4000000,-\n",
+        "ecmp,0,40,30,10,0,0,1000000,2000000,-\n",
+        "ecmp,total,40,30,10,0,0,1000000,2000000,-\n",
+        "ksp,0,40,30,10,0,0,1000000,2000000,-\n",
+        "ksp,total,40,30,10,0,0,1000000,2000000,-\n"
+    )?;
+    assert!(rt; text.starts_with(fixed.as_str()));
+    // Lengths of 1 show that every routing has the utilisation 1 or more, and no bound is greater.
+    for part in [
+        "-\nmcf,0,40,",
+        ",1000000\nmcf,total,40,",
+        "-\nracke,0,40,",
+        "-\nracke,total,40,",
+        "-\nsmore,0,40,",
+        ",1000000\nsmore,total,40,",
+    ] {
+        assert!(rt; text.contains(part));
+    }
+    assert!(rt; text.ends_with(",-\n"));
     Ok(())
 }

@@ -2,10 +2,9 @@ use Rattle.std.proofs.Common.{◌≡◌, List, length, arith, ap, sym, subst, �
 use Rattle.te_model.specs.declared.route.PairRoutes.{PairRoutes}
 use Rattle.te_model.specs.declared.route.Pair.{Pair}
 use Rattle.routing.specs.Routes.{IsRoutingOf}
-use Rattle.std.specs.Prelude.{All}
-use Rattle.te_model.specs.declared.demand.DemandSet.{DemandSet}
+use Rattle.path_budget.specs.Budget.{trimmed}
 use Rattle.ratio_certificate.specs.Conditions.{IsSetWithin}
-use Rattle.ratio_certificate.specs.Made.{HasShare, IsStartingBlock}
+use Rattle.ratio_certificate.specs.Made.{IsMade}
 use Rattle.std.proofs.lemmas.List.{length-map}
 use Rattle.experiment.proofs.RoutingWithin.{routing_within}
 use Rattle.experiment.proofs.publishing.publish.Goals as goal
@@ -30,13 +29,10 @@ make-requires-clause-set g c =
     in
     subst (λ n. IsSetWithin n c.args.set) count c.requires.set
 
-pub returns-clause-best : goal.returns-clause-best
-returns-clause-best g c =
-    subst (λ (s : DemandSet). All (IsStartingBlock c.args.net.now c.in_ok-certificate.certificate.head.routes s) c.in_ok-certificate.certificate.blocks)
-    (sym c.in_ok-certificate.ensures.set)
-    (subst (λ (r : List PairRoutes). All (IsStartingBlock c.args.net.now r c.args.set) c.in_ok-certificate.certificate.blocks) (sym c.in_ok-certificate.ensures.routes)
-    c.in_ok-certificate.ensures.best)
-
-pub returns-clause-blocks : goal.returns-clause-blocks
-returns-clause-blocks g c e below share =
-    c.in_ok-certificate.ensures.blocks e below (subst (λ (r : List PairRoutes). HasShare r e) c.in_ok-certificate.ensures.routes share)
+pub returns-clause-made : goal.returns-clause-made
+returns-clause-made g c =
+    let is = c.in_ok-routing.ensures.trimmed ∙ ap (trimmed c.args.budget) c.fixed.ensures in (
+      c.in_ok-plan.plan,
+      c.in_ok-plan.ensures.plan,
+      subst (λ (r : List PairRoutes). IsMade c.args.net.now r c.args.set c.in_ok-certificate.certificate) is c.in_ok-certificate.ensures,
+    )

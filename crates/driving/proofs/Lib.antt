@@ -1,9 +1,0 @@
-mod Order
-mod Mapping
-mod Surviving
-mod Paths
-mod Demands
-mod SeriesLemmas
-mod Spreading
-mod Carried
-mod Rowing

@@ -1,7 +1,0 @@
-use Rattle.std.proofs.Common.{◌≡◌}
-use Rattle.routing.specs.Utilisation.{greatest_below}
-use Rattle.driving.specs.Simulated.{utilisation_on}
-use Rattle.driving.proofs.peak.peak.Given as goal
-
-abbrev pub invariant-loop-e : goal.invariant-loop-e
-invariant-loop-e l = l.most ≡ greatest_below l.e (utilisation_on l.net l.carried)

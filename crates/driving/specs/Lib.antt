@@ -1,4 +1,0 @@
-pub mod Reached
-pub mod Mapped
-pub mod Simulated
-pub mod Rows

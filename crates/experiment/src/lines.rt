@@ -1,0 +1,80 @@
+//! The lines of a scheme.
+ghost use Rattle.std.specs.Prelude.{◌≡◌, ◌≤◌, ◌^◌, ◌∷◌, ◌++◌, IfOk, OnOk, decimal, flat_map, length};
+ghost use Rattle.experiment.specs.Text.{line, row_line, scheme_lines, low_text};
+
+use crate::figures::Figures;
+use series_simulation::StepRow;
+use std::alloc::Global;
+use te_model::Memory;
+
+// Writes a comma and a field.
+fn print_field(text: &mut Vec<u8>, field: &str) -> Result<(), Memory>
+    ensures { OnOk result (text.new.items ≡ text.old.items ++ 44 ∷ field.now) }
+{
+    text.push(b',')?;
+    text.extend_from_slice(field.as_bytes())?;
+    Ok(())
+}
+
+// Writes a comma and a number.
+fn print_number(text: &mut Vec<u8>, number: u128) -> Result<(), Memory>
+    ensures { OnOk result (text.new.items ≡ text.old.items ++ 44 ∷ decimal number) }
+{
+    print_field(text, itoa::Buffer::new().format(number))
+}
+
+// Writes a comma, and the number or a dash.
+fn print_low(text: &mut Vec<u8>, low: Option<u128>) -> Result<(), Memory>
+    ensures { OnOk result (text.new.items ≡ text.old.items ++ 44 ∷ low_text low) }
+{
+    match low {
+        Some(bound) => print_number(text, bound),
+        None => print_field(text, "-"),
+    }
+}
+
+// Writes a line.
+fn print_line(
+    text: &mut Vec<u8>,
+    word: &str,
+    step: &str,
+    figures: &Figures,
+    low: Option<u128>,
+) -> Result<(), Memory>
+    ensures { OnOk result (text.new.items ≡ text.old.items ++ line word.now step.now figures.now low) }
+{
+    text.extend_from_slice(word.as_bytes())?;
+    print_field(text, step)?;
+    print_number(text, figures.offered)?;
+    print_number(text, figures.delivered)?;
+    print_number(text, figures.lost_full)?;
+    print_number(text, figures.lost_failed)?;
+    print_number(text, figures.lost_no_path)?;
+    print_number(text, figures.peak)?;
+    print_number(text, figures.parts)?;
+    print_low(text, low)?;
+    text.push(b'\n')?;
+    Ok(())
+}
+
+// Writes the line of a step.
+fn print_row(text: &mut Vec<u8>, word: &str, row: &StepRow) -> Result<(), Memory>
+    ensures { OnOk result (text.new.items ≡ text.old.items ++ row_line word.now row.now) }
+{
+    let mut digits = itoa::Buffer::new();
+    let step = digits.format(row.step);
+    print_line(text, word, step, &Figures::of(row), row.low)
+}
+
+/// A line for each row, and the total of all rows.
+pub fn scheme_lines(alloc: Global, word: &str, rows: &[StepRow]) -> Result<Vec<u8>, Memory>
+    requires few { length rows.now ≤ 2 ^ 32 }
+    ensures { IfOk result (λ text. text.items ≡ scheme_lines word.now rows.now) }
+{
+    let mut text = Vec::new(alloc);
+    for row in rows {
+        print_row(&mut text, word, row)?;
+    }
+    print_line(&mut text, word, "total", &Figures::total(rows), None)?;
+    Ok(text)
+}

@@ -1,0 +1,112 @@
+//! The report of a plan's schemes, each driven through the series.
+ghost use Rattle.std.specs.Prelude.{◌≡◌, ◌≤◌, List, IfOk, IsTrue};
+ghost use Rattle.te_model.specs.Network.{is_well_formed, node_count};
+ghost use Rattle.traffic_matrix.specs.Limits.{IsSeries};
+ghost use Rattle.plan.specs.Plan.{InRange};
+ghost use Rattle.plan.specs.Words.{scheme_word};
+ghost use Rattle.series_simulation.specs.declared.step_row.StepRow.{StepRow};
+ghost use Rattle.series_simulation.specs.Rows.{AreStepRows};
+ghost use Rattle.experiment.specs.Report.{IsReport};
+ghost use Rattle.experiment.specs.Schemes.{AreSchemeRows};
+ghost use Rattle.experiment.specs.Text.{scheme_lines};
+
+use crate::lines::scheme_lines;
+use ecmp_split::Ecmp;
+use failure::Failures;
+use k_paths::Ksp;
+use mcf_lengths::Mcf;
+use plan::{Experiment, Recovery, SchemeName};
+use racke_mix::Racke;
+use scheme::{Scheme, Spf};
+use semi_oblivious::Semi;
+use series_simulation::drive;
+use std::alloc::Global;
+use te_model::{Memory, Network};
+use traffic_matrix::Series;
+
+/// The lines of a scheme that is driven through the series. `Memory` comes where memory is wanting.
+fn lines_of<S: Scheme>(
+    alloc: Global,
+    scheme: &S,
+    word: &str,
+    network: &Network,
+    series: &Series,
+    failures: &Failures,
+    recovery: Recovery,
+) -> Result<Vec<u8>, Memory>
+    requires network { IsTrue (is_well_formed network.now) }
+    requires series { IsSeries (node_count network.now) series.now }
+    requires paths { S.PATHS ≤ 4096 }
+    ensures { IfOk result (λ text. (rows : List StepRow)
+        × AreStepRows S.PATHS (S.is_plan scheme.now) (S.relates scheme.now) S.Note.low network.now series.now failures.now recovery rows
+        × (text.items ≡ scheme_lines word.now rows)) }
+{
+    let rows = drive(alloc, scheme, network, series, failures, recovery)?;
+    let lines = scheme_lines(alloc, word, rows.as_slice())?;
+    Ok(lines)
+}
+
+/// The lines of the scheme of this name, with the plan's numbers and recovery. `Memory` comes where memory is wanting.
+fn lines_by_name(
+    alloc: Global,
+    name: SchemeName,
+    plan: &Experiment,
+    network: &Network,
+    series: &Series,
+    failures: &Failures,
+) -> Result<Vec<u8>, Memory>
+    requires plan { InRange plan.now }
+    requires network { IsTrue (is_well_formed network.now) }
+    requires series { IsSeries (node_count network.now) series.now }
+    ensures { IfOk result (λ text. (rows : List StepRow)
+        × AreSchemeRows name plan.now network.now series.now failures.now rows
+        × (text.items ≡ scheme_lines (scheme_word name) rows)) }
+{
+    let word = name.word();
+    let recovery = plan.recovery;
+    let base = Racke {
+        trees: plan.trees,
+        seed: plan.seed,
+    };
+    match name {
+        SchemeName::Spf => lines_of(alloc, &Spf, word, network, series, failures, recovery),
+        SchemeName::Ecmp => lines_of(alloc, &Ecmp, word, network, series, failures, recovery),
+        SchemeName::Ksp => {
+            let scheme = Ksp { k: plan.k };
+            lines_of(alloc, &scheme, word, network, series, failures, recovery)
+        }
+        SchemeName::Mcf => lines_of(alloc, &Mcf, word, network, series, failures, recovery),
+        SchemeName::Racke => lines_of(alloc, &base, word, network, series, failures, recovery),
+        SchemeName::Smore => {
+            let budget = plan.budget;
+            let scheme = Semi { base, budget };
+            lines_of(alloc, &scheme, word, network, series, failures, recovery)
+        }
+    }
+}
+
+/// The report of the plan's schemes, in order: one line for each step, and the total.
+///
+/// The schemes are driven through the series with the plan's recovery, as `drive` says. The only error is `Memory`, where
+/// memory is wanting. An outage of a link that the network does not have changes nothing. (After YATES; Kumar and others, 2018.)
+pub fn report(
+    alloc: Global,
+    plan: &Experiment,
+    network: &Network,
+    series: &Series,
+    failures: &Failures,
+) -> Result<Vec<u8>, Memory>
+    requires plan { InRange plan.now }
+    requires network { IsTrue (is_well_formed network.now) }
+    requires series { IsSeries (node_count network.now) series.now }
+    ensures { IfOk result (λ text. IsReport plan.now network.now series.now failures.now text.items) }
+{
+    let header =
+        b"scheme,step,offered,delivered,lost_full,lost_failed,lost_no_path,peak,parts,low\n";
+    let mut text = Vec::from_slice(alloc, header)?;
+    for name in plan.schemes.as_slice() {
+        let lines = lines_by_name(alloc, *name, plan, network, series, failures)?;
+        text.extend_from_slice(lines.as_slice())?;
+    }
+    Ok(text)
+}

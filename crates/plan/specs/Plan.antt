@@ -1,0 +1,127 @@
+-- What a plan says: one JSON object (RFC 8259) with known keys.
+use Rattle.std.specs.Prelude.{ℕ, ◌^◌, ◌-◌, ◌≤◌, ◌≡◌, ◌≢◌, List, [], ◌∷◌, length, Bool, true, ◌&&◌, Option, Some, None, IfSome, Result, Ok, Err, ◌==◌, if◌then◌else◌}
+use Rattle.std.specs.Str.Lossy.{utf8_valid_len}
+use Rattle.serde_json.specs.Data.{Data, Members, no_members, member}
+use Rattle.serde_json.specs.Find.{get, as_object}
+use Rattle.serde_json.specs.Read.{read}
+use Rattle.plan.specs.declared.experiment.Experiment.{Experiment}
+use Rattle.plan.specs.declared.scheme_name.SchemeName.{SchemeName}
+use Rattle.plan.specs.declared.scheme_name.SchemeName.TheVariants as scheme
+use Rattle.plan.specs.declared.recovery.Recovery.TheVariants as recovery
+use Rattle.plan.specs.declared.key.Key.{Key}
+use Rattle.plan.specs.declared.key.Key.TheVariants as key
+use Rattle.plan.specs.declared.fault.PlanFault.{PlanFault}
+use Rattle.plan.specs.declared.fault.PlanFault.TheVariants as fault
+use Rattle.plan.specs.declared.reader.Files.{Files}
+use Rattle.plan.specs.declared.reader.Choices.{Choices}
+use Rattle.plan.specs.declared.reader.Counts.{Counts}
+use Rattle.plan.specs.Words.{word, is_key, is_oblivious}
+use Rattle.plan.specs.Values.{given_or, text_of, number_of, margin_of, recovery_of, publish_of, schemes_of}
+
+abbrev pub and_then : {A B : Type 0} → Result A PlanFault → (A → Result B PlanFault) → Result B PlanFault
+and_then (Ok x) next = next x
+and_then (Err e) next = Err e
+
+-- the value of a file, which is none where the bytes are no UTF-8 or no JSON
+abbrev pub json_of : List ℕ → Option Data
+json_of bytes = if utf8_valid_len bytes == length bytes then read bytes else None
+
+abbrev pub knows_all : Members → Bool
+knows_all no_members = true
+knows_all (member k d ms) = is_key k && knows_all ms
+
+-- the value of a key that must be there
+abbrev pub required : Key → Data → Result Data PlanFault
+required k d = given_or (fault.Missing k) Ok (get (word k) d)
+
+-- what the value of a key says, or what stands where there is none
+abbrev pub optional : {A : Type 0} → A → (Data → Result A PlanFault) → Option Data → Result A PlanFault
+optional default reading None = Ok default
+optional default reading (Some d) = reading d
+
+abbrev pub some_of : {A : Type 0} → Result A PlanFault → Result (Option A) PlanFault
+some_of (Ok x) = Ok (Some x)
+some_of (Err e) = Err e
+
+abbrev pub failures_of : Data → Result (Option (List ℕ)) PlanFault
+failures_of d = optional None (λ v. some_of (text_of key.Failures v)) (get (word key.Failures) d)
+
+unfoldable pub files_of : Data → Data → Data → Result Files PlanFault
+files_of topology matrices d =
+    and_then (text_of key.Topology topology) (λ t.
+    and_then (text_of key.Matrices matrices) (λ m.
+    and_then (failures_of d) (λ f.
+    Ok (record { topology = t; matrices = m; failures = f }))))
+
+abbrev pub all_schemes : List SchemeName
+all_schemes = scheme.Spf ∷ scheme.Ecmp ∷ scheme.Ksp ∷ scheme.Mcf ∷ scheme.Racke ∷ scheme.Smore ∷ []
+
+unfoldable pub choices_of : Data → Result Choices PlanFault
+choices_of d =
+    and_then (optional all_schemes schemes_of (get (word key.Schemes) d)) (λ s.
+    and_then (optional recovery.Keep recovery_of (get (word key.Recovery) d)) (λ r.
+    and_then (optional scheme.Racke publish_of (get (word key.Publish) d)) (λ p.
+    and_then (optional None (λ v. some_of (margin_of v)) (get (word key.Margin) d)) (λ m.
+    Ok (record { schemes = s; recovery = r; publish = p; margin = m })))))
+
+-- a number with a default
+abbrev pub count_at : Key → ℕ → ℕ → ℕ → Data → Result ℕ PlanFault
+count_at k default low high d = optional default (number_of k low high) (get (word k) d)
+
+unfoldable pub counts_of : Data → Result Counts PlanFault
+counts_of d =
+    and_then (count_at key.K 4 1 32 d) (λ k.
+    and_then (count_at key.Budget 4 1 32 d) (λ b.
+    and_then (count_at key.Trees 8 1 16 d) (λ t.
+    and_then (count_at key.Seed 0 0 (2 ^ 64 - 1) d) (λ s.
+    Ok (record { k = k; budget = b; trees = t; seed = s })))))
+
+abbrev pub experiment_of : Files → Choices → Counts → Experiment
+experiment_of f c n = record {
+  topology = f.topology;
+  matrices = f.matrices;
+  failures = f.failures;
+  schemes = c.schemes;
+  recovery = c.recovery;
+  publish = c.publish;
+  margin = c.margin;
+  k = n.k;
+  budget = n.budget;
+  trees = n.trees;
+  seed = n.seed;
+}
+
+-- what an object with known keys says
+unfoldable pub plan_of_object : Data → Result Experiment PlanFault
+plan_of_object d =
+    and_then (required key.Topology d) (λ topology.
+    and_then (required key.Matrices d) (λ matrices.
+    and_then (files_of topology matrices d) (λ f.
+    and_then (choices_of d) (λ c.
+    and_then (counts_of d) (λ n. Ok (experiment_of f c n))))))
+
+abbrev pub known : Data → Members → Result Experiment PlanFault
+known d ms = if knows_all ms then plan_of_object d else Err fault.UnknownKey
+
+abbrev pub plan_of_value : Data → Result Experiment PlanFault
+plan_of_value d = given_or (fault.Kind key.Plan) (known d) (as_object d)
+
+-- what the bytes of a plan file say, or the first fault
+abbrev pub plan_of : List ℕ → Result Experiment PlanFault
+plan_of bytes = given_or fault.NotJson plan_of_value (json_of bytes)
+
+-- file names that are not empty, 1 to 16 schemes, a published scheme that is oblivious, and numbers in their ranges
+pub record InRange (x : Experiment) : Type 0 where
+  pub topology : x.topology ≢ []
+  pub matrices : x.matrices ≢ []
+  pub failures : IfSome x.failures (λ name. name ≢ [])
+  pub some_scheme : 1 ≤ length x.schemes
+  pub few_schemes : length x.schemes ≤ 16
+  pub publish : is_oblivious x.publish ≡ true
+  pub margin : IfSome x.margin (λ m. (1 ≤ m.1) × (m.1 ≤ m.0) × (m.0 ≤ 1000))
+  pub k_low : 1 ≤ x.k
+  pub k_high : x.k ≤ 32
+  pub budget_low : 1 ≤ x.budget
+  pub budget_high : x.budget ≤ 32
+  pub trees_low : 1 ≤ x.trees
+  pub trees_high : x.trees ≤ 16

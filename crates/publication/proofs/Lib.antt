@@ -1,2 +1,0 @@
-mod SeriesLemmas
-pub mod Accepted

@@ -1,3 +1,0 @@
-pub mod Scheme
-pub mod Text
-pub mod Report

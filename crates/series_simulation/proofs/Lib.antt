@@ -1,0 +1,10 @@
+mod Order
+mod Mapping
+mod Surviving
+mod Paths
+mod Demands
+pub mod FewPairs
+pub mod SeriesLemmas
+mod Spreading
+mod Carried
+mod Rowing

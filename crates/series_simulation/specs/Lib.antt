@@ -1,0 +1,5 @@
+pub mod AscendingPairs
+pub mod Connected
+pub mod OriginalLinks
+pub mod Simulation
+pub mod Rows

@@ -1,0 +1,101 @@
+-- The rows of a report: a scheme routes the matrix of each step, and the step is simulated (after YATES; Kumar et al., 2018).
+use Rattle.std.specs.Prelude.{ℕ, ◌≡◌, ◌<◌, Bool, false, List, [], length, map, filter, Option, None, MatchBool, slice_index_or}
+use Rattle.std.specs.List.{list_any, range_with_len}
+use Rattle.te_model.specs.declared.network.Network.{Network}
+use Rattle.te_model.specs.declared.route.Pair.{Pair}
+use Rattle.te_model.specs.declared.route.PairRoutes.{PairRoutes}
+use Rattle.te_model.specs.Network.{link_count}
+use Rattle.routing.specs.Routes.{IsRoutingOf, HasFewPaths}
+use Rattle.routing.specs.Utilisation.{parts}
+use Rattle.failure.specs.declared.outage.Failures.{Failures}
+use Rattle.failure.specs.Failed.{has_failed}
+use Rattle.failure.specs.Survivor.{survivor_of}
+use Rattle.local_recovery.specs.declared.mode.Mode.{Mode}
+use Rattle.local_recovery.specs.declared.mode.Mode.TheVariants as mode
+use Rattle.traffic_matrix.specs.declared.series.Series.{Series}
+use Rattle.traffic_matrix.specs.Text.{no_matrix}
+use Rattle.plan.specs.declared.recovery.Recovery.{Recovery}
+use Rattle.plan.specs.declared.recovery.Recovery.TheVariants.{Keep, Scale, Bypass, Reroute}
+use Rattle.series_simulation.specs.declared.step_row.StepRow.{StepRow}
+use Rattle.series_simulation.specs.Connected.{TellsPaths, demands_of}
+use Rattle.series_simulation.specs.OriginalLinks.{original_routes}
+use Rattle.series_simulation.specs.Simulation.{IsSimulated, peak_of}
+
+-- the demands of a step
+abbrev pub demands_in : Series → ℕ → List ℕ
+demands_in series k = (slice_index_or series.steps k no_matrix).demand
+
+-- for each link whether it has failed in the step
+abbrev pub failed_in : Network → Failures → ℕ → List Bool
+failed_in net failures k = map (has_failed failures k) (range_with_len 0 (link_count net))
+
+-- how traffic goes on where links of its paths have failed; a routing that is made anew is kept
+abbrev pub mode_of : Recovery → Mode
+mode_of Keep = mode.Keep
+mode_of Scale = mode.Scale
+mode_of Bypass = mode.Bypass
+mode_of Reroute = mode.Keep
+
+-- whether the scheme is prepared anew: by this recovery, where some link has failed
+abbrev pub is_rerouted : Recovery → List Bool → Bool
+is_rerouted Keep failed = false
+is_rerouted Scale failed = false
+is_rerouted Bypass failed = false
+is_rerouted Reroute failed = list_any (λ mark. mark) failed
+
+-- what stands for a row that is not there
+abbrev pub no_row : StepRow
+no_row = record {
+  step = 0;
+  result = record { offered = 0; delivered = 0; lost_full = 0; lost_failed = 0; lost_no_path = 0; carried = []; per_pair = [] };
+  peak = 0;
+  parts = 0;
+  low = None;
+}
+
+abbrev pub step_row_at : List StepRow → ℕ → StepRow
+step_row_at rows k = slice_index_or rows k no_row
+
+-- Of a scheme: the greatest number of paths of a pair, of which network and pairs a plan is, how a plan, demands, a routing and a note
+-- stand to one another, and the lower bound that a note states.
+module _ {Plan Note : Type 0} (limit : ℕ) (is_plan : Network → List Pair → Plan → Type 0)
+    (relates : Network → List Pair → Plan → List ℕ → List PairRoutes → Note → Type 0) (low : Note → Option ℕ) where
+  -- the scheme's routing of the pairs that have a path in the network and of the matrix of these pairs, by a plan for them, within its
+  -- number of paths, with its greatest utilisation and the bound of the scheme's note
+  pub record IsRouted (net : Network) (pairs : List Pair) (demand : List ℕ) (plan : Plan) (routes : List PairRoutes) (most : ℕ) (bound : Option ℕ) : Type 0 where
+    pub has_path : Pair → Bool
+    pub tells : TellsPaths net has_path
+    pub planned : is_plan net (filter has_path pairs) plan
+    pub routing : IsRoutingOf net (filter has_path pairs) routes
+    pub few : HasFewPaths limit routes
+    pub note : Note
+    pub related : relates net (filter has_path pairs) plan (demands_of has_path pairs demand) routes note
+    pub most_is : most ≡ parts net routes (demands_of has_path pairs demand)
+    pub bound_is : bound ≡ low note
+
+  -- the same for the network that is left of failed links, by a plan of its own, and then by the numbers that its links had before
+  pub record IsReroutedOn (net : Network) (failed : List Bool) (pairs : List Pair) (demand : List ℕ) (routes : List PairRoutes) (most : ℕ) (bound : Option ℕ) : Type 0 where
+    pub plan : Plan
+    pub own : List PairRoutes
+    pub routed : IsRouted (survivor_of net failed).network pairs demand plan own most bound
+    pub mapped : routes ≡ original_routes (survivor_of net failed).origin own
+
+  -- the routing of a step
+  abbrev pub IsStepRouting : Network → List Bool → List Pair → List ℕ → Recovery → Plan → List PairRoutes → ℕ → Option ℕ → Type 0
+  IsStepRouting net failed pairs demand recovery plan routes most bound =
+      MatchBool (is_rerouted recovery failed) (IsReroutedOn net failed pairs demand routes most bound) (IsRouted net pairs demand plan routes most bound)
+
+  -- the row of a step, by a plan for the whole network
+  pub record IsStepRow (net : Network) (failed : List Bool) (pairs : List Pair) (demand : List ℕ) (recovery : Recovery) (plan : Plan) (row : StepRow) : Type 0 where
+    pub routes : List PairRoutes
+    pub routed : IsStepRouting net failed pairs demand recovery plan routes row.parts row.low
+    pub simulated : IsSimulated (mode_of recovery) net failed pairs demand routes row.result
+    pub peak_is : row.peak ≡ peak_of net row.result.carried
+
+  -- one row for each step of the series, in order; one plan serves all steps for which the scheme is not prepared anew
+  pub record AreStepRows (net : Network) (series : Series) (failures : Failures) (recovery : Recovery) (rows : List StepRow) : Type 0 where
+    pub plan : Plan
+    pub count : length rows ≡ length series.steps
+    pub steps : (k : ℕ) → k < length rows → (step_row_at rows k).step ≡ k
+    pub each : (k : ℕ) → k < length rows →
+        IsStepRow net (failed_in net failures k) series.pairs.list (demands_in series k) recovery plan (step_row_at rows k)

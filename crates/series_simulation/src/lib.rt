@@ -1,0 +1,23 @@
+//! The simulation of a series: any scheme routes the traffic matrix of each step, and the step is simulated.
+//!
+//! - `drive`: one row for each step.
+//! - `StepRow`: what became of the traffic of a step, and how far the links were used.
+#![tactic(auto)]
+
+mod connected_pairs;
+mod original_links;
+mod peak;
+mod preparation;
+mod reachability;
+mod recovery;
+mod scheme_routing;
+mod series_rows;
+mod step_routing;
+mod step_row;
+mod step_simulation;
+
+pub use series_rows::drive;
+pub use step_row::StepRow;
+
+#[cfg(test)]
+mod tests;

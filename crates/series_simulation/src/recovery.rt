@@ -1,0 +1,40 @@
+//! What a recovery does in a step.
+ghost use Rattle.std.specs.Prelude.{◌≡◌};
+ghost use Rattle.std.specs.List.{list_any};
+ghost use Rattle.series_simulation.specs.Rows.{is_rerouted, mode_of};
+
+use local_recovery::Mode;
+use plan::Recovery;
+
+/// How traffic goes on where links of its paths have failed. A routing that is made anew has none, and is kept.
+pub fn mode_of(recovery: Recovery) -> Mode
+    ensures { result ≡ mode_of recovery }
+{
+    match recovery {
+        Recovery::Keep | Recovery::Reroute => Mode::Keep,
+        Recovery::Scale => Mode::Scale,
+        Recovery::Bypass => Mode::Bypass,
+    }
+}
+
+/// Whether one of the marks is set.
+fn has_mark(marks: &[bool]) -> bool
+    ensures { result ≡ list_any (λ mark. mark) marks.now }
+{
+    for mark in marks {
+        if *mark {
+            return true;
+        }
+    }
+    false
+}
+
+/// Whether the scheme is prepared anew in a step with these marks of failed links.
+pub fn is_rerouted(recovery: Recovery, failed: &[bool]) -> bool
+    ensures { result ≡ is_rerouted recovery failed.now }
+{
+    match recovery {
+        Recovery::Keep | Recovery::Scale | Recovery::Bypass => false,
+        Recovery::Reroute => has_mark(failed),
+    }
+}

@@ -1,0 +1,86 @@
+//! The routing of a step: as it was prepared, or made anew on the network that is left of failed links.
+ghost use Rattle.std.specs.Prelude.{◌≡◌, ◌≤◌, IfOk, IsTrue, filter, length};
+ghost use Rattle.te_model.specs.Network.{is_well_formed, link_count};
+ghost use Rattle.te_model.specs.PathRouting.{IsPathRouting};
+ghost use Rattle.routing.specs.Routes.{AreDemands, HasFewPaths};
+ghost use Rattle.scheme.specs.Reach.{ArePairsOf};
+ghost use Rattle.local_recovery.specs.Rates.{pairs_of};
+ghost use Rattle.local_recovery.specs.Spread.{IsSublist};
+ghost use Rattle.series_simulation.specs.Connected.{TellsPaths, connects};
+ghost use Rattle.series_simulation.specs.Rows.{IsReroutedOn, IsStepRouting};
+
+use crate::original_links::original_routes;
+use crate::preparation::{Preparation, prepare_connected};
+use crate::recovery::is_rerouted;
+use crate::scheme_routing::{SchemeRouting, route_connected};
+use failure::surviving;
+use plan::Recovery;
+use scheme::Scheme;
+use std::alloc::Global;
+use te_model::{Matrix, Memory, Network, Pairs};
+
+/// The scheme's routing on the network that is left of the failed links, by the numbers of all links.
+///
+/// `failed` has one mark for each link, and `matrix` one demand for each of `pairs`. `Memory` comes where memory is wanting.
+fn reroute<S: Scheme>(
+    alloc: Global,
+    scheme: &S,
+    net: &Network,
+    failed: &[bool],
+    pairs: &Pairs,
+    matrix: &Matrix,
+) -> Result<SchemeRouting, Memory>
+    requires network { IsTrue (is_well_formed net.now) }
+    requires marks { length failed.now ≡ link_count net.now }
+    requires pairs { ArePairsOf net.now pairs.now.list }
+    requires demands { AreDemands (length pairs.now.list) matrix.now.demand }
+    ensures rerouted { IfOk result (λ r. IsReroutedOn S.PATHS (S.is_plan scheme.now) (S.relates scheme.now) S.Note.low net.now failed.now
+        pairs.now.list matrix.now.demand r.routing.routes r.parts r.low) }
+    ensures routing { IfOk result (λ r. IsPathRouting net.now r.routing.routes) }
+    ensures pairs { IfOk result (λ r. IsSublist (pairs_of r.routing.routes) pairs.now.list) }
+    ensures few { IfOk result (λ r. HasFewPaths S.PATHS r.routing.routes) }
+{
+    let survivor = surviving(alloc, net, failed)?;
+    let prepared = prepare_connected(alloc, scheme, &survivor.network, pairs)?;
+    let own = route_connected(alloc, scheme, &survivor.network, &prepared, pairs, matrix)?;
+    let routing = original_routes(alloc, survivor.origin.as_slice(), &own.routing)?;
+    Ok(SchemeRouting {
+        routing,
+        parts: own.parts,
+        low: own.low,
+    })
+}
+
+/// The scheme's routing of a step: as it was prepared, or anew where the recovery says so and a link has failed.
+///
+/// `failed` has one mark for each link, and `matrix` one demand for each of `pairs`. `Memory` comes where memory is wanting.
+pub fn step_routing<S: Scheme>(
+    alloc: Global,
+    scheme: &S,
+    net: &Network,
+    prepared: &Preparation<S::Plan>,
+    failed: &[bool],
+    pairs: &Pairs,
+    matrix: &Matrix,
+    recovery: Recovery,
+) -> Result<SchemeRouting, Memory>
+    requires network { IsTrue (is_well_formed net.now) }
+    requires marks { length failed.now ≡ link_count net.now }
+    requires pairs { ArePairsOf net.now pairs.now.list }
+    requires tells { TellsPaths net.now (connects prepared.now.reach) }
+    requires planned { S.is_plan scheme.now net.now (filter (connects prepared.now.reach) pairs.now.list) prepared.now.plan }
+    requires demands { AreDemands (length pairs.now.list) matrix.now.demand }
+    ensures routed { IfOk result (λ r. IsStepRouting S.PATHS (S.is_plan scheme.now) (S.relates scheme.now) S.Note.low net.now failed.now
+        pairs.now.list matrix.now.demand recovery prepared.now.plan r.routing.routes r.parts r.low) }
+    ensures routing { IfOk result (λ r. IsPathRouting net.now r.routing.routes) }
+    ensures pairs { IfOk result (λ r. IsSublist (pairs_of r.routing.routes) pairs.now.list) }
+    ensures few { IfOk result (λ r. HasFewPaths S.PATHS r.routing.routes) }
+{
+    if is_rerouted(recovery, failed) {
+        let anew = reroute(alloc, scheme, net, failed, pairs, matrix)?;
+        Ok(anew)
+    } else {
+        let routed = route_connected(alloc, scheme, net, prepared, pairs, matrix)?;
+        Ok(routed)
+    }
+}
