@@ -1,32 +1,27 @@
--- What a file answers, by what is told of it.
-use Rattle.std.specs.Prelude.{◌≡◌, ◌⊎◌, ℕ, List, Option, Some}
-use Rattle.te_command.specs.declared.refusal.Refusal.{Refusal}
-use Rattle.te_command.specs.Refusals.{refused_line}
+-- What is known of files.
+use Rattle.std.specs.Prelude.{◌≡◌, ◌<◌, ℕ, List, length, Option, Some}
+use Rattle.te_ports.specs.Ports.{Told}
+use Rattle.te_ports.specs.Record.{IsRead, IsReadPast}
 
--- something is told of a file
-abbrev pub IsToldFile : Option (List ℕ) → Type 0
-IsToldFile told = (bytes : List ℕ) × (told ≡ Some bytes)
+-- by a file's name: the bytes from its start to its end, and that there are more than a limit
+pub record Files : Type 1 where
+  pub whole : List ℕ → List ℕ → Type 0
+  pub longer : List ℕ → ℕ → Type 0
 
--- what is told of a file gives this value
-abbrev pub Tells : {A : Type 0} → (List ℕ → A → Type 0) → Option (List ℕ) → A → Type 0
-Tells Gives told value = (bytes : List ℕ) × (told ≡ Some bytes) × Gives bytes value
+-- as they are told
+abbrev pub told : (List ℕ → Option (List ℕ)) → Files
+told content = record {
+  whole = λ file bytes. content file ≡ Some bytes;
+  longer = λ file limit. (bytes : List ℕ) × (content file ≡ Some bytes) × (limit < length bytes);
+}
 
--- what is told of a file is refused for such a cause
-abbrev pub IsRefusedIn : (List ℕ → Refusal → Type 0) → Option (List ℕ) → Type 0
-IsRefusedIn Cause told = (bytes : List ℕ) × (refusal : Refusal) × (told ≡ Some bytes) × Cause bytes refusal
+-- as reads gave them
+abbrev pub given : (List ℕ → ℕ → List ℕ → Type 0) → Files
+given gave = record { whole = λ file bytes. IsRead (gave file) bytes; longer = λ file limit. IsReadPast (gave file) limit }
 
--- the bytes are refused for such a cause, and the line says why
-pub record SaysRefused (Cause : List ℕ → Refusal → Type 0) (file bytes line : List ℕ) : Type 0 where
-  pub refusal : Refusal
-  pub cause : Cause bytes refusal
-  pub line_is : line ≡ refused_line file refusal
-
--- the answer of the bytes of a file: they are refused for such a cause, or give a value which has this answer
-abbrev pub FileText : {A : Type 0} → (List ℕ → Refusal → Type 0) → (List ℕ → A → Type 0) → (A → ℕ → List ℕ → Type 0) →
-    List ℕ → List ℕ → ℕ → List ℕ → Type 0
-FileText {A} Cause Gives Answer file bytes status line =
-    ((status ≡ 3) × SaysRefused Cause file bytes line) ⊎ ((value : A) × Gives bytes value × Answer value status line)
-
--- a file is told, and its bytes have this answer
-abbrev pub ToldText : (List ℕ → ℕ → List ℕ → Type 0) → Option (List ℕ) → ℕ → List ℕ → Type 0
-ToldText Answer told status line = (bytes : List ℕ) × (told ≡ Some bytes) × Answer bytes status line
+-- as reads gave them, and where one is told, as it is told
+abbrev pub known : (List ℕ → ℕ → List ℕ → Type 0) → (List ℕ → Option (List ℕ)) → Files
+known gave content = record {
+  whole = λ file bytes. IsRead (gave file) bytes × Told (content file) (λ all. bytes ≡ all);
+  longer = λ file limit. IsReadPast (gave file) limit × Told (content file) (λ all. limit < length all);
+}

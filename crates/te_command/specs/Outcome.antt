@@ -1,37 +1,56 @@
--- What a command answers, or why it has no answer: the status, and the text that is written.
-use Rattle.std.specs.Prelude.{◌≡◌, ℕ, List, string_bytes, Option, Some, None, Result, Ok, Err}
-use Rattle.te_ports.specs.Ports.{Rose, Told}
-use Rattle.ratio_checker.specs.declared.finding.Finding.{Finding}
-use Rattle.ratio_checker.specs.declared.finding.Finding.TheVariants as finding
+-- What the functions of the program answer of the files that they read.
+use Rattle.std.specs.Prelude.{◌≡◌, ◌≢◌, ◌≤◌, ℕ, List, string_bytes, Option, Some, None, Result, Ok, Err}
+use Rattle.te_ports.specs.Ports.{Rose}
+use Rattle.te_ports.specs.Record.{Grows}
 use Rattle.te_model.specs.declared.certificate.Certificate.{Certificate}
 use Rattle.te_model.specs.declared.network.Network.{Network}
+use Rattle.ratio_checker.specs.declared.finding.Finding.{Finding}
+use Rattle.ratio_checker.specs.declared.finding.Finding.TheVariants as finding
 use Rattle.traffic_matrix.specs.declared.series.Series.{Series}
 use Rattle.failure.specs.declared.outage.Failures.{Failures}
+use Rattle.plan.specs.declared.experiment.Experiment.{Experiment}
 use Rattle.te_command.specs.declared.answer.Answer.{Answer}
-use Rattle.te_command.specs.declared.answer.Answer.TheVariants.{Yes, No, Published, Report, NoPath}
+use Rattle.te_command.specs.declared.answer.Answer.TheVariants.{Done, No, NoPath}
 use Rattle.te_command.specs.declared.answer.Fault.{Fault}
 use Rattle.te_command.specs.declared.answer.Fault.TheVariants.{Refused, Read, Memory}
-use Rattle.te_command.specs.declared.refusal.Refusal.{Refusal}
-use Rattle.te_command.specs.Refusals.{IsFailures, IsFailuresRefusal, refused_line}
-use Rattle.te_command.specs.CheckText.{yes_line, no_line}
-use Rattle.te_command.specs.Files.{SaysRefused, ToldText}
-use Rattle.te_command.specs.PlanText.{PlanText}
-use Rattle.te_command.specs.ReportText.{no_failures}
+use Rattle.te_command.specs.declared.inputs.Inputs.{Inputs}
+use Rattle.te_command.specs.declared.refusal.BytesFault.{BytesFault}
+use Rattle.te_command.specs.declared.refusal.BytesFault.TheVariants as bytes_fault
+use Rattle.te_command.specs.Files.{Files, given}
+use Rattle.te_command.specs.Reading.{Kind, Answers, Reading, answers, refused_line, GivesIn, RefusedIn, Means, ReadFailed}
+use Rattle.te_command.specs.TopologyFile.{topologies}
+use Rattle.te_command.specs.MatrixFile.{matrices}
+use Rattle.te_command.specs.FailureFile.{failure_files, no_failures}
+use Rattle.te_command.specs.PlanFile.{plans}
+use Rattle.te_command.specs.Refusals.{reason}
+use Rattle.te_command.specs.Check.{yes_line, no_line}
+use Rattle.te_command.specs.Commands.{with_plan}
+
+-- what a depot shows: what it tells, what its reads gave, and how often they failed
+pub record Shown : Type 1 where
+  pub content : List ℕ → Option (List ℕ)
+  pub gave : List ℕ → ℕ → List ℕ → Type 0
+  pub faults : List ℕ → ℕ
+
+abbrev pub shown : {D : Type 0} → (D → List ℕ → Option (List ℕ)) → (D → List ℕ → ℕ → List ℕ → Type 0) → (D → List ℕ → ℕ) → D → Shown
+shown content gave faults depot = record { content = content depot; gave = gave depot; faults = faults depot }
+
+-- what a call may do to it
+pub record Reads (old new : Shown) : Type 0 where
+  pub kept : Grows old.gave new.gave
+  pub later : (file : List ℕ) → old.faults file ≤ new.faults file
+  pub content : new.content ≡ old.content
 
 -- the status of an answer, and its text
 abbrev pub status_of : Answer → ℕ
-status_of (Yes line) = 0
+status_of (Done text) = 0
 status_of (No line) = 1
-status_of (Published file) = 0
-status_of (Report text) = 0
 status_of (NoPath line) = 7
 
 abbrev pub text_of : Answer → List ℕ
-text_of (Yes line) = string_bytes line
-text_of (No line) = string_bytes line
-text_of (Published file) = file.items
-text_of (Report text) = text.items
-text_of (NoPath line) = string_bytes line
+text_of (Done text) = text.items
+text_of (No line) = line.items
+text_of (NoPath line) = line.items
 
 -- the answer says what was found of the certificate
 abbrev pub IsLineOf : Certificate → Finding → Answer → Type 0
@@ -44,32 +63,77 @@ OnRefused (Refused line) P = P (string_bytes line)
 OnRefused Read P = Unit {0}
 OnRefused Memory P = Unit {0}
 
--- the line refuses the file for this cause, where there is memory for it
-abbrev pub IsRefusalOf : List ℕ → Refusal → Fault → Type 0
-IsRefusalOf file refusal (Refused line) = string_bytes line ≡ refused_line file refusal
-IsRefusalOf file refusal Read = ⊥
-IsRefusalOf file refusal Memory = Unit {0}
+-- a fact of a failed read, where one failed
+abbrev pub OnRead : {A : Type 0} → Result A Fault → Type 0 → Type 0
+OnRead (Ok value) P = Unit {0}
+OnRead (Err (Refused line)) P = Unit {0}
+OnRead (Err Read) P = P
+OnRead (Err Memory) P = Unit {0}
 
--- the bytes of the file give the value, or are refused for such a cause, which the line says
-abbrev pub ReadsAs : {A : Type 0} → (List ℕ → Refusal → Type 0) → (List ℕ → A → Type 0) → List ℕ → Result A Fault → List ℕ → Type 0
-ReadsAs Cause Gives file (Ok value) bytes = Gives bytes value
-ReadsAs Cause Gives file (Err fault) bytes = OnRefused fault (SaysRefused Cause file bytes)
+-- the bytes give the value, or are refused for this cause
+abbrev pub ReadsBytes : {A : Type 0} → Kind A → List ℕ → Result A BytesFault → Type 0
+ReadsBytes kind bytes (Ok value) = kind.gives bytes (Ok value)
+ReadsBytes kind bytes (Err (bytes_fault.Refused refusal)) = kind.gives bytes (Err (reason refusal))
+ReadsBytes kind bytes (Err bytes_fault.Memory) = Unit {0}
+
+-- the line refuses the file in these words, where there is memory for it
+abbrev pub IsRefusal : List ℕ → List ℕ → Fault → Type 0
+IsRefusal file words (Refused line) = string_bytes line ≡ refused_line file words
+IsRefusal file words Read = ⊥
+IsRefusal file words Memory = Unit {0}
+
+-- the bytes of the file give the value, or are refused, which the line says
+abbrev pub ReadsBytesOf : {A : Type 0} → Kind A → List ℕ → List ℕ → Result A Fault → Type 0
+ReadsBytesOf kind file bytes (Ok value) = kind.gives bytes (Ok value)
+ReadsBytesOf kind file bytes (Err (Refused line)) =
+    (words : List ℕ) × kind.gives bytes (Err words) × (string_bytes line ≡ refused_line file words)
+ReadsBytesOf kind file bytes (Err Read) = ⊥
+ReadsBytesOf kind file bytes (Err Memory) = Unit {0}
+
+-- the file gives the value, or is refused, which the line says
+abbrev pub ReadsAs : {A : Type 0} → Kind A → Files → List ℕ → Result A Fault → Type 0
+ReadsAs kind files file (Ok value) = GivesIn kind files file value
+ReadsAs kind files file (Err fault) = OnRefused fault (RefusedIn kind files file)
+
+-- the contract of a reader of a file
+pub record ReadsFile {A : Type 0} (kind : Kind A) (file : List ℕ) (old new : Shown) (result : Result A Fault) : Type 0 where
+  pub reads : ReadsAs kind (given new.gave) file result
+  pub failed : OnRead result (Rose (old.faults file) (new.faults file))
+  pub steady : result ≢ Err Read → new.faults ≡ old.faults
+  pub may : Reads old new
 
 -- the status and the text are what is meant, unless a read failed or memory was short
 abbrev pub Meant : (ℕ → List ℕ → Type 0) → Result Answer Fault → Type 0
 Meant Answer (Ok answer) = Answer (status_of answer) (text_of answer)
 Meant Answer (Err fault) = OnRefused fault (Answer 3)
 
--- the line refuses the plan's file, its topology or its matrices, whatever is answered where none of them is refused
-abbrev pub RefusesPlan : List ℕ → (List ℕ → Option (List ℕ)) → List ℕ → Type 0
-RefusesPlan file content line = ToldText (PlanText (λ plan network series status text. ⊥) content file) (content file) 3 line
+-- the contract of a command
+pub record Follows (reading : Reading) (old new : Shown) (result : Result Answer Fault) : Type 0 where
+  pub means : Meant (Means reading (given new.gave)) result
+  pub failed : OnRead result (ReadFailed reading (given new.gave) (λ file. Rose (old.faults file) (new.faults file)))
+  pub steady : result ≢ Err Read → new.faults ≡ old.faults
+  pub may : Reads old new
 
--- what was read are the failures that the plan names, where it names a file, or the file is refused, which the line says
-abbrev pub ReadsFailures : Network → Series → Option (List ℕ) → (List ℕ → Option (List ℕ)) → Result Failures Fault → Type 0
-ReadsFailures network series None content result = result ≡ Ok no_failures
-ReadsFailures network series (Some file) content result =
-    Told (content file) (ReadsAs (IsFailuresRefusal network series) (IsFailures network series) file result)
+-- nothing is answered
+abbrev pub no_answer : Answers
+no_answer = record { status = λ status. ⊥; text = λ status text. ⊥; proves = λ text. ⊥ }
 
--- the faults of the file that is named rose
-abbrev pub NamedRose : Option (List ℕ) → (List ℕ → ℕ) → (List ℕ → ℕ) → Type 0
-NamedRose named before now = (file : List ℕ) × (named ≡ Some file) × Rose (before file) (now file)
+-- the files of a plan gave this plan, its network and its series
+pub record GivesPlan (file : List ℕ) (old new : Shown) (plan : Experiment) (network : Network) (series : Series) : Type 0 where
+  pub plan_given : GivesIn plans (given new.gave) file plan
+  pub network_given : GivesIn topologies (given new.gave) plan.topology network
+  pub series_given : GivesIn (matrices network) (given new.gave) plan.matrices series
+  pub steady : new.faults ≡ old.faults
+  pub may : Reads old new
+
+-- a plan, its network and its series are read, or one of their files is refused or not read
+abbrev pub ReadsInputs : List ℕ → Shown → Shown → Result Inputs Fault → Type 0
+ReadsInputs file old new (Ok inputs) = GivesPlan file old new inputs.plan inputs.network inputs.series
+ReadsInputs file old new (Err fault) = Follows (with_plan file (λ plan network series. answers no_answer)) old new (Err fault)
+
+-- the failures are read from the file that is named, and are none where none is
+pub record ReadsFailures (network : Network) (series : Series) (named : Option (List ℕ)) (old new : Shown) (result : Result Failures Fault) : Type 0 where
+  pub unnamed : named ≡ None → result ≡ Ok no_failures
+  pub reads : (file : List ℕ) → named ≡ Some file → ReadsFile (failure_files network series) file old new result
+  pub steady : result ≢ Err Read → new.faults ≡ old.faults
+  pub may : Reads old new

@@ -1,11 +1,13 @@
 -- What the program does with the words of the command line: what it writes, and what a call may change.
-use Rattle.std.specs.Prelude.{◌≡◌, ◌≤◌, ◌⊎◌, ◌==◌, if◌then◌else◌, ℕ, List, [], ◌∷◌, ◌++◌, map, codes, string_bytes, Vec, Option, Some}
+use Rattle.std.specs.Prelude.{◌≡◌, ◌≢◌, ◌≤◌, ◌⊎◌, ◌==◌, if◌then◌else◌, ℕ, List, [], ◌∷◌, ◌++◌, map, codes, string_bytes, Vec, Option, Some}
 use Rattle.std.specs.declared.string.String.{String}
 use Rattle.std.specs.declared.alloc.Global.{Global}
 use Rattle.std.specs.Io.KnownBytes.{append_known}
 use Rattle.te_ports.specs.Ports.{Rose, AppendsPart}
-use Rattle.te_command.specs.Command.{Command, command_of}
-use Rattle.te_command.specs.Meaning.{IsTold}
+use Rattle.te_command.specs.Files.{Files}
+use Rattle.te_command.specs.Reading.{Reading, Means, Proves, IsTold}
+use Rattle.te_command.specs.Commands.{Command, command_of, reading_of}
+use Rattle.te_command.specs.Form.{IsAnswer}
 
 -- the words as bytes
 abbrev pub texts : Vec (String Global) Global → List (List ℕ)
@@ -17,7 +19,7 @@ OfCommand words P = (command : Command) → command_of words ≡ Some command �
 
 -- a fact of the command of the words, where its files are told
 abbrev pub OfToldCommand : List (List ℕ) → (List ℕ → Option (List ℕ)) → (Command → Type 0) → Type 0
-OfToldCommand words content P = OfCommand words (λ command. IsTold command content → P command)
+OfToldCommand words content P = OfCommand words (λ command. IsTold (reading_of command) content → P command)
 
 -- the message of a status that no file gives: faulty words, failed reads and writes, want of memory
 abbrev pub message : ℕ → List ℕ
@@ -27,22 +29,70 @@ message status =
     else if status == 5 then codes "fault: write" ++ 10 ∷ []
     else codes "fault: memory" ++ 10 ∷ []
 
+-- what a sink holds and how many of its writes failed, before a call and after it
+pub record Change : Type 0 where
+  pub old : Option (List ℕ)
+  pub new : Option (List ℕ)
+  pub before : ℕ
+  pub now : ℕ
+
+abbrev pub change : {S : Type 0} → (S → Option (List ℕ)) → (S → ℕ) → S → S → Change
+change written faults old new = record { old = written old; new = written new; before = faults old; now = faults new }
+
 -- some text with this meaning was appended whole
-abbrev pub Writes : (List ℕ → Type 0) → Option (List ℕ) → Option (List ℕ) → Type 0
-Writes P old new = (text : List ℕ) × P text × (new ≡ append_known old text)
+abbrev pub Writes : (List ℕ → Type 0) → Change → Type 0
+Writes P out = (text : List ℕ) × P text × (out.new ≡ append_known out.old text)
 
 -- a part of some text with this meaning was appended, from its front and not all of it
-abbrev pub WritesPart : (List ℕ → Type 0) → Option (List ℕ) → Option (List ℕ) → Type 0
-WritesPart P old new = (text : List ℕ) × P text × AppendsPart old new text
+abbrev pub WritesPart : (List ℕ → Type 0) → Change → Type 0
+WritesPart P out = (text : List ℕ) × P text × AppendsPart out.old out.new text
 
 -- the whole text was appended, or where faults rose a part of it
-abbrev pub Says : Option (List ℕ) → Option (List ℕ) → ℕ → ℕ → List ℕ → Type 0
-Says old new before now text = (new ≡ append_known old text) ⊎ (AppendsPart old new text × Rose before now)
+abbrev pub Says : Change → List ℕ → Type 0
+Says err text = (err.new ≡ append_known err.old text) ⊎ (AppendsPart err.old err.new text × Rose err.before err.now)
 
 -- some text with this meaning was said
-abbrev pub SaysSome : (List ℕ → Type 0) → Option (List ℕ) → Option (List ℕ) → ℕ → ℕ → Type 0
-SaysSome P old new before now = (text : List ℕ) × P text × Says old new before now text
+abbrev pub SaysSome : (List ℕ → Type 0) → Change → Type 0
+SaysSome P err = (text : List ℕ) × P text × Says err text
 
--- the status is this one, and where its text belongs on the standard output, some text with this meaning stands there
-abbrev pub Answers : ℕ → Option (List ℕ) → Option (List ℕ) → ℕ → (List ℕ → Type 0) → Type 0
-Answers result old new status P = (result ≡ status) × (status ≤ 1 → Writes P old new)
+-- 0, 1, 3 and 7 only where that is what the files mean: the text was written whole, and the message was said. What was
+-- written at 0 is proved, and at 5 it was a part of what was to be written.
+pub record Answered (reading : Reading) (files : Files) (result : ℕ) (out err : Change) : Type 0 where
+  pub yes : result ≡ 0 → Writes (Means reading files 0) out
+  pub no : result ≡ 1 → Writes (Means reading files 1) out
+  pub refused : result ≡ 3 → SaysSome (Means reading files 3) err
+  pub no_path : result ≡ 7 → SaysSome (Means reading files 7) err
+  pub proves : result ≡ 0 → Writes (Proves reading files) out
+  pub part : result ≡ 5 → WritesPart (λ text. Means reading files 0 text ⊎ Means reading files 1 text) out
+
+-- the command may answer so
+pub record HasForm (command : Command) (result : ℕ) (out err : Change) : Type 0 where
+  pub written : result ≤ 1 → Writes (IsAnswer command result) out
+  pub named : result ≡ 7 → SaysSome (IsAnswer command 7) err
+
+-- the status is this one, or that of a failed read, a failed write or the want of memory
+abbrev pub IsOrFails : ℕ → ℕ → Type 0
+IsOrFails result status = (result ≡ status) ⊎ (result ≡ 4) ⊎ (result ≡ 5) ⊎ (result ≡ 6)
+
+-- the status is this one, and where its text belongs on the standard output, some text with this meaning stands there, or
+-- memory was short
+abbrev pub GivesOrMemory : ℕ → Change → ℕ → (List ℕ → Type 0) → Type 0
+GivesOrMemory result out status P = ((result ≡ status) × (status ≤ 1 → Writes P out)) ⊎ (result ≡ 6)
+
+-- nothing else is written to out, nothing to err at 0 and 1, and each other status has its message
+pub record Written (result : ℕ) (out err : Change) : Type 0 where
+  pub known : result ≤ 7
+  pub silent : 2 ≤ result → result ≢ 5 → out.new ≡ out.old
+  pub said : 2 ≤ result → result ≢ 3 → result ≢ 7 → Says err (message result)
+  pub quiet : result ≤ 1 → err.new ≡ err.old
+
+-- no count of faults rises without its status
+pub record Steady (result : ℕ) (before now : List ℕ → ℕ) (out : Change) : Type 0 where
+  pub depot : result ≢ 4 → now ≡ before
+  pub out_faults : result ≢ 5 → out.now ≡ out.before
+
+-- and none falls
+pub record Later (before now : List ℕ → ℕ) (out err : Change) : Type 0 where
+  pub depot : (file : List ℕ) → before file ≤ now file
+  pub out_faults : out.before ≤ out.now
+  pub err_faults : err.before ≤ err.now

@@ -3,19 +3,15 @@ ghost use Rattle.std.specs.Prelude.{◌≡◌};
 
 use te_model::Memory;
 
-/// The answer of a command whose files were read and are not refused.
+/// The answer of a command whose files were read and are not refused, with its text.
 #[derive(Drop)]
 pub enum Answer {
-    /// Yes, and the line that says so.
-    Yes(String),
+    /// What was asked for: a yes, the file that is published, or the report.
+    Done(Vec<u8>),
     /// No, and the line that says so.
-    No(String),
-    /// The file that is published.
-    Published(Vec<u8>),
-    /// The report of the schemes that are compared.
-    Report(Vec<u8>),
+    No(Vec<u8>),
     /// A declared pair has no path, and the line names it.
-    NoPath(String),
+    NoPath(Vec<u8>),
 }
 
 /// Why a command has no answer.

@@ -2,18 +2,16 @@
 #![tactic(auto)]
 
 mod answer;
-mod check;
-mod command;
+mod ask;
+mod commands;
 mod files;
 mod inputs;
+mod kind;
 pub mod laws;
-mod publish;
 mod reasons;
 mod refusal;
-mod report;
 mod top;
+mod words;
+mod writing;
 
 pub use top::run;
-
-#[cfg(test)]
-mod tests;

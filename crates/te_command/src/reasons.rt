@@ -1,6 +1,6 @@
 //! The words for the faults of topologies, matrix files, failure files and plans. No bytes are refused for the want of memory.
-use experiment::PlanFault;
 use failure::FailureFault;
+use plan::PlanFault;
 use std::fmt;
 use topology::TopologyFault;
 use traffic_matrix::MatrixFault;
@@ -11,7 +11,7 @@ pub struct TopologyReason(pub TopologyFault);
 
 impl fmt::Display for TopologyReason {
     ghost use Rattle.std.specs.Prelude.{Some};
-    ghost use Rattle.te_command.specs.Refusals.{topology_reason};
+    ghost use Rattle.te_command.specs.TopologyFile.{topology_reason};
 
     ghost output = { λ reason. Some (topology_reason reason.0) };
 
@@ -35,7 +35,7 @@ pub struct MatrixReason(pub MatrixFault);
 
 impl fmt::Display for MatrixReason {
     ghost use Rattle.std.specs.Prelude.{Some};
-    ghost use Rattle.te_command.specs.Refusals.{matrices_reason};
+    ghost use Rattle.te_command.specs.MatrixFile.{matrices_reason};
 
     ghost output = { λ reason. Some (matrices_reason reason.0) };
 
@@ -60,7 +60,7 @@ pub struct FailureReason(pub FailureFault);
 
 impl fmt::Display for FailureReason {
     ghost use Rattle.std.specs.Prelude.{Some};
-    ghost use Rattle.te_command.specs.Refusals.{failures_reason};
+    ghost use Rattle.te_command.specs.FailureFile.{failures_reason};
 
     ghost output = { λ reason. Some (failures_reason reason.0) };
 
@@ -82,7 +82,7 @@ pub struct PlanReason(pub PlanFault);
 
 impl fmt::Display for PlanReason {
     ghost use Rattle.std.specs.Prelude.{Some};
-    ghost use Rattle.te_command.specs.Refusals.{plan_reason};
+    ghost use Rattle.te_command.specs.PlanFile.{plan_reason};
 
     ghost output = { λ reason. Some (plan_reason reason.0) };
 

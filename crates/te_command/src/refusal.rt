@@ -1,17 +1,15 @@
 //! Why a file is refused.
 use crate::reasons::{FailureReason, MatrixReason, PlanReason, TopologyReason};
-use experiment::PlanFault;
 use failure::FailureFault;
+use plan::PlanFault;
 use std::fmt;
 use te_model::RuleFault;
 use topology::TopologyFault;
 use traffic_matrix::MatrixFault;
 
-/// Why a file is refused. It shows as the words after the file's name.
+/// Why the bytes of a file are refused. It shows as the words after the file's name.
 #[derive(Clone, Copy, Debug, PartialEq, Eq)]
 pub enum Refusal {
-    /// It has more bytes than a file of its kind may have.
-    TooLong,
     /// Of a certificate: the first line, counted from 1, at which the bytes leave the grammar.
     Shape(u64),
     /// Of a certificate: the first rule that fails of what the bytes spell.
@@ -26,6 +24,15 @@ pub enum Refusal {
     Plan(PlanFault),
 }
 
+/// Why the bytes of a file give no value.
+#[derive(Clone, Copy, Debug, PartialEq, Eq)]
+pub enum BytesFault {
+    /// They are refused.
+    Refused(Refusal),
+    /// Memory was short.
+    Memory,
+}
+
 impl fmt::Display for Refusal {
     ghost use Rattle.std.specs.Prelude.{Some};
     ghost use Rattle.te_command.specs.Refusals.{reason};
@@ -34,7 +41,6 @@ impl fmt::Display for Refusal {
 
     fn fmt<W: fmt::Write>(&self, f: &mut fmt::Formatter<W>) -> fmt::Result {
         match self {
-            Refusal::TooLong => write!(f, "too long"),
             Refusal::Shape(line) => write!(f, "shape at line {line}"),
             Refusal::Rule(RuleFault { number, place }) => write!(f, "rule V{number} at {place}"),
             Refusal::Topology(fault) => write!(f, "{}", TopologyReason(*fault)),

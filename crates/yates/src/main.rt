@@ -1,21 +1,34 @@
 //! The program: the words, files and streams of the system, and the top call.
 #![tactic(auto)]
 
-use std::env;
+ghost use Rattle.std.specs.Prelude.{◌≡◌, ◌≢◌, [], IfErr, IfOk, OnOk};
+ghost use Rattle.std.specs.IoError.{error_kind};
+
+use std::alloc::{AllocError, Global};
+use std::env::{self, Args};
+use std::io::{self, ErrorKind};
 use std::process::ExitCode;
 use te_command::run;
 use te_ports::{RealDepot, RealSink, put_all};
+
+// The words after the program's name. Words that are no text are no form of a command, as no words are; the want of memory
+// is none of these.
+fn words_after_name(alloc: Global, args: io::Result<Args>) -> Result<Vec<String>, AllocError>
+    ensures short { IfErr args (λ fault. error_kind fault ≡ ErrorKind.OutOfMemory → OnOk result ⊥) }
+    ensures no_text { IfErr args (λ fault. error_kind fault ≢ ErrorKind.OutOfMemory → IfOk result (λ words. words.items ≡ [])) }
+{
+    match args {
+        Ok(args) => args.skip(1).collect::<Vec<String>>(alloc),
+        Err(fault) if fault.kind() == ErrorKind::OutOfMemory => Err(AllocError),
+        Err(_) => Ok(Vec::new(alloc)),
+    }
+}
 
 fn main(rt: HostRuntime) -> ExitCode {
     let alloc = rt.alloc();
     let mut out = RealSink::new(rt.stdout());
     let mut err = RealSink::new(rt.stderr());
-    // Words that are no text are no form of a command, as no words are.
-    let words = match env::args(&rt) {
-        Ok(args) => args.skip(1).collect::<Vec<String>>(alloc),
-        Err(_) => Ok(Vec::new(alloc)),
-    };
-    let Ok(words) = words else {
+    let Ok(words) = words_after_name(alloc, env::args(&rt)) else {
         let _ = put_all(&mut err, b"fault: memory\n");
         return ExitCode::from(6);
     };

@@ -1,0 +1,178 @@
+//! Files that change while they are read, and files without an end. What is answered is what the reads on record gave.
+use crate::call::{File, depot_of, leaves_over, says};
+use crate::certificates::{SMALLEST, SMALLEST_WITH_LESS};
+use std::alloc::Global;
+use std::process::Abort;
+use std::test::Fail;
+use te_ports::{Depot, Entry, Failed, MemDepot, RecordDepot};
+
+/// Files of which each read finds the next version. The last version stays.
+#[derive(Drop)]
+struct ChangingDepot {
+    versions: Vec<MemDepot>,
+    reads: usize,
+    faults: u64,
+}
+
+impl Depot for ChangingDepot {
+    ghost use Rattle.std.specs.Prelude.{None};
+    ghost use Rattle.te_ports.specs.PieceOf.{nothing_is_told};
+
+    ghost content = { λ _ _. None };
+
+    ghost faults = { λ d _. d.faults };
+
+    ghost gave = { λ _ _ _ _. Unit {0} };
+
+    ghost gave_told = { λ _ _ told is at bytes _. nothing_is_told told at bytes is };
+
+    fn fetch(&mut self, name: &str, at: u64, buf: &mut [u8]) -> Result<usize, Failed> {
+        let version = self.reads.min(self.versions.len().saturating_sub(1));
+        self.reads = self.reads.saturating_add(1);
+        if let Some(depot) = self.versions.get_mut(version) {
+            if let Ok(count) = depot.fetch(name, at, buf) {
+                return Ok(count);
+            }
+        }
+        self.faults = self.faults.saturating_add(1);
+        Err(Failed)
+    }
+}
+
+/// Files without an end: each read leaves the room as it is, and says that it is full.
+#[derive(Drop)]
+struct EndlessDepot {
+    faults: u64,
+}
+
+impl Depot for EndlessDepot {
+    ghost use Rattle.std.specs.Prelude.{None};
+    ghost use Rattle.te_ports.specs.PieceOf.{nothing_is_told};
+
+    ghost content = { λ _ _. None };
+
+    ghost faults = { λ d _. d.faults };
+
+    ghost gave = { λ _ _ _ _. Unit {0} };
+
+    ghost gave_told = { λ _ _ told is at bytes _. nothing_is_told told at bytes is };
+
+    fn fetch(&mut self, _name: &str, _at: u64, buf: &mut [u8]) -> Result<usize, Failed> {
+        Ok(buf.len())
+    }
+}
+
+/// The files that the reads gave, each to its end. A file that was not read to its end is not there.
+fn files_on_record(rt: &impl Abort, alloc: Global, reads: &[Entry]) -> Result<MemDepot, Fail> {
+    let mut depot = depot_of(alloc, &[])?;
+    let mut bytes: Vec<u8> = Vec::new(alloc);
+    for read in reads {
+        assert_eq!(rt; read.at, bytes.len() as u64);
+        bytes.extend_from_slice(&read.bytes)?;
+        if read.bytes.is_empty() {
+            depot.add(&read.name, &bytes)?;
+            bytes.clear();
+        }
+    }
+    Ok(depot)
+}
+
+const SPF: &str = "{\"topology\":\"t\",\"matrices\":\"m\",\"publish\":\"spf\"}";
+
+/// A demand from a to c.
+const DEMAND: &str = "step,source,target,demand\n0,a,c,1\n";
+
+/// The versions of the files at one read after the other, the words, and the status and text that they leave. A read gives at
+/// most 64 bytes, and the ratio of a certificate stands in its second piece.
+const CHANGES: &[(&[&[File<'static>]], &[&str], u8, &str)] = &[
+    // The file is replaced by another, either way.
+    (
+        &[&[("c", &[SMALLEST])], &[("c", SMALLEST_WITH_LESS)]],
+        &["check", "c"],
+        1,
+        "no link 0 rule I4 place 0\n",
+    ),
+    (
+        &[&[("c", SMALLEST_WITH_LESS)], &[("c", &[SMALLEST])]],
+        &["check", "c"],
+        0,
+        "yes ratio 1000000 set all\n",
+    ),
+    // It is replaced by a shorter one, and back: the last byte is read twice.
+    (
+        &[
+            &[("c", &[SMALLEST])],
+            &[("c", SMALLEST_WITH_LESS)],
+            &[("c", &[SMALLEST])],
+        ],
+        &["check", "c"],
+        3,
+        "refused: c: shape at line 17\n",
+    ),
+    // It is cut, written late, or deleted.
+    (
+        &[&[("c", &[SMALLEST])], &[("c", &[""])]],
+        &["check", "c"],
+        3,
+        "refused: c: shape at line 9\n",
+    ),
+    (
+        &[&[("c", &[""])], &[("c", &[SMALLEST])]],
+        &["check", "c"],
+        3,
+        "refused: c: shape at line 1\n",
+    ),
+    (
+        &[&[("c", &[SMALLEST])], &[]],
+        &["check", "c"],
+        4,
+        "fault: read\n",
+    ),
+    // The topology is replaced once the plan is read: the way from a to c is gone.
+    (
+        &[
+            &[("p", &[SPF])],
+            &[
+                ("p", &[SPF]),
+                ("t", &["source,target,capacity,cost\na,b,10,1\nb,c,10,1\n"]),
+            ],
+            &[
+                ("t", &["source,target,capacity,cost\na,b,10,1\nc,b,10,1\n"]),
+                ("m", &[DEMAND]),
+            ],
+        ],
+        &["publish", "p"],
+        7,
+        "no path: a c\n",
+    ),
+];
+
+#[test]
+fn what_reads_gave_is_answered(rt: HostRuntime) -> Result<(), Fail> {
+    let alloc = rt.alloc();
+    for row in CHANGES {
+        let (all_files, words, status, text) = *row;
+        let mut versions = Vec::new(alloc);
+        for files in all_files {
+            versions.push(depot_of(alloc, files)?)?;
+        }
+        let changing = ChangingDepot {
+            versions,
+            reads: 0,
+            faults: 0,
+        };
+        let mut depot = RecordDepot::new(alloc, changing);
+        let call = says(words, &[], 0, status, text);
+        leaves_over(&rt, alloc, &call, &mut depot)?;
+        let mut told = files_on_record(&rt, alloc, depot.reads())?;
+        leaves_over(&rt, alloc, &call, &mut told)?;
+    }
+    Ok(())
+}
+
+#[test]
+fn a_file_without_an_end_is_too_long(rt: HostRuntime) -> Result<(), Fail> {
+    let mut depot = EndlessDepot { faults: 0 };
+    let call = says(&["publish", "p"], &[], 0, 3, "refused: p: too long\n");
+    leaves_over(&rt, rt.alloc(), &call, &mut depot)
+}

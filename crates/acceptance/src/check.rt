@@ -1,0 +1,246 @@
+//! The command `check`.
+use crate::call::{Call, Out, leaves, says};
+use crate::certificates::{
+    BLOCK_OF_NO_LINK, CUT, LEADING_ZERO, MANY_BLOCKS, MANY_NODES, MANY_PAIRS, MANY_PATHS,
+    NO_CAPACITY, PAIR_OF_ONE_NODE, PARALLEL_LIGHT, PARALLEL_WHOLE, PARALLEL_WITHOUT_SECOND,
+    PATHS_OUT_OF_ORDER, SMALLEST, SMALLEST_WITH_LESS, TRIANGLE_FOR_ALL, TRIANGLE_FOR_ALL_WITH_LESS,
+    TRIANGLE_FOR_MARGIN, TRIANGLE_SMALL_MARGIN, TRIANGLE_TWICE_A_NODE, TRIANGLE_WITHOUT_MINUS,
+    TWICE_A_NAME, UNENDED, UNREACHED_HIGH, UNREACHED_TOO_LOW, WIDE_NODES, WIDE_RATIO, WIDE_WEIGHT,
+};
+use std::test::Fail;
+
+const YES: &str = "yes ratio 1000000 set all\n";
+
+const YES_TWICE: &str = "yes ratio 2000000 set all\n";
+
+const YES_MARGIN: &str = "yes ratio 1000000 set margin 1 1\n";
+
+const OVER_CAPACITY: &str = "no link 0 rule I4 place 0\n";
+
+const NO_NETWORK: &str = "no network\n";
+
+/// A certificate, and the status and text that it leaves.
+const CERTIFICATES: &[(&[&str], u8, &str)] = &[
+    (&[SMALLEST], 0, YES),
+    (SMALLEST_WITH_LESS, 1, OVER_CAPACITY),
+    (PARALLEL_WHOLE, 0, YES_TWICE),
+    (PARALLEL_WITHOUT_SECOND, 1, "no link 1 rule I2 place 0\n"),
+    (TRIANGLE_FOR_ALL, 0, YES_TWICE),
+    (TRIANGLE_FOR_ALL_WITH_LESS, 1, OVER_CAPACITY),
+    (TRIANGLE_FOR_MARGIN, 0, YES_MARGIN),
+    (TRIANGLE_WITHOUT_MINUS, 1, "no link 0 rule I3 place 0\n"),
+    // A node out of reach has a potential too.
+    (UNREACHED_TOO_LOW, 1, "no link 0 rule I1 place 2\n"),
+    (UNREACHED_HIGH, 0, YES),
+    (TWICE_A_NAME, 3, "refused: c: rule V1 at 1\n"),
+    (NO_CAPACITY, 3, "refused: c: rule V2 at 0\n"),
+    (PAIR_OF_ONE_NODE, 3, "refused: c: rule V3 at 0\n"),
+    (TRIANGLE_TWICE_A_NODE, 3, "refused: c: rule V4 at 0\n"),
+    (PATHS_OUT_OF_ORDER, 3, "refused: c: rule V5 at 0\n"),
+    (PARALLEL_LIGHT, 3, "refused: c: rule V6 at 0\n"),
+    (TRIANGLE_SMALL_MARGIN, 3, "refused: c: rule V7 at 0\n"),
+    (WIDE_RATIO, 3, "refused: c: rule V8 at 0\n"),
+    (BLOCK_OF_NO_LINK, 3, "refused: c: rule V8 at 1\n"),
+    (WIDE_WEIGHT, 3, "refused: c: rule V9 at 0\n"),
+    (LEADING_ZERO, 3, "refused: c: shape at line 11\n"),
+    (UNENDED, 3, "refused: c: shape at line 16\n"),
+    (&[SMALLEST, "x"], 3, "refused: c: shape at line 17\n"),
+    (&[""], 3, "refused: c: shape at line 1\n"),
+    (CUT, 3, "refused: c: shape at line 16\n"),
+    (MANY_NODES, 3, "refused: c: shape at line 2\n"),
+    (WIDE_NODES, 3, "refused: c: shape at line 2\n"),
+    (MANY_PAIRS, 3, "refused: c: shape at line 7\n"),
+    (MANY_PATHS, 3, "refused: c: shape at line 8\n"),
+    (MANY_BLOCKS, 3, "refused: c: shape at line 16\n"),
+];
+
+#[test]
+fn certificates_are_judged(rt: HostRuntime) -> Result<(), Fail> {
+    for row in CERTIFICATES {
+        let (certificate, status, text) = *row;
+        let files = [("c", certificate)];
+        let call = says(&["check", "c"], &files, 1, status, text);
+        leaves(&rt, rt.alloc(), &call)?;
+    }
+    Ok(())
+}
+
+/// The header of a topology, and the row of the link of the smallest certificate.
+const HEADER: &str = "source,target,capacity,cost\n";
+
+const ROW: &str = "a,b,10,1\n";
+
+/// Twenty-seven such rows.
+const ROWS: &str =
+    "a,b,10,1\na,b,10,1\na,b,10,1\na,b,10,1\na,b,10,1\na,b,10,1\na,b,10,1\na,b,10,1\na,b,10,1\na,b,10,1\na,b,10,1\na,b,10,1\na,b,10,1\na,b,10,1\na,b,10,1\na,b,10,1\na,b,10,1\na,b,10,1\na,b,10,1\na,b,10,1\na,b,10,1\na,b,10,1\na,b,10,1\na,b,10,1\na,b,10,1\na,b,10,1\na,b,10,1\n";
+
+/// A link more than a topology may have.
+const MANY_LINKS: &[&str] = &[
+    HEADER, ROWS, ROWS, ROWS, ROWS, ROWS, ROWS, ROWS, ROWS, ROWS, ROWS, ROWS, ROWS, ROWS, ROWS,
+    ROWS, ROWS, ROWS, ROWS, ROWS,
+];
+
+/// A certificate and a topology, how many of the two are read, and the status and text that they leave.
+const NETWORKS: &[(&[&str], &[&str], usize, u8, &str)] = &[
+    (&[SMALLEST], &[HEADER, ROW], 2, 0, YES),
+    (&[SMALLEST], &[HEADER, "a,b,11,1\n"], 2, 1, NO_NETWORK),
+    (&[SMALLEST], &[HEADER, "a,c,10,1\n"], 2, 1, NO_NETWORK),
+    (SMALLEST_WITH_LESS, &[HEADER, ROW], 2, 1, OVER_CAPACITY),
+    // The network stands before the inequalities.
+    (
+        SMALLEST_WITH_LESS,
+        &[HEADER, "a,b,11,1\n"],
+        2,
+        1,
+        NO_NETWORK,
+    ),
+    (
+        &[SMALLEST],
+        &["source,target,capacity\n"],
+        2,
+        3,
+        "refused: t: header\n",
+    ),
+    (
+        &[SMALLEST],
+        &[HEADER, ROW, "a,b,10\n"],
+        2,
+        3,
+        "refused: t: fields at row 2\n",
+    ),
+    (
+        &[SMALLEST],
+        &[HEADER, "a,b c,10,1\n"],
+        2,
+        3,
+        "refused: t: name at row 1\n",
+    ),
+    (
+        &[SMALLEST],
+        &[HEADER, "a,b,0,1\n"],
+        2,
+        3,
+        "refused: t: number at row 1\n",
+    ),
+    (
+        &[SMALLEST],
+        &[HEADER, ROW, "b,b,10,1\n"],
+        2,
+        3,
+        "refused: t: self link at row 2\n",
+    ),
+    (
+        &[SMALLEST],
+        MANY_LINKS,
+        2,
+        3,
+        "refused: t: too many at row 513\n",
+    ),
+    (&[SMALLEST], &[HEADER], 2, 3, "refused: t: empty\n"),
+    (&[SMALLEST], &[], 1, 4, "fault: read\n"),
+    // A certificate that is refused needs no topology.
+    (&[""], &[], 1, 3, "refused: c: shape at line 1\n"),
+];
+
+#[test]
+fn networks_are_compared(rt: HostRuntime) -> Result<(), Fail> {
+    for row in NETWORKS {
+        let (certificate, topology, read, status, text) = *row;
+        let files = [("c", certificate), ("t", topology)];
+        let call = says(&["check", "c", "t"], &files, read, status, text);
+        leaves(&rt, rt.alloc(), &call)?;
+    }
+    // One file for both words is read twice, and is no topology.
+    let files: [(&str, &[&str]); 2] = [("c", &[SMALLEST]), ("c", &[SMALLEST])];
+    let call = says(&["check", "c", "c"], &files, 2, 3, "refused: c: header\n");
+    leaves(&rt, rt.alloc(), &call)
+}
+
+/// Words that are no form of a command.
+const NO_COMMANDS: &[&[&str]] = &[
+    &[],
+    &["check"],
+    &["Check", "c"],
+    &["check", "c", "t", "t"],
+    &["publish"],
+    &["run", "p", "p"],
+    &["yates", "check", "c"],
+];
+
+#[test]
+fn words_are_refused(rt: HostRuntime) -> Result<(), Fail> {
+    for words in NO_COMMANDS {
+        leaves(&rt, rt.alloc(), &says(words, &[], 0, 2, "usage\n"))?;
+    }
+    Ok(())
+}
+
+/// The smallest certificate is judged. The read and the write after the last would fail.
+const JUDGED: Call<'static> = Call {
+    words: &["check", "c"],
+    files: &[("c", &[SMALLEST])],
+    read: 1,
+    failing_fetch: Some(3),
+    failing_put: Some(7),
+    room_of_err: 200,
+    status: 0,
+    out: Out::Text(YES),
+    err: "",
+};
+
+/// A read of it fails.
+const UNREAD: Call<'static> = Call {
+    read: 0,
+    status: 4,
+    out: Out::Text(""),
+    err: "fault: read\n",
+    ..JUDGED
+};
+
+const FAULTS: &[Call<'static>] = &[
+    JUDGED,
+    Call {
+        failing_fetch: Some(0),
+        ..UNREAD
+    },
+    // The read that would find the end.
+    Call {
+        failing_fetch: Some(2),
+        ..UNREAD
+    },
+    Call {
+        words: &["check", "d"],
+        ..UNREAD
+    },
+    // The line is written in part.
+    Call {
+        failing_put: Some(1),
+        status: 5,
+        out: Out::Text("yes "),
+        err: "fault: write\n",
+        ..JUDGED
+    },
+    // A failed write of the message changes no status.
+    Call {
+        failing_fetch: Some(0),
+        room_of_err: 0,
+        err: "",
+        ..UNREAD
+    },
+    Call {
+        words: &[],
+        read: 0,
+        room_of_err: 3,
+        status: 2,
+        err: "usa",
+        ..UNREAD
+    },
+];
+
+#[test]
+fn faults_are_told(rt: HostRuntime) -> Result<(), Fail> {
+    for call in FAULTS {
+        leaves(&rt, rt.alloc(), call)?;
+    }
+    Ok(())
+}

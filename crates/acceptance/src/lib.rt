@@ -1,0 +1,15 @@
+//! Tests of the whole program: its top call, over files and sinks in memory. There is nothing else here.
+#![tactic(auto)]
+
+#[cfg(test)]
+mod call;
+#[cfg(test)]
+mod certificates;
+#[cfg(test)]
+mod changes;
+#[cfg(test)]
+mod check;
+#[cfg(test)]
+mod publish;
+#[cfg(test)]
+mod report;

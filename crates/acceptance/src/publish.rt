@@ -1,0 +1,250 @@
+//! The command `publish`.
+use crate::call::{Call, Out, leaves, publishes, says};
+use std::test::Fail;
+
+const SPF: &str = "{\"topology\":\"t\",\"matrices\":\"m\",\"publish\":\"spf\"}";
+
+/// Links from a to b and from b to c.
+const LINE: &str = "source,target,capacity,cost\na,b,10,1\nb,c,10,1\n";
+
+/// A demand from a to b.
+const DEMAND: &str = "step,source,target,demand\n0,a,b,1\n";
+
+/// A plan, a topology and matrices, and what stands in the certificate.
+const CERTIFICATES: &[(&[&str], &[&str], &[&str], &str)] = &[
+    // The cheaper of two parallel links carries all, and a rival has the capacity of both.
+    (
+        &[SPF],
+        &["source,target,capacity,cost\na,b,4294967296,2\na,b,1,1\n"],
+        &[DEMAND],
+        "\nset all\nratio 4294967297000000\nblocks 1\n",
+    ),
+    (
+        &[SPF],
+        &[LINE],
+        &["step,source,target,demand\n"],
+        "\npairs 0\nset all\nratio 0\nblocks 0\nend\n",
+    ),
+    (
+        &["{\"topology\":\"t\",\"matrices\":\"m\",\"publish\":\"ksp\",\"k\":2}"],
+        &["source,target,capacity,cost\na,b,10,1\na,b,30,1\n"],
+        &[DEMAND],
+        "\nratio 2000000\n",
+    ),
+    (
+        &["{\"topology\":\"t\",\"matrices\":\"m\",\"publish\":\"ecmp\"}"],
+        &["source,target,capacity,cost\na,b,10,1\na,b,30,1\n"],
+        &[DEMAND],
+        "\n0 1 2\n500000 1 0\n500000 1 1\nset all\nratio 2000000\n",
+    ),
+    // The trees of the default scheme have one path for each pair.
+    (
+        &["{\"topology\":\"t\",\"matrices\":\"m\"}"],
+        &["source,target,capacity,cost\na,b,10,1\nb,a,10,1\n"],
+        &["step,source,target,demand\n0,a,b,1\n0,b,a,1\n"],
+        "\n0 1 1\n1000000 1 0\n1 0 1\n1000000 1 1\nset all\nratio 2000000\n",
+    ),
+    (
+        &["{\"topology\":\"t\",\"matrices\":\"m\",\"publish\":\"spf\",\"margin\":[1,1]}"],
+        &["source,target,capacity,cost\na,c,10,1\nb,c,10,1\na,b,10,1\nb,a,10,1\n"],
+        &["step,source,target,demand\n0,a,c,10\n0,b,c,10\n1,a,c,7\n"],
+        "\nset margin 1 1\nbase 10 10\nratio 2000000\n",
+    ),
+];
+
+#[test]
+fn certificates_are_published(rt: HostRuntime) -> Result<(), Fail> {
+    for row in CERTIFICATES {
+        let (plan, topology, matrices, text) = *row;
+        let files = [("p", plan), ("t", topology), ("m", matrices)];
+        let call = publishes(&["publish", "p"], &files, 3, text);
+        leaves(&rt, rt.alloc(), &call)?;
+    }
+    Ok(())
+}
+
+/// A plan, a topology and matrices, how many of them are read, and the status and text that they leave.
+const REFUSALS: &[(&[&str], &[&str], &[&str], usize, u8, &str)] = &[
+    // Pairs ascend by their nodes, whatever the order of the rows is.
+    (
+        &[SPF],
+        &[LINE],
+        &["step,source,target,demand\n0,a,b,1\n0,a,c,1\n0,c,a,1\n"],
+        3,
+        7,
+        "no path: c a\n",
+    ),
+    (
+        &[SPF],
+        &[LINE],
+        &["step,source,target,demand\n0,c,a,1\n0,b,a,1\n"],
+        3,
+        7,
+        "no path: b a\n",
+    ),
+    // A plan that is refused needs no topology, and a topology that is refused no matrices.
+    (&["{}"], &[], &[], 1, 3, "refused: p: missing topology\n"),
+    (
+        &["{\"topology\":\"t\"}"],
+        &[],
+        &[],
+        1,
+        3,
+        "refused: p: missing matrices\n",
+    ),
+    (&["[]"], &[], &[], 1, 3, "refused: p: kind of plan\n"),
+    (&["{"], &[], &[], 1, 3, "refused: p: not json\n"),
+    (&["{\"a\":1}"], &[], &[], 1, 3, "refused: p: unknown key\n"),
+    (
+        &["{\"topology\":\"\",\"matrices\":\"m\"}"],
+        &[],
+        &[],
+        1,
+        3,
+        "refused: p: range of topology\n",
+    ),
+    (
+        &["{\"topology\":\"t\",\"matrices\":\"m\",\"k\":\"4\"}"],
+        &[],
+        &[],
+        1,
+        3,
+        "refused: p: kind of k\n",
+    ),
+    (
+        &["{\"topology\":\"t\",\"matrices\":\"m\",\"k\":0}"],
+        &[],
+        &[],
+        1,
+        3,
+        "refused: p: range of k\n",
+    ),
+    (
+        &["{\"topology\":\"t\",\"matrices\":\"m\",\"recovery\":\"hope\"}"],
+        &[],
+        &[],
+        1,
+        3,
+        "refused: p: range of recovery\n",
+    ),
+    (
+        &["{\"topology\":\"t\",\"matrices\":\"m\",\"schemes\":[\"spf\",\"best\"]}"],
+        &[],
+        &[],
+        1,
+        3,
+        "refused: p: scheme name of schemes\n",
+    ),
+    (
+        &["{\"topology\":\"t\",\"matrices\":\"m\",\"publish\":\"smore\"}"],
+        &[],
+        &[],
+        1,
+        3,
+        "refused: p: scheme name of publish\n",
+    ),
+    (
+        &[SPF],
+        &["source,target,capacity,cost\n"],
+        &[],
+        2,
+        3,
+        "refused: t: empty\n",
+    ),
+    (&[SPF], &[LINE], &[LINE], 3, 3, "refused: m: header\n"),
+    (
+        &[SPF],
+        &[LINE],
+        &[DEMAND, "0,a,b\n"],
+        3,
+        3,
+        "refused: m: fields at row 2\n",
+    ),
+    // Matrices are refused before a pair without a path is named.
+    (
+        &[SPF],
+        &[LINE],
+        &["step,source,target,demand\n0,c,a,1\n0,a,z,1\n"],
+        3,
+        3,
+        "refused: m: unknown node at row 2\n",
+    ),
+    (
+        &[SPF],
+        &[LINE],
+        &[DEMAND, "0,b,c,-1\n"],
+        3,
+        3,
+        "refused: m: number at row 2\n",
+    ),
+    (
+        &[SPF],
+        &[LINE],
+        &["step,source,target,demand\n1,a,b,1\n0,b,c,1\n"],
+        3,
+        3,
+        "refused: m: order at row 2\n",
+    ),
+    (
+        &[SPF],
+        &[LINE],
+        &[DEMAND, "0,a,b,2\n"],
+        3,
+        3,
+        "refused: m: repeated at row 2\n",
+    ),
+    (
+        &[SPF],
+        &[LINE],
+        &[DEMAND, "0,c,c,1\n"],
+        3,
+        3,
+        "refused: m: self pair at row 2\n",
+    ),
+    (
+        &[SPF],
+        &[LINE],
+        &[DEMAND, "1024,a,b,1\n"],
+        3,
+        3,
+        "refused: m: too many steps at row 2\n",
+    ),
+    (&[], &[LINE], &[DEMAND], 0, 4, "fault: read\n"),
+    (&[SPF], &[], &[DEMAND], 1, 4, "fault: read\n"),
+    (&[SPF], &[LINE], &[], 2, 4, "fault: read\n"),
+];
+
+#[test]
+fn files_of_publish_are_refused(rt: HostRuntime) -> Result<(), Fail> {
+    for row in REFUSALS {
+        let (plan, topology, matrices, read, status, text) = *row;
+        let files = [("p", plan), ("t", topology), ("m", matrices)];
+        let call = says(&["publish", "p"], &files, read, status, text);
+        leaves(&rt, rt.alloc(), &call)?;
+    }
+    Ok(())
+}
+
+/// A read that fails, the first being number 0, and how many files were read before. Each file has two reads, of which the
+/// second gives nothing.
+const FAILING_READS: &[(u64, usize)] = &[(1, 0), (3, 1), (5, 2)];
+
+#[test]
+fn faults_of_publish_are_told(rt: HostRuntime) -> Result<(), Fail> {
+    let files: [(&str, &[&str]); 3] = [("p", &[SPF]), ("t", &[LINE]), ("m", &[DEMAND])];
+    for row in FAILING_READS {
+        let (fetch, read) = *row;
+        let call = Call {
+            failing_fetch: Some(fetch),
+            ..says(&["publish", "p"], &files, read, 4, "fault: read\n")
+        };
+        leaves(&rt, rt.alloc(), &call)?;
+    }
+    // The first line is written in part.
+    let call = Call {
+        failing_put: Some(2),
+        out: Out::Text("yates-ra"),
+        ..says(&["publish", "p"], &files, 3, 5, "fault: write\n")
+    };
+    leaves(&rt, rt.alloc(), &call)
+}

@@ -1,0 +1,100 @@
+-- What reads gave of told files is what is told.
+use Rattle.std.proofs.Common.{◌≡◌, ℕ, ◌+◌, ◌<◌, ◌≤◌, List, [], length, take, Option, Some, Result, Ok, Err, inl, inr, refl, sym, ap, ◌∙◌, subst, arith, length-take}
+use Rattle.std.proofs.lemmas.Grind.{common_steps}
+use Rattle.te_ports.specs.Ports.{Told}
+use Rattle.te_ports.specs.Record.{IsPiece, IsPieceOf, HasGiven, nothing, more, IsRead, IsReadPast}
+use Rattle.te_ports.specs.PieceOf.{piece_of_told}
+use Rattle.te_ports.proofs.Giving.{read_is, past_is}
+use Rattle.te_command.specs.Files.{Files, given, told, known}
+use Rattle.te_command.specs.Reading.{Kind, Reading, answers, reads, GivesIn, Means, IsTold, ReadFailed}
+
+-- what reads gave of told files are pieces of them
+abbrev pub Agrees : (List ℕ → Option (List ℕ)) → (List ℕ → ℕ → List ℕ → Type 0) → Type 0
+Agrees content gave = (name bytes : List ℕ) → content name ≡ Some bytes → (at : ℕ) (piece : List ℕ) → gave name at piece → IsPiece bytes at piece
+
+-- no less is known of files
+pub record Covers (f g : Files) : Type 0 where
+  pub whole : (file bytes : List ℕ) → f.whole file bytes → g.whole file bytes
+  pub longer : (file : List ℕ) (limit : ℕ) → f.longer file limit → g.longer file limit
+
+-- what reads gave of a told file is what is told
+pub given_is_known : (content : List ℕ → Option (List ℕ)) (gave : List ℕ → ℕ → List ℕ → Type 0) → Agrees content gave → Covers (given gave) (known gave content)
+given_is_known content gave agrees = record {
+  whole = λ file bytes read. (read, λ all at. read_is (gave file) all bytes (agrees file all at) read);
+  longer = λ file limit past. (past, λ all at. past_is (gave file) all limit (agrees file all at) past);
+}
+
+pub means_along : (r : Reading) (f g : Files) (s : ℕ) (text : List ℕ) → Covers f g → Means r f s text → Means r g s text
+means_along (answers a) f g s text covers means = means
+means_along (reads A kind file next) f g s text covers (inl (three, inl (past, line))) = inl (three, inl (covers.longer file kind.limit past, line))
+means_along (reads A kind file next) f g s text covers (inl (three, inr (bytes, words, read, few, refused, line))) =
+    inl (three, inr (bytes, words, covers.whole file bytes read, few, refused, line))
+means_along (reads A kind file next) f g s text covers (inr (value, (bytes, read, few, gives), later)) =
+    inr (value, (bytes, covers.whole file bytes read, few, gives), means_along (next value) f g s text covers later)
+
+pub failed_along : (r : Reading) (f g : Files) (Fails : List ℕ → Type 0) → Covers f g → ReadFailed r f Fails → ReadFailed r g Fails
+failed_along (answers a) f g Fails covers failed = failed
+failed_along (reads A kind file next) f g Fails covers (inl here) = inl here
+failed_along (reads A kind file next) f g Fails covers (inr (value, (bytes, read, few, gives), later)) =
+    inr (value, (bytes, covers.whole file bytes read, few, gives), failed_along (next value) f g Fails covers later)
+
+-- what is known of files that are told is what is told
+pub means_told : (r : Reading) (content : List ℕ → Option (List ℕ)) (gave : List ℕ → ℕ → List ℕ → Type 0) (s : ℕ) (text : List ℕ) →
+    IsTold r content → Means r (known gave content) s text → Means r (told content) s text
+means_told (answers a) content gave s text is means = means
+means_told (reads A kind file next) content gave s text (all, at, rest) (inl (three, inl ((past, long), line))) =
+    inl (three, inl ((all, at, long all at), line))
+means_told (reads A kind file next) content gave s text (all, at, rest) (inl (three, inr (bytes, words, (read, is), few, refused, line))) =
+    let same : bytes ≡ all = is all at in
+    inl (three, inr (bytes, words, at ∙ ap Some (sym same), few, refused, line))
+means_told (reads A kind file next) content gave s text (all, at, rest) (inr (value, (bytes, (read, is), few, gives), later)) =
+    let same : bytes ≡ all = is all at in
+    let on = rest (subst (λ b. length b ≤ kind.limit) same few) value (subst (λ b. kind.gives b (Ok value)) same gives) in
+    inr (value, (bytes, at ∙ ap Some (sym same), few, gives), means_told (next value) content gave s text on later)
+
+pub failed_told : (r : Reading) (content : List ℕ → Option (List ℕ)) (gave : List ℕ → ℕ → List ℕ → Type 0) (Fails : List ℕ → Type 0) →
+    IsTold r content → ReadFailed r (known gave content) Fails → ReadFailed r (told content) Fails
+failed_told (answers a) content gave Fails is failed = failed
+failed_told (reads A kind file next) content gave Fails is (inl here) = inl here
+failed_told (reads A kind file next) content gave Fails (all, at, rest) (inr (value, (bytes, (read, is), few, gives), later)) =
+    let same : bytes ≡ all = is all at in
+    let on = rest (subst (λ b. length b ≤ kind.limit) same few) value (subst (λ b. kind.gives b (Ok value)) same gives) in
+    inr (value, (bytes, at ∙ ap Some (sym same), few, gives), failed_told (next value) content gave Fails on later)
+
+-- where reads give just the pieces of what is told
+whole_from : (all : Option (List ℕ)) (bytes : List ℕ) → IsRead (IsPieceOf all) bytes → all ≡ Some bytes
+whole_from all bytes read =
+    let last = read.ends in
+    last.1 ∙ ap Some (sym (read_is (IsPieceOf all) last.0 bytes (λ at piece. piece_of_told all last.0 at piece last.1) read))
+
+whole_to : (all : Option (List ℕ)) (bytes : List ℕ) → all ≡ Some bytes → IsRead (IsPieceOf all) bytes
+whole_to all bytes is = record {
+  given = more bytes [] bytes (nothing [] refl) (bytes, is, record { bytes_are = grind (arith, common_steps); ends = λ none. omega arith }) refl;
+  ends = (bytes, is, record { bytes_are = grind (arith, common_steps); ends = λ none. omega arith });
+}
+
+content_of : (all : Option (List ℕ)) (limit : ℕ) → IsReadPast (IsPieceOf all) limit → (front : List ℕ) → HasGiven (IsPieceOf all) front →
+    length front ≡ limit + 1 → (bytes : List ℕ) × (all ≡ Some bytes) × (limit < length bytes)
+content_of all limit past _ (nothing bytes is) many = absurd (let none = ap length is in omega arith)
+content_of all limit past _ (more bytes before piece given next is) many =
+    (next.0, next.1, past_is (IsPieceOf all) next.0 limit (λ at p. piece_of_told all next.0 at p next.1) past)
+
+longer_to : (all : Option (List ℕ)) (limit : ℕ) (bytes : List ℕ) → all ≡ Some bytes → limit < length bytes → IsReadPast (IsPieceOf all) limit
+longer_to all limit bytes is many = record {
+  bytes = take (limit + 1) bytes;
+  given = more (take (limit + 1) bytes) [] (take (limit + 1) bytes) (nothing [] refl)
+      (bytes, is, record { bytes_are = grind (arith, common_steps); ends = λ none. omega (arith, length-take (limit + 1) bytes) }) refl;
+  past = omega (arith, length-take (limit + 1) bytes);
+}
+
+pub pieces_are_told : (content : List ℕ → Option (List ℕ)) → Covers (given (λ file. IsPieceOf (content file))) (told content)
+pieces_are_told content = record {
+  whole = λ file bytes. whole_from (content file) bytes;
+  longer = λ file limit past. content_of (content file) limit past past.bytes past.given past.past;
+}
+
+pub told_are_pieces : (content : List ℕ → Option (List ℕ)) → Covers (told content) (given (λ file. IsPieceOf (content file)))
+told_are_pieces content = record {
+  whole = λ file bytes. whole_to (content file) bytes;
+  longer = λ file limit is. longer_to (content file) limit is.0 is.1 is.2;
+}

@@ -1,0 +1,21 @@
+-- The line of what was found of a certificate is the answer on it.
+use Rattle.std.proofs.Common.{◌≡◌, Option, Some, None, Result, Ok, Err, IfOk, inl, inr, refl}
+use Rattle.te_model.specs.declared.memory.Memory.{Memory}
+use Rattle.te_model.specs.declared.certificate.Certificate.{Certificate}
+use Rattle.te_model.specs.Inequalities.{LinkFailure, first_failure}
+use Rattle.ratio_checker.specs.Finding.{finding_of}
+use Rattle.ratio_checker.specs.declared.finding.Finding.{Finding}
+use Rattle.te_command.specs.declared.answer.Answer.{Answer}
+use Rattle.te_command.specs.Check.{IsVerdict}
+use Rattle.te_command.specs.Outcome.{IsLineOf, status_of, text_of}
+
+-- what the first failure gives
+line_of_failure : (c : Certificate) (failure : Option LinkFailure) (answer : Answer) → first_failure c ≡ failure →
+    IsLineOf c (finding_of failure) answer → IsVerdict c (status_of answer) (text_of answer)
+line_of_failure c None answer is line = inl (line.0, record { holds = is; line_is = line.1 })
+line_of_failure c (Some failure) answer is line = inr (line.0, record { failure = failure; fails = is; line_is = line.1 })
+
+pub verdict_found : (c : Certificate) (finding : Finding) (r : Result Answer Memory) → finding ≡ finding_of (first_failure c) →
+    IfOk r (IsLineOf c finding) → IfOk r (λ answer. IsVerdict c (status_of answer) (text_of answer))
+verdict_found c finding (Ok answer) is line = line_of_failure c (first_failure c) answer refl (rw is at line)
+verdict_found c finding (Err e) is line = line

@@ -1,4 +1,0 @@
-use Rattle.te_command.proofs.check.yes_line.Goals as goal
-
-pub returns-in_ok-format-in-Margin : goal.returns-in_ok-format-in-Margin
-returns-in_ok-format-in-Margin c = rw c.in-Margin.is c.in_ok-format-in-Margin.ensures.ok

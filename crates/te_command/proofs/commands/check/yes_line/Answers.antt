@@ -1,0 +1,4 @@
+use Rattle.te_command.proofs.commands.check.yes_line.Goals as goal
+
+pub returns-in_ok-format-in-Margin : goal.returns-in_ok-format-in-Margin
+returns-in_ok-format-in-Margin c = rw c.in-Margin.is c.in_ok-format-in-Margin.ensures.ok

@@ -1,0 +1,20 @@
+use Rattle.std.proofs.Common.{Ok, Err}
+use Rattle.std.proofs.lemmas.Result.{err_from_is_err_and}
+use Rattle.te_command.specs.Reading.{answers}
+use Rattle.te_command.specs.Publish.{publication_of}
+use Rattle.te_command.proofs.Following.{ends}
+use Rattle.te_command.proofs.Plans.{plan_stops, plan_goes_on}
+use Rattle.te_command.proofs.commands.publish.PublishAsk.answer.Goals as goal
+
+pub returns-in_err-inputs : goal.returns-in_err-inputs
+returns-in_err-inputs g c =
+    let p = err_from_is_err_and c.from_residual.result c.from_residual.ensures.1 in
+    rw (p.1, p.2)
+    (plan_stops c.args.self.now.plan.now (λ plan network series. answers (publication_of plan network series)) _ _ c.in_err-inputs.field-0.0 c.in_err-inputs.ensures.reads)
+
+pub returns : goal.returns
+returns g c =
+    let inputs = c.in_ok-inputs.inputs in
+    plan_goes_on c.args.self.now.plan.now (λ plan network series. answers (publication_of plan network series)) inputs.plan inputs.network inputs.series _ _ _
+    (Ok c.in_ok-certify.field-0) c.in_ok-inputs.ensures.reads
+    (ends (publication_of inputs.plan inputs.network inputs.series) _ c.in_ok-certify.field-0 c.in_ok-certify.ensures)

@@ -1,0 +1,17 @@
+use Rattle.std.proofs.Common.{◌≡◌, ◌⊎◌, ℕ, List, inl, inr}
+use Rattle.te_ports.specs.Ports.{Rose}
+use Rattle.te_command.specs.Files.{Files, given}
+use Rattle.te_command.specs.Reading.{ReadFailed}
+use Rattle.te_command.specs.Commands.{check_network, reading_of}
+use Rattle.te_command.proofs.laws.failed_reads_are_of_named_files.Goals as goal
+
+named : (certificate topology : List ℕ) (files : Files) (Fails : List ℕ → Type 0) → ReadFailed (reading_of (check_network certificate topology)) files Fails →
+    Fails certificate ⊎ Fails topology
+named certificate topology files Fails (inl first) = inl first
+named certificate topology files Fails (inr (spelled, gives, inl second)) = inr second
+named certificate topology files Fails (inr (spelled, gives, inr (network, makes, none))) = absurd none
+
+pub returns : goal.returns
+returns g c = λ certificate topology before failed.
+    let depot = c.args.depot.now in
+    named certificate topology (given (g.D.Depot.gave depot)) (λ file. Rose (before file) (g.D.Depot.faults depot file)) failed

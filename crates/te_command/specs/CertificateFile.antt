@@ -1,0 +1,27 @@
+-- The file of a certificate.
+use Rattle.std.specs.Prelude.{◌≡◌, ◌⊎◌, ℕ, List, ◌++◌, codes, Result, Ok, Err}
+use Rattle.std.specs.Fmt.{decimal}
+use Rattle.te_model.specs.declared.certificate.Certificate.{Certificate}
+use Rattle.te_model.specs.declared.certificate.RuleFault.{RuleFault}
+use Rattle.te_model.specs.declared.limits.TheConstants.{FORMAT_1}
+use Rattle.te_model.specs.Text.{Spells}
+use Rattle.te_model.specs.Faults.{IsShapeFault, IsRuleFault}
+use Rattle.te_command.specs.Reading.{Kind}
+
+-- the words for bytes that leave the grammar at a line, and for those that spell what breaks a rule
+abbrev pub shape_reason : ℕ → List ℕ
+shape_reason line = codes "shape at line " ++ decimal line
+
+abbrev pub rule_reason : RuleFault → List ℕ
+rule_reason rule = codes "rule V" ++ (decimal rule.number ++ (codes " at " ++ decimal rule.place))
+
+-- the bytes spell the certificate, or they leave the grammar at a line, or spell what breaks a rule
+abbrev pub GivesCertificate : List ℕ → Result Certificate (List ℕ) → Type 0
+GivesCertificate bytes (Ok certificate) = Spells bytes certificate
+GivesCertificate bytes (Err words) =
+    ((line : ℕ) × IsShapeFault FORMAT_1 bytes line × (words ≡ shape_reason line))
+    ⊎ ((rule : RuleFault) × IsRuleFault FORMAT_1 bytes rule × (words ≡ rule_reason rule))
+
+-- 128 MiB at most
+abbrev pub certificates : Kind Certificate
+certificates = record { limit = 134217728; gives = GivesCertificate }

@@ -1,0 +1,70 @@
+//! `publish PLAN`: the certificate of the routing for which a plan asks.
+ghost use Rattle.std.specs.Prelude.{◌≡◌, ◌≤◌, ◌<◌, IfOk, IsTrue, string_bytes};
+ghost use Rattle.te_model.specs.Network.{is_well_formed, link_count, node_count};
+ghost use Rattle.traffic_matrix.specs.Limits.{IsSeries};
+ghost use Rattle.plan.specs.Plan.{InRange};
+ghost use Rattle.te_command.specs.Publish.{IsPublication, no_path_line};
+ghost use Rattle.te_command.specs.Outcome.{status_of, text_of};
+
+use crate::answer::{Answer, Fault};
+use crate::ask::Ask;
+use crate::inputs::inputs_in;
+use plan::Experiment;
+use scheme::SchemeFault;
+use std::alloc::Global;
+use te_model::{Memory, Network, Pair};
+use te_ports::Depot;
+use traffic_matrix::Series;
+
+/// `publish PLAN`.
+#[derive(Clone, Copy, Debug)]
+pub struct Publish<'a> {
+    pub plan: &'a str,
+}
+
+impl<'a> Ask for Publish<'a> {
+    ghost use Rattle.te_command.specs.Commands.{reading_of, publish};
+
+    ghost reading = { λ c. reading_of (publish c.plan.now) };
+
+    fn answer<D: Depot>(&self, alloc: Global, depot: &mut D) -> Result<Answer, Fault> {
+        let inputs = inputs_in(alloc, depot, self.plan)?;
+        Ok(certify(alloc, &inputs.plan, &inputs.network, &inputs.series)?)
+    }
+}
+
+// The line of a pair that has no path.
+fn no_path_line(alloc: Global, network: &Network, pair: Pair) -> Result<String, Memory>
+    requires src { pair.src < node_count network.now }
+    requires dst { pair.dst < node_count network.now }
+    ensures { IfOk result (λ line. string_bytes line ≡ no_path_line network.now pair) }
+{
+    let names = network.names.as_slice();
+    let source = names[pair.src as usize].as_str();
+    let destination = names[pair.dst as usize].as_str();
+    Ok(format!(in alloc; "no path: {source} {destination}\n")?)
+}
+
+// The answer of a plan on its network and its series.
+fn certify(
+    alloc: Global,
+    plan: &Experiment,
+    network: &Network,
+    series: &Series,
+) -> Result<Answer, Memory>
+    requires plan { InRange plan.now }
+    requires network { IsTrue (is_well_formed network.now) }
+    requires links { 1 ≤ link_count network.now }
+    requires series { IsSeries (node_count network.now) series.now }
+    ensures { IfOk result (λ answer. IsPublication plan.now network.now series.now (status_of answer) (text_of answer)) }
+{
+    match experiment::certificate_file(alloc, plan, network, series) {
+        Ok(file) => Ok(Answer::Done(file)),
+        Err(SchemeFault::NoPath(place)) => {
+            let pair = series.pairs.list.as_slice()[place as usize];
+            let line = no_path_line(alloc, network, pair)?;
+            Ok(Answer::NoPath(line.into_bytes()))
+        }
+        Err(SchemeFault::Memory) => Err(Memory),
+    }
+}

@@ -1,0 +1,197 @@
+//! The kinds of files: how many bytes one may have, what its bytes give, and why they are refused.
+ghost use Rattle.std.specs.Prelude.{◌≡◌, ◌≤◌, ◌^◌, ℕ, List, length, IfOk, IsTrue};
+ghost use Rattle.te_model.specs.Network.{is_well_formed, link_count, node_count};
+ghost use Rattle.te_model.specs.Validity.{IsValid};
+ghost use Rattle.traffic_matrix.specs.Limits.{IsSeries};
+ghost use Rattle.plan.specs.Plan.{InRange};
+ghost use Rattle.te_command.specs.Reading.{Kind};
+ghost use Rattle.te_command.specs.Outcome.{ReadsBytes};
+
+use crate::refusal::{BytesFault, Refusal};
+use cert_text::CertFault;
+use failure::{FailureFault, Failures};
+use plan::{Experiment, PlanFault, read_plan};
+use std::alloc::Global;
+use te_model::{Certificate, Network};
+use topology::TopologyFault;
+use traffic_matrix::{MatrixFault, Series};
+
+/// The greatest certificate file, in bytes.
+const CERTIFICATE_LIMIT: u64 = 134_217_728;
+
+/// The greatest file of another kind, in bytes.
+const INPUT_LIMIT: u64 = 67_108_864;
+
+/// A kind of files.
+pub trait FileKind {
+    /// What a file of it gives.
+    type Value;
+
+    /// What it is read against may be used.
+    ghost is_ready: { Self → Type 0 };
+
+    /// How long its files may be, and what their bytes give.
+    ghost kind: { Self → Kind Self.Value };
+
+    /// What holds of a value that a file gives.
+    ghost IsSound: { Self → Self.Value → Type 0 };
+
+    /// How many bytes a file may have.
+    fn limit(&self) -> u64
+        ensures limit { result ≡ (kind self.now).limit }
+        ensures few { result ≤ 2 ^ 30 };
+
+    /// What the bytes give.
+    fn read(&self, alloc: Global, bytes: &[u8]) -> Result<Self::Value, BytesFault>
+        requires ready { is_ready self.now }
+        requires few { length bytes.now ≤ (kind self.now).limit }
+        ensures reads { ReadsBytes (kind self.now) bytes.now result }
+        ensures sound { IfOk result (IsSound self.now) };
+}
+
+/// Certificates. What one gives is valid.
+#[derive(Clone, Copy)]
+pub struct Certificates;
+
+impl FileKind for Certificates {
+    ghost use Rattle.te_command.specs.CertificateFile.{certificates};
+
+    type Value = Certificate;
+
+    ghost is_ready = { λ _. Unit {0} };
+
+    ghost kind = { λ _. certificates };
+
+    ghost IsSound = { λ _. IsValid };
+
+    fn limit(&self) -> u64 {
+        CERTIFICATE_LIMIT
+    }
+
+    fn read(&self, alloc: Global, bytes: &[u8]) -> Result<Certificate, BytesFault> {
+        match cert_text::read(alloc, bytes) {
+            Ok(certificate) => Ok(certificate),
+            Err(CertFault::Shape(line)) => Err(BytesFault::Refused(Refusal::Shape(line))),
+            Err(CertFault::Rule(rule)) => Err(BytesFault::Refused(Refusal::Rule(rule))),
+            Err(CertFault::Memory) => Err(BytesFault::Memory),
+        }
+    }
+}
+
+/// Topologies. The network of one is well formed and has a link.
+#[derive(Clone, Copy)]
+pub struct Topologies;
+
+impl FileKind for Topologies {
+    ghost use Rattle.te_command.specs.TopologyFile.{topologies};
+
+    type Value = Network;
+
+    ghost is_ready = { λ _. Unit {0} };
+
+    ghost kind = { λ _. topologies };
+
+    ghost IsSound = { λ _ network. IsTrue (is_well_formed network) × (1 ≤ link_count network) };
+
+    fn limit(&self) -> u64 {
+        INPUT_LIMIT
+    }
+
+    fn read(&self, alloc: Global, bytes: &[u8]) -> Result<Network, BytesFault> {
+        match topology::read(alloc, bytes) {
+            Ok(network) => Ok(network),
+            Err(TopologyFault::Memory) => Err(BytesFault::Memory),
+            Err(fault) => Err(BytesFault::Refused(Refusal::Topology(fault))),
+        }
+    }
+}
+
+/// The matrices of a network.
+#[derive(Clone, Copy)]
+pub struct Matrices<'a> {
+    pub network: &'a Network,
+}
+
+impl<'a> FileKind for Matrices<'a> {
+    ghost use Rattle.te_command.specs.MatrixFile.{matrices};
+
+    type Value = Series;
+
+    ghost is_ready = { λ of. IsTrue (is_well_formed of.network.now) };
+
+    ghost kind = { λ of. matrices of.network.now };
+
+    ghost IsSound = { λ of. IsSeries (node_count of.network.now) };
+
+    fn limit(&self) -> u64 {
+        INPUT_LIMIT
+    }
+
+    fn read(&self, alloc: Global, bytes: &[u8]) -> Result<Series, BytesFault> {
+        match traffic_matrix::read(alloc, self.network, bytes) {
+            Ok(series) => Ok(series),
+            Err(MatrixFault::Memory) => Err(BytesFault::Memory),
+            Err(fault) => Err(BytesFault::Refused(Refusal::Matrices(fault))),
+        }
+    }
+}
+
+/// The failures of a network's links in the steps of a series.
+#[derive(Clone, Copy)]
+pub struct FailureFiles<'a> {
+    pub network: &'a Network,
+    pub series: &'a Series,
+}
+
+impl<'a> FileKind for FailureFiles<'a> {
+    ghost use Rattle.te_command.specs.FailureFile.{failure_files};
+
+    type Value = Failures;
+
+    ghost is_ready = { λ of. IsTrue (is_well_formed of.network.now) × IsSeries (node_count of.network.now) of.series.now };
+
+    ghost kind = { λ of. failure_files of.network.now of.series.now };
+
+    ghost IsSound = { λ _ _. Unit {0} };
+
+    fn limit(&self) -> u64 {
+        INPUT_LIMIT
+    }
+
+    fn read(&self, alloc: Global, bytes: &[u8]) -> Result<Failures, BytesFault> {
+        let steps = self.series.steps.as_slice().len() as u32;
+        match failure::read(alloc, self.network, steps, bytes) {
+            Ok(failures) => Ok(failures),
+            Err(FailureFault::Memory) => Err(BytesFault::Memory),
+            Err(fault) => Err(BytesFault::Refused(Refusal::Failures(fault))),
+        }
+    }
+}
+
+/// Plans. The numbers of one are in their ranges.
+#[derive(Clone, Copy)]
+pub struct Plans;
+
+impl FileKind for Plans {
+    ghost use Rattle.te_command.specs.PlanFile.{plans};
+
+    type Value = Experiment;
+
+    ghost is_ready = { λ _. Unit {0} };
+
+    ghost kind = { λ _. plans };
+
+    ghost IsSound = { λ _. InRange };
+
+    fn limit(&self) -> u64 {
+        INPUT_LIMIT
+    }
+
+    fn read(&self, alloc: Global, bytes: &[u8]) -> Result<Experiment, BytesFault> {
+        match read_plan(alloc, bytes) {
+            Ok(plan) => Ok(plan),
+            Err(PlanFault::Memory) => Err(BytesFault::Memory),
+            Err(fault) => Err(BytesFault::Refused(Refusal::Plan(fault))),
+        }
+    }
+}
