@@ -73,7 +73,7 @@ pub fn bracket(
     ensures best { IfOk result (IsBestOf net.now (length routing.now.routes) matrix.now.demand (AreDistancesUnder net.now routing.now.routes) lengths.now) }
     ensures low { IfOk result HasLow }
 {
-    let most = routing.parts(net, matrix);
+    let most = routing.greatest_utilisation(alloc, net, matrix)?;
     let sources = sources_of(alloc, net, routing.routes.as_slice())?;
     let unit = vec![in alloc; 1; net.links.as_slice().len()]?;
     let mut best = by_lengths(alloc, net, routing, matrix, &sources, &unit, most)?;

@@ -117,7 +117,7 @@ pub fn bracket_on_paths(
     ensures best { IfOk result (IsBestOf net.now (length fixed.now.routes) matrix.now.demand (AreShortest fixed.now.routes) lengths.now) }
     ensures low { IfOk result HasLow }
 {
-    let most = routing.parts(net, matrix);
+    let most = routing.greatest_utilisation(alloc, net, matrix)?;
     let unit = vec![in alloc; 1; net.links.as_slice().len()]?;
     let mut best = by_lengths(alloc, net, fixed, matrix, &unit, most)?;
     for offered in lengths {

@@ -1,2 +1,4 @@
 mod RowLemmas
 mod NetworkLemmas
+pub mod Marking
+pub mod Sweeping

@@ -1,3 +1,4 @@
 pub mod Failed
+pub mod Series
 pub mod Survivor
 pub mod File

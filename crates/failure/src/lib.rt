@@ -4,6 +4,7 @@
 mod fault;
 mod outage;
 mod reader;
+mod series;
 mod survivor;
 
 pub use fault::FailureFault;

@@ -1,6 +1,6 @@
 //! Outages of links, and which links have failed in a step.
 
-ghost use Rattle.std.specs.Prelude.{◌≡◌, IfOk, IsTrue, map, length};
+ghost use Rattle.std.specs.Prelude.{◌≡◌, ◌<◌, ℕ, All, IfOk, IsTrue, false, map, length, slice_index_or};
 ghost use Rattle.std.specs.List.{range_with_len, list_any};
 ghost use Rattle.te_model.specs.Network.{is_well_formed, link_count};
 ghost use Rattle.failure.specs.Failed.{is_during, has_failed};
@@ -31,6 +31,19 @@ impl Outage {
     }
 }
 
+// Marks the links that have an outage with the step in it.
+fn mark(marks: &mut [bool], outages: &[Outage], step: u32)
+    requires { All (λ m. m ≡ false) marks.old }
+    ensures { (e : ℕ) → e < length marks.old → slice_index_or marks.new e false ≡ list_any (is_during step e) outages.now }
+{
+    for outage in outages {
+        let link = outage.link as usize;
+        if link < marks.len() && outage.is_during(step, outage.link) {
+            marks[link] = true;
+        }
+    }
+}
+
 impl Failures {
     /// Whether some outage of the link has the step between its first and its last.
     pub fn failed_at(&self, step: u32, link: u32) -> bool
@@ -42,15 +55,13 @@ impl Failures {
             .any(|outage| outage.is_during(step, link))
     }
 
-    /// For each link of the network whether it has failed in the step.
+    /// For each link of the network whether it has failed in the step, in one pass over the outages.
     pub fn marks(&self, alloc: Global, net: &Network, step: u32) -> Result<Vec<bool>, Memory>
         requires { IsTrue (is_well_formed net.now) }
         ensures { IfOk result (λ marks. marks.items ≡ map (has_failed self.now step) (range_with_len 0 (link_count net.now))) }
     {
-        let mut marks = Vec::new(alloc);
-        for link in 0..net.links.as_slice().len() {
-            marks.push(self.failed_at(step, link as u32))?;
-        }
+        let mut marks = vec![in alloc; false; net.links.as_slice().len()]?;
+        mark(&mut marks, self.list.as_slice(), step);
         Ok(marks)
     }
 }

@@ -97,3 +97,35 @@ fn one_link_fails_in_one_step(rt: HostRuntime) -> Result<(), Fail> {
     assert_eq!(rt; left.network.links.as_slice()[1].tail, 2);
     Ok(())
 }
+
+#[test]
+fn outages_of_a_series(rt: HostRuntime) -> Result<(), Fail> {
+    let alloc = rt.alloc();
+    let net = five_links(alloc)?;
+    assert!(rt; te_model::well_formed(&net));
+    // Two overlap, one touches them, one stands twice, and one names a link that is not there.
+    let mut list = Vec::new(alloc);
+    for (from, to, link) in [
+        (0, 1, 1),
+        (1, 1, 1),
+        (2, 2, 1),
+        (2, 3, 4),
+        (2, 3, 4),
+        (0, 9, 7),
+    ] {
+        list.push(Outage { from, to, link })?;
+    }
+    let failures = Failures {
+        list: Items::new(list),
+    };
+    let series = failures.series(alloc, &net, 4)?;
+    assert_eq!(rt; series.len(), 4);
+    for step in 0..series.len() {
+        let marks = failures.marks(alloc, &net, step as u32)?;
+        assert!(rt; series[step].as_slice() == marks.as_slice());
+    }
+    assert!(rt; series[1].as_slice() == [false, true, false, false, false].as_slice());
+    assert!(rt; series[2].as_slice() == [false, true, false, false, true].as_slice());
+    assert!(rt; series[3].as_slice() == [false, false, false, false, true].as_slice());
+    Ok(())
+}

@@ -11,10 +11,10 @@ use Rattle.te_model.specs.Counting.{sum_below}
 use Rattle.te_model.specs.Path.{has_number, routes_at, share, weight_on}
 use Rattle.te_model.proofs.Sums.{mul-pick, sum_below-same}
 use Rattle.routing.specs.Merge.{links_at}
-use Rattle.routing.specs.Routes.{AreDemands, load_on}
+use Rattle.routing.specs.Routes.{AreDemands, AreLoads, load_on}
 use Rattle.routing.specs.Split.{are_splits}
 use Rattle.routing.proofs.Splits.{share-le}
-use Rattle.rate_moves.specs.Loads.{AreLoads, load_after}
+use Rattle.rate_moves.specs.Loads.{load_after}
 use Rattle.rate_moves.specs.Moves.{IsMoved, IsShift, path_at}
 
 -- a sum of which one term changes

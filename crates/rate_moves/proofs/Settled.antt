@@ -10,9 +10,9 @@ use Rattle.te_model.specs.Network.{capacity_of, is_well_formed, link_count}
 use Rattle.te_model.specs.Path.{no_routes, routes_at}
 use Rattle.te_model.specs.PathRouting.{IsPathRouting, IsPathSplit}
 use Rattle.routing.specs.Merge.{links_at}
-use Rattle.routing.specs.Routes.{HasFewPaths, load_on}
+use Rattle.routing.specs.Routes.{AreLoads, HasFewPaths, load_on}
 use Rattle.routing.specs.Utilisation.{parts}
-use Rattle.rate_moves.specs.Loads.{AreLoads, IsPeakBelow, load_after}
+use Rattle.rate_moves.specs.Loads.{IsPeakBelow, load_after}
 use Rattle.rate_moves.specs.Moves.{CanMove, HaveFewTogether, Improves, IsMoved, IsStable, UsesOnly, path_at}
 use Rattle.rate_moves.specs.Search.{FitsAt, loads_moved}
 use Rattle.rate_moves.proofs.FewPaths.{few_among}

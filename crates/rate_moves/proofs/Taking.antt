@@ -1,9 +1,9 @@
 -- The routes after a move, written in their place.
-use Rattle.std.proofs.Common.{◌≡◌, ℕ, ◌<◌, ◌≤◌, true, ◌&&◌, List, ◌++◌, length, take, drop, arith, ap, sym, ◌∙◌, subst, min, All}
+use Rattle.std.proofs.Common.{◌≡◌, ℕ, ◌<◌, ◌≤◌, true, ◌&&◌, List, length, arith, ap, sym, ◌∙◌, subst, min, All}
 use Rattle.std.specs.Prelude.{nat_le, ◌==◌}
 use Rattle.std.specs.List.{list_all}
 use Rattle.std.proofs.Math.ListN.{set}
-use Rattle.std.proofs.Math.Seq.{map-set_same, take-append_seam}
+use Rattle.std.proofs.Math.Seq.{map-set_same}
 use Rattle.std.proofs.lemmas.List.{get_or-set_same, get_or-set_other, length-set}
 use Rattle.std.proofs.lemmas.List.Elements.{All-get_or}
 use Rattle.std.proofs.lemmas.Bool.{and_parts, leb-true}
@@ -42,10 +42,3 @@ positive_weights routes p splits below =
     let first = (and_parts (paths_ascend r.paths && list_all (λ s. nat_le 1 s.weight) r.paths) (total_weight r.paths == SHARE_UNIT) split).0 in
     all_from_tests (λ s. nat_le 1 s.weight) (λ s. 1 ≤ s.weight) (λ s e. leb-true 1 s.weight e) r.paths
     (and_parts (paths_ascend r.paths) (list_all (λ s. nat_le 1 s.weight) r.paths) first).1
-
--- a whole list written into a vector
-pub written_whole : {X : Type 0} (len : ℕ) (new old : List X) → length new ≡ length old → len ≡ length old →
-    take len (new ++ drop (length new) old) ≡ new
-written_whole len new old same is_len =
-    let e : len ≡ length new = is_len ∙ sym same in
-    rw e (take-append_seam new (drop (length new) old))

@@ -1,15 +1,8 @@
--- What the links carry, and what a move makes of it.
-use Rattle.std.specs.Prelude.{◌≡◌, ℕ, ◌+◌, ◌-◌, ◌*◌, ◌<◌, ◌≤◌, List, length, slice_index, if◌then◌else◌}
+-- What a move makes of the loads of the links.
+use Rattle.std.specs.Prelude.{ℕ, ◌+◌, ◌-◌, ◌*◌, ◌<◌, ◌≤◌, List, if◌then◌else◌}
 use Rattle.te_model.specs.declared.network.Network.{Network}
-use Rattle.te_model.specs.declared.route.PairRoutes.{PairRoutes}
 use Rattle.te_model.specs.Network.{link_count, capacity_of}
 use Rattle.te_model.specs.Path.{has_number}
-use Rattle.routing.specs.Routes.{load_on}
-
--- the loads of a routing, one for each link
-pub record AreLoads (net : Network) (demand : List ℕ) (routes : List PairRoutes) (loads : List ℕ) : Type 0 where
-  pub count : length loads ≡ link_count net
-  pub each : (e : ℕ) → e < link_count net → slice_index loads e ≡ load_on routes demand e
 
 -- the load of link e once this amount has gone from the links of one path to those of another
 abbrev pub load_after : ℕ → List ℕ → List ℕ → ℕ → ℕ → ℕ

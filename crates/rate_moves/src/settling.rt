@@ -6,14 +6,12 @@ ghost use Rattle.te_model.specs.declared.route.PairRoutes.{PairRoutes};
 ghost use Rattle.te_model.specs.Network.{is_well_formed};
 ghost use Rattle.te_model.specs.Path.{routes_at};
 ghost use Rattle.routing.specs.Merge.{links_at};
-ghost use Rattle.routing.specs.Routes.{AreDemands, HasFewPaths, IsRoutingOf};
+ghost use Rattle.routing.specs.Routes.{AreDemands, AreLoads, HasFewPaths, IsRoutingOf};
 ghost use Rattle.routing.specs.Split.{are_splits};
 ghost use Rattle.routing.specs.Utilisation.{parts};
-ghost use Rattle.rate_moves.specs.Loads.{AreLoads};
 ghost use Rattle.rate_moves.specs.Moves.{CanMove, HaveFewTogether, Improves, IsMoved, IsStable, UsesOnly};
 
 use crate::greatest::peak_of;
-use crate::loads::loads_of;
 use crate::search::fitting_move;
 use crate::shifting::{carry_move, take_move};
 use crate::step::{Aim, Move};
@@ -89,7 +87,7 @@ pub fn settle(
     ensures only { IfOk result (λ r. UsesOnly routing.routes candidates.now.routes r.routes) }
     ensures few { (limit : ℕ) → HaveFewTogether limit routing.routes candidates.now.routes → IfOk result (λ r. HasFewPaths limit r.routes) }
 {
-    let mut loads = loads_of(alloc, net, matrix, &routing)?;
+    let mut loads = routing.loads(alloc, net, matrix)?;
     let mut routes = routing.routes.into_vec();
     let others = candidates.routes.as_slice();
     while let Some(step) = next_move(net, matrix, &routes, others, &loads) {

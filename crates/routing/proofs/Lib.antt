@@ -1,4 +1,7 @@
 pub mod Ascending
+pub mod Loading
+pub mod Sharing
+pub mod Shared
 pub mod Adding
 pub mod Cutting
 pub mod Splits
@@ -9,3 +12,4 @@ pub mod LowestPaths
 pub mod Decomposing
 pub mod TakingOff
 mod Thirds
+mod Halves

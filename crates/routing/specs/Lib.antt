@@ -5,4 +5,5 @@ pub mod Merge
 pub mod Normal
 pub mod Loops
 pub mod Decomposition
+pub mod Shares
 pub mod Samples

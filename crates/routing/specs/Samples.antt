@@ -35,3 +35,21 @@ three_middles = record {
 -- a third of a million over each of x, y and z
 abbrev pub thirds : List ℕ
 thirds = 333334 ∷ 333333 ∷ 333333 ∷ 333334 ∷ 333333 ∷ 333333 ∷ []
+
+-- the nodes a, m and b: a link from a to m, two from m to b, and one from b back to a
+abbrev pub fork : Network
+fork = record {
+  names = codes "a" ∷ codes "m" ∷ codes "b" ∷ [];
+  links = link 0 1 ∷ link 1 2 ∷ link 1 2 ∷ link 2 0 ∷ [];
+}
+
+-- from node src to b, in halves over two paths
+abbrev pub halved : ℕ → List ℕ → List ℕ → PairRoutes
+halved src first second = record {
+  pair = record { src = src; dst = 2 };
+  paths = weighted first 500000 ∷ weighted second 500000 ∷ [];
+}
+
+-- from a to b and from m to b, each in halves over the two links from m to b
+abbrev pub halves : List PairRoutes
+halves = halved 0 (0 ∷ 1 ∷ []) (0 ∷ 2 ∷ []) ∷ halved 1 (1 ∷ []) (2 ∷ []) ∷ []

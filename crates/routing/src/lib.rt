@@ -1,6 +1,7 @@
 //! Path routings: the weighted paths of each declared pair, and what they put on the links.
 //!
-//! - `Routing`: its shares, loads and greatest utilisation.
+//! - `Routing`: its shares, its loads (of one link, or of all in one pass) and greatest utilisation.
+//! - `Shares`: for each link the pairs that have a share on it.
 //! - `merge`: equal paths taken together. `normalize`: weights scaled to the unit.
 //! - `cut_loops`: a walk without its loops.
 //! - `decompose`: a flow taken apart into weighted paths.
@@ -9,19 +10,22 @@
 mod copy;
 mod decomposition;
 mod law;
+mod loads;
 mod loops;
 mod merging;
 mod normal;
 mod order;
 mod routes;
+mod shares;
 
 pub use decomposition::decompose;
-pub use law::shares_are_flows;
+pub use law::{shares_are_flows, sums_over_shares};
 pub use loops::cut_loops;
 pub use merging::merge;
 pub use normal::normalize;
 pub use order::is_list_below;
 pub use routes::Routing;
+pub use shares::{PairShare, Shares};
 
 #[cfg(test)]
 mod tests;

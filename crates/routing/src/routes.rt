@@ -1,5 +1,5 @@
 //! Routings, and what they put on the links.
-ghost use Rattle.std.specs.Prelude.{◌≡◌, ◌*◌, ◌^◌, ◌<◌, ◌≤◌, IfOk, IsTrue, length, slice_index};
+ghost use Rattle.std.specs.Prelude.{◌≡◌, ◌*◌, ◌^◌, ◌<◌, ◌≤◌, All, IfOk, IsTrue, length, slice_index};
 ghost use Rattle.te_model.specs.Network.{is_well_formed};
 ghost use Rattle.te_model.specs.Path.{weight_on};
 ghost use Rattle.te_model.specs.declared.units.TheConstants.{RATIO_UNIT, SHARE_UNIT};
@@ -7,6 +7,7 @@ ghost use Rattle.routing.specs.Split.{are_splits, total_weight};
 ghost use Rattle.routing.specs.Utilisation.{quotient_up};
 
 use crate::copy::copy_of;
+use crate::loads::{greatest_under, loads_of};
 use std::alloc::Global;
 use te_model::{
     Items, Matrix, Memory, Network, PairRoutes, PathShare, RATIO_UNIT, SHARE_UNIT, ceil_div,
@@ -37,7 +38,7 @@ fn weight_on(paths: &[PathShare], link: u32) -> u64
 }
 
 /// The load over the capacity, in millionths, rounded up.
-fn utilisation(load: u128, capacity: u64) -> u128
+pub fn utilisation(load: u128, capacity: u64) -> u128
     requires load { load < 2 ^ 84 }
     requires capacity { 1 ≤ capacity }
     ensures { result ≡ quotient_up (load * RATIO_UNIT) (SHARE_UNIT * capacity) }
@@ -49,7 +50,7 @@ fn utilisation(load: u128, capacity: u64) -> u128
 
 impl Routing {
     ghost use Rattle.te_model.specs.Path.{share};
-    ghost use Rattle.routing.specs.Routes.{AreDemands, load_on};
+    ghost use Rattle.routing.specs.Routes.{AreDemands, AreLoads, load_on};
     ghost use Rattle.routing.specs.Utilisation.{parts};
 
     /// How many millionths of the demand of the pair go over the link. Takes no memory.
@@ -91,6 +92,34 @@ impl Routing {
             most = most.max(utilisation(load, links[h].capacity));
         }
         most
+    }
+
+    /// What the demands put on each link, in millionths: `load` of every link, in one pass over the
+    /// paths. `matrix` has one demand for each pair. `Memory` comes where memory is wanting.
+    pub fn loads(&self, alloc: Global, net: &Network, matrix: &Matrix) -> Result<Vec<u128>, Memory>
+        requires pairs { length self.now.routes < 2 ^ 32 }
+        requires demands { AreDemands (length self.now.routes) matrix.now.demand }
+        ensures loads { IfOk result (λ loads. AreLoads net.now matrix.now.demand self.now.routes loads.items) }
+        ensures fit { IfOk result (λ loads. All (λ x. x < 2 ^ 84) loads.items) }
+    {
+        loads_of(alloc, net, self.routes.as_slice(), matrix)
+    }
+
+    /// The greatest utilisation of a link, which is `parts`, in one pass over the paths. `matrix` has
+    /// one demand for each pair. `Memory` comes where memory is wanting.
+    pub fn greatest_utilisation(
+        &self,
+        alloc: Global,
+        net: &Network,
+        matrix: &Matrix,
+    ) -> Result<u128, Memory>
+        requires network { IsTrue (is_well_formed net.now) }
+        requires pairs { length self.now.routes < 2 ^ 32 }
+        requires demands { AreDemands (length self.now.routes) matrix.now.demand }
+        ensures { IfOk result (λ most. most ≡ parts net.now self.now.routes matrix.now.demand) }
+    {
+        let loads = self.loads(alloc, net, matrix)?;
+        Ok(greatest_under(net, &loads))
     }
 
     /// A copy of the routing. `Memory` comes where memory is wanting.

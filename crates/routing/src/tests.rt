@@ -1,5 +1,5 @@
-ghost use Rattle.std.specs.Prelude.{◌≡◌, IfOk};
-ghost use Rattle.routing.specs.Samples.{link, three_middles, three_nodes, two_ways};
+ghost use Rattle.std.specs.Prelude.{◌≡◌, ◌∷◌, [], IfOk, length};
+ghost use Rattle.routing.specs.Samples.{fork, halves, link, three_middles, three_nodes, two_ways, weighted};
 
 use super::*;
 use std::alloc::{AllocError, Global};
@@ -156,6 +156,136 @@ fn a_flow_comes_apart_into_paths(rt: HostRuntime) -> Result<(), Fail> {
             assert_eq!(rt; paths[1].weight, 333_333);
             assert!(rt; paths[2].links.as_slice() == [2, 5].as_slice());
             assert_eq!(rt; paths[2].weight, 333_333);
+        }
+        Err(_) => assert!(rt; false),
+    }
+    Ok(())
+}
+
+/// The nodes a, m and b: a link from a to m, two from m to b, and one from b back to a.
+fn fork(alloc: Global) -> Result<Network, AllocError>
+    ensures { IfOk result (λ n. n ≡ fork) }
+{
+    let names = vec![in alloc;
+        Name::new("a".to_string(alloc)?),
+        Name::new("m".to_string(alloc)?),
+        Name::new("b".to_string(alloc)?),
+    ]?;
+    let links = vec![in alloc; link(0, 1), link(1, 2), link(1, 2), link(2, 0)]?;
+    Ok(Network {
+        names: Items::new(names),
+        links: Items::new(links),
+    })
+}
+
+/// Two paths with half of the demand each.
+fn half_each(alloc: Global, first: Vec<u32>, second: Vec<u32>) -> Result<Vec<PathShare>, AllocError>
+    ensures { IfOk result (λ p. p.items ≡ weighted first.items 500000 ∷ weighted second.items 500000 ∷ []) }
+{
+    let paths = vec![in alloc;
+        PathShare {
+            links: Items::new(first),
+            weight: 500_000
+        },
+        PathShare {
+            links: Items::new(second),
+            weight: 500_000
+        },
+    ]?;
+    Ok(paths)
+}
+
+/// From a to b and from m to b, each in halves over the two links from m to b.
+fn halves(alloc: Global) -> Result<Vec<PairRoutes>, AllocError>
+    ensures { IfOk result (λ r. r.items ≡ halves) }
+{
+    let from_a = half_each(alloc, vec![in alloc; 0, 1]?, vec![in alloc; 0, 2]?)?;
+    let from_m = half_each(alloc, vec![in alloc; 1]?, vec![in alloc; 2]?)?;
+    let routes = vec![in alloc;
+        PairRoutes {
+            pair: Pair { src: 0, dst: 2 },
+            paths: Items::new(from_a)
+        },
+        PairRoutes {
+            pair: Pair { src: 1, dst: 2 },
+            paths: Items::new(from_m)
+        },
+    ]?;
+    Ok(routes)
+}
+
+#[test]
+fn loads_of_all_links(rt: HostRuntime) -> Result<(), Fail> {
+    let alloc = rt.alloc();
+    let net = fork(alloc)?;
+    let matrix = Matrix {
+        demand: Items::new(vec![in alloc; 8, 4]?),
+    };
+    let routing = Routing {
+        routes: Items::new(halves(alloc)?),
+    };
+    match routing.loads(alloc, &net, &matrix) {
+        Ok(loads) => {
+            assert!(rt; loads.as_slice() == [8_000_000, 6_000_000, 6_000_000, 0].as_slice());
+            for h in 0..4 {
+                assert_eq!(rt; loads[h], routing.load(&matrix, h as u32));
+            }
+        }
+        Err(_) => assert!(rt; false),
+    }
+    assert!(rt; routing.greatest_utilisation(alloc, &net, &matrix) == Ok(800_000));
+    assert_eq!(rt; routing.parts(&net, &matrix), 800_000);
+    Ok(())
+}
+
+#[test]
+fn loads_without_pairs_or_links(rt: HostRuntime) -> Result<(), Fail> {
+    let alloc = rt.alloc();
+    let none = Routing {
+        routes: Items::new(Vec::new(alloc)),
+    };
+    let matrix = Matrix {
+        demand: Items::new(Vec::new(alloc)),
+    };
+    let net = fork(alloc)?;
+    match none.loads(alloc, &net, &matrix) {
+        Ok(loads) => assert!(rt; loads.as_slice() == [0, 0, 0, 0].as_slice()),
+        Err(_) => assert!(rt; false),
+    }
+    let bare = Network {
+        names: net.names,
+        links: Items::new(Vec::new(alloc)),
+    };
+    match none.loads(alloc, &bare, &matrix) {
+        Ok(loads) => assert_eq!(rt; loads.len(), 0),
+        Err(_) => assert!(rt; false),
+    }
+    Ok(())
+}
+
+/// The shares of the halves.
+fn shares_of_halves(alloc: Global, net: &Network, routing: &Routing) -> Result<Shares, Memory>
+    requires net { net.now ≡ fork }
+    requires halves { routing.now.routes ≡ halves }
+    ensures { IfOk result (λ s. length s ≡ 4) }
+{
+    Shares::new(alloc, net, routing)
+}
+
+#[test]
+fn pairs_with_a_share(rt: HostRuntime) -> Result<(), Fail> {
+    let alloc = rt.alloc();
+    let net = fork(alloc)?;
+    let routing = Routing {
+        routes: Items::new(halves(alloc)?),
+    };
+    match shares_of_halves(alloc, &net, &routing) {
+        Ok(shares) => {
+            let of = |pair, share| PairShare { pair, share };
+            assert!(rt; shares.on(0) == [of(0, 1_000_000)].as_slice());
+            assert!(rt; shares.on(1) == [of(0, 500_000), of(1, 500_000)].as_slice());
+            assert!(rt; shares.on(2) == [of(0, 500_000), of(1, 500_000)].as_slice());
+            assert!(rt; shares.on(3).is_empty());
         }
         Err(_) => assert!(rt; false),
     }

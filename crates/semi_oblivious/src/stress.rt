@@ -27,9 +27,9 @@ fn usage_of(
     ensures small { IfOk result (λ u. All (λ x. x ≤ 2 ^ 84) u.items) }
 {
     let links = net.links.as_slice();
-    let mut usage = Vec::with_capacity(alloc, links.len())?;
+    let mut usage = routing.loads(alloc, net, matrix)?;
     for h in 0..links.len() {
-        usage.push(routing.load(matrix, h as u32) / u128::from(links[h].capacity))?;
+        usage[h] /= u128::from(links[h].capacity);
     }
     Ok(usage)
 }

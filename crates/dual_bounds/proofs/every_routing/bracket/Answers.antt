@@ -15,7 +15,7 @@ loop-offered-init c =
     let b = c.in_ok-best.best in
     let unit : b.lengths ≡ unit_lengths net = search rules in
     choice_first net (length routes) demand (parts net routes demand) (AreDistancesUnder net routes) (keeps_rows net routes) b (pairs_unique net routes) unit
-    (subst (λ most. IsBoundOf net (length routes) demand most (AreDistancesUnder net routes) b) c.parts-most.ensures c.in_ok-best.ensures.bound)
+    (subst (λ most. IsBoundOf net (length routes) demand most (AreDistancesUnder net routes) b) c.in_ok-most.ensures c.in_ok-best.ensures.bound)
     c.in_ok-best.ensures.rows c.in_ok-best.ensures.low
 
 pub loop-offered-preserved : goal.loop-offered-preserved
@@ -31,7 +31,7 @@ loop-offered-preserved c =
     in
     choice_more net (length routes) demand (parts net routes demand) (AreDistancesUnder net routes) (keeps_rows net routes) offered i c.loop-offered.best other
     c.better-best.result (pairs_unique net routes) c.loop-offered-test.true same c.loop-offered.invariant
-    (subst (λ most. IsBoundOf net (length routes) demand most (AreDistancesUnder net routes) other) c.parts-most.ensures c.in_ok-other.ensures.bound)
+    (subst (λ most. IsBoundOf net (length routes) demand most (AreDistancesUnder net routes) other) c.in_ok-most.ensures c.in_ok-other.ensures.bound)
     c.in_ok-other.ensures.rows c.in_ok-other.ensures.low c.better-best.ensures
 
 pub returns-clause-sound : goal.returns-clause-sound

@@ -15,7 +15,7 @@ loop-offered-init c =
     let b = c.in_ok-best.best in
     let unit : b.lengths ≡ unit_lengths net = search rules in
     choice_first net (length fixed) demand (parts net c.args.routing.now.routes demand) (AreShortest fixed) keeps_none b (shortests_unique fixed) unit
-    (subst (λ most. IsBoundOf net (length fixed) demand most (AreShortest fixed) b) c.parts-most.ensures c.in_ok-best.ensures.bound)
+    (subst (λ most. IsBoundOf net (length fixed) demand most (AreShortest fixed) b) c.in_ok-most.ensures c.in_ok-best.ensures.bound)
     c.in_ok-best.ensures.rows c.in_ok-best.ensures.low
 
 pub loop-offered-preserved : goal.loop-offered-preserved
@@ -32,7 +32,7 @@ loop-offered-preserved c =
     in
     choice_more net (length fixed) demand (parts net c.args.routing.now.routes demand) (AreShortest fixed) keeps_none offered i c.loop-offered.best other
     c.better-best.result (shortests_unique fixed) c.loop-offered-test.true same c.loop-offered.invariant
-    (subst (λ most. IsBoundOf net (length fixed) demand most (AreShortest fixed) other) c.parts-most.ensures c.in_ok-other.ensures.bound)
+    (subst (λ most. IsBoundOf net (length fixed) demand most (AreShortest fixed) other) c.in_ok-most.ensures c.in_ok-other.ensures.bound)
     c.in_ok-other.ensures.rows c.in_ok-other.ensures.low c.better-best.ensures
 
 pub returns-clause-sound : goal.returns-clause-sound

@@ -1,4 +1,4 @@
-use Rattle.std.proofs.Common.{◌≡◌, ◌≢◌, ◌∙◌, sym, refl, ap, arith, [], Ok, Err, length}
+use Rattle.std.proofs.Common.{◌≡◌, ◌≢◌, ◌∙◌, sym, arith, [], Err, length}
 use Rattle.std.proofs.lemmas.List.Elements.{All-append, All-cons}
 use Rattle.te_model.specs.Network.{link_count}
 use Rattle.tables.specs.Rows.{records_of}

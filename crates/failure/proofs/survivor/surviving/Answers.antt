@@ -1,8 +1,4 @@
-use Rattle.std.proofs.Common.{◌≡◌, sym, subst, true}
-use Rattle.te_model.specs.Network.{is_well_formed}
-use Rattle.failure.specs.declared.survivor.Survivor.{Survivor}
-use Rattle.failure.specs.Survivor.{survivor_of}
-use Rattle.failure.proofs.NetworkLemmas.{all-stand, few-links, well-formed}
+use Rattle.failure.proofs.NetworkLemmas.{all-stand, well-formed}
 use Rattle.failure.proofs.survivor.surviving.Goals as goal
 
 pub links_at-requires : goal.links_at-requires

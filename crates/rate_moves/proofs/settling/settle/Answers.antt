@@ -5,13 +5,13 @@ use Rattle.routing.specs.Merge.{links_at}
 use Rattle.routing.specs.Routes.{AreDemands, HasFewPaths}
 use Rattle.routing.specs.Split.{are_splits}
 use Rattle.routing.specs.Utilisation.{parts}
+use Rattle.routing.proofs.Loading.{written_whole}
 use Rattle.routing.proofs.Splits.{splits_of}
 use Rattle.rate_moves.specs.Moves.{CanMove, IsMoved, IsStable, UsesOnly, path_at}
 use Rattle.rate_moves.specs.Search.{loads_moved}
 use Rattle.rate_moves.proofs.MovedLoads.{loads_small}
 use Rattle.rate_moves.proofs.MovedRoutings.{same_count}
 use Rattle.rate_moves.proofs.Settled.{settled_few, settled_more}
-use Rattle.rate_moves.proofs.Taking.{written_whole}
 use Rattle.rate_moves.proofs.settling.settle.Goals as goal
 
 pub next_move-requires-clause-splits : goal.next_move-requires-clause-splits

@@ -5,8 +5,8 @@ use Rattle.te_model.specs.Network.{capacity_of, link_count, no_link}
 use Rattle.te_model.proofs.SoundLinks.{sound_links}
 use Rattle.semi_oblivious.proofs.stress.usage_of.Goals as goal
 
-pub nonzero_div-load : goal.nonzero_div-load
-nonzero_div-load c =
+pub nonzero_div-index_mut : goal.nonzero_div-index_mut
+nonzero_div-index_mut c =
     let net = c.args.net.now in
     let h = c.loop-h.h in
     let inside : h < link_count net = omega (arith, c.loop-h-test.true, ap (λ (ls : List Link). length ls) c.as_slice-links.ensures) in

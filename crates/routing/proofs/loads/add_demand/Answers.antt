@@ -1,0 +1,52 @@
+use Rattle.std.proofs.Common.{◌≡◌, ◌<◌, ◌^◌, ◌+◌, ◌*◌, ℕ, List, length, get_or, arith, ap, ◌∙◌}
+use Rattle.std.proofs.lemmas.List.{get_or_read}
+use Rattle.std.proofs.lemmas.List.Elements.{All-from_get_or, All-get_or}
+use Rattle.te_model.specs.declared.route.PathShare.{PathShare}
+use Rattle.routing.specs.Decomposition.{taken_on}
+use Rattle.routing.specs.Merge.{no_path}
+use Rattle.routing.proofs.Loading.{path_fits, path_more}
+use Rattle.routing.proofs.loads.add_demand.Goals as goal
+
+pub add_along-requires-clause-room : goal.add_along-requires-clause-room
+add_along-requires-clause-room c =
+    let paths = c.args.paths.now in
+    let i = c.loop-path.path-index in
+    let demand = c.args.demand in
+    let item = ap (λ (s : PathShare). s.weight) (get_or_read paths i c.path-item.result c.loop-path-test.true c.path-item.is no_path) in
+    let amount : c.from.result * c.from-in-loop-path.result ≡ demand * (get_or paths i no_path).weight =
+    ap (λ x. x * c.from-in-loop-path.result) c.from.ensures ∙ ap (λ x. demand * x) (c.from-in-loop-path.ensures ∙ item)
+    in
+    All-from_get_or (λ x. x + c.from.result * c.from-in-loop-path.result < 2 ^ 128) c.loop-path.loads 0 (λ e below.
+    let inside : e < length c.args.loads.now = omega (arith, below, c.loop-path.auto.loads) in
+    omega (
+      arith,
+      amount,
+      c.loop-path.invariant.loads e inside,
+      All-get_or (λ x. x < 2 ^ 84) c.args.loads.now e 0 inside c.requires.room,
+      path_fits paths demand e i c.loop-path-test.true c.requires.demand c.requires.whole,
+    ))
+
+pub loop-path-preserved : goal.loop-path-preserved
+loop-path-preserved c = record {
+  loads = λ e below.
+      let paths = c.args.paths.now in
+      let i = c.loop-path.path-index in
+      let demand = c.args.demand in
+      let read = get_or_read paths i c.path-item.result c.loop-path-test.true c.path-item.is no_path in
+      let amount : c.from.result * c.from-in-loop-path.result ≡ demand * (get_or paths i no_path).weight =
+      ap (λ x. x * c.from-in-loop-path.result) c.from.ensures ∙ ap (λ x. demand * x) (c.from-in-loop-path.ensures ∙ ap (λ (s : PathShare). s.weight) read)
+      in
+      let links : c.as_slice-links.result.now ≡ (get_or paths i no_path).links = c.as_slice-links.ensures ∙ ap (λ (s : PathShare). s.links) read in
+      let puts : taken_on c.as_slice-links.result.now (c.from.result * c.from-in-loop-path.result) e
+      ≡ taken_on (get_or paths i no_path).links (demand * (get_or paths i no_path).weight) e =
+      ap (λ (l : List ℕ). taken_on l (c.from.result * c.from-in-loop-path.result) e) links ∙ ap (λ x. taken_on (get_or paths i no_path).links x e) amount
+      in
+      omega (
+        arith,
+        c.add_along.ensures.loads e (omega (arith, below, c.loop-path.auto.loads)),
+        puts,
+        path_more paths demand e i c.loop-path-test.true,
+        c.loop-path.invariant.loads e below,
+      );
+  marks = c.unmark.ensures;
+}
