@@ -1,0 +1,139 @@
+//! Simulated steps of the network, with four paths for each pair.
+ghost use Rattle.std.specs.Prelude.{◌≡◌, ◌≤◌, ◌^◌, IfOk, IsTrue, EachIndex, length, slice_index};
+ghost use Rattle.te_model.specs.Network.{is_well_formed, link_count};
+ghost use Rattle.scheme.specs.Reach.{ArePairsOf};
+ghost use Rattle.local_recovery.specs.Rates.{ArePairs, IsRates};
+
+use crate::network::{network, next_number};
+use crate::pairs::pairs_from;
+use flow_sim::{StepResult, step};
+use k_paths::Ksp;
+use local_recovery::{Mode, Recovered, recover};
+use scheme::{Oblivious, Scheme, SchemeFault};
+use shortest_path::{costs, least_path};
+use std::alloc::{AllocError, Global};
+use std::io;
+use std::time::Instant;
+use te_model::{Items, Matrix, Memory, Network, Pairs, well_formed};
+
+// How many steps are timed.
+const STEPS: u32 = 20;
+
+// A demand for each of so many pairs.
+fn demands(alloc: Global, count: usize) -> Result<Matrix, AllocError>
+    ensures count { IfOk result (λ m. length m.demand ≡ count) }
+    ensures small { IfOk result (λ m. EachIndex m.demand (λ p. slice_index m.demand p ≤ 2 ^ 32)) }
+{
+    let mut demand = Vec::new(alloc);
+    let mut state = 11u64;
+    for _ in 0..count {
+        demand.push(u64::from(next_number(&mut state) % 1000))?;
+    }
+    Ok(Matrix {
+        demand: Items::new(demand),
+    })
+}
+
+// The four least paths of each pair, with even weights.
+fn four_paths(
+    alloc: Global,
+    net: &Network,
+    failed: &[bool],
+    pairs: &Pairs,
+) -> Result<Recovered, SchemeFault>
+    requires network { IsTrue (is_well_formed net.now) }
+    requires marks { length failed.now ≡ link_count net.now }
+    requires pairs { ArePairsOf net.now pairs.now.list }
+    requires ascending { ArePairs net.now pairs.now.list }
+    ensures rates { IfOk result (λ r. IsRates net.now r.routes) }
+    ensures count { IfOk result (λ r. length r.routes ≡ length pairs.now.list) }
+{
+    let ksp = Ksp { k: 4 };
+    let plan = ksp.prepare(alloc, net, pairs)?;
+    let rates = recover(alloc, Mode::Keep, net, failed, ksp.fixed(&plan))?;
+    Ok(rates)
+}
+
+// Takes `STEPS` steps, and says what became of the demands in the last.
+fn steps(
+    alloc: Global,
+    net: &Network,
+    failed: &[bool],
+    rates: &Recovered,
+    matrix: &Matrix,
+) -> Result<StepResult, Memory>
+    requires network { IsTrue (is_well_formed net.now) }
+    requires marks { length failed.now ≡ link_count net.now }
+    requires rates { IsRates net.now rates.now.routes }
+    requires demands { length matrix.now.demand ≡ length rates.now.routes }
+    requires small { EachIndex matrix.now.demand (λ p. slice_index matrix.now.demand p ≤ 2 ^ 32) }
+{
+    for _ in 1..STEPS {
+        let _ = step(alloc, net, failed, rates, matrix)?;
+    }
+    step(alloc, net, failed, rates, matrix)
+}
+
+// How many links the least paths of the pairs have.
+fn least_paths(alloc: Global, net: &Network, pairs: &Pairs) -> Result<usize, Memory>
+    requires network { IsTrue (is_well_formed net.now) }
+    requires pairs { ArePairsOf net.now pairs.now.list }
+{
+    let lengths = costs(alloc, net)?;
+    let mut count = 0usize;
+    for pair in pairs.list.as_slice() {
+        if let Some(path) = least_path(alloc, net, &lengths, pair.src, pair.dst)? {
+            count = count.wrapping_add(path.links.as_slice().len());
+        }
+    }
+    Ok(count)
+}
+
+// Prints what became of the demands in a step, and if `is_timed` how long steps and least paths took.
+fn simulate(
+    rt: &HostRuntime,
+    net: &Network,
+    pairs: &Pairs,
+    failed: &[bool],
+    rates: &Recovered,
+    is_timed: bool,
+) -> io::Result<()>
+    requires network { IsTrue (is_well_formed net.now) }
+    requires marks { length failed.now ≡ link_count net.now }
+    requires pairs { ArePairsOf net.now pairs.now.list }
+    requires rates { IsRates net.now rates.now.routes }
+{
+    let alloc = rt.alloc();
+    let matrix = demands(alloc, rates.routes.as_slice().len())?;
+    let start = Instant::now(rt)?;
+    let Ok(found) = steps(alloc, net, failed, rates, &matrix) else {
+        return Ok(());
+    };
+    let of_steps = start.elapsed(rt)?.as_micros();
+    let (offered, delivered, lost_full) = (found.offered, found.delivered, found.lost_full);
+    println!(rt; "{offered} {delivered} {lost_full}")?;
+    if is_timed {
+        let start = Instant::now(rt)?;
+        let _ = least_paths(alloc, net, pairs);
+        let of_least = start.elapsed(rt)?.as_micros();
+        println!(rt; "{of_steps} {of_least}")?;
+    }
+    Ok(())
+}
+
+/// Prints how many units of the pairs of the first `sources` nodes were offered, delivered and lost on full links in a
+/// step, and if `is_timed` how many microseconds 20 steps took, and how many the least paths of the same pairs.
+pub fn measure_steps(rt: &HostRuntime, sources: u32, is_timed: bool) -> io::Result<()>
+    requires { sources ≤ 64 }
+{
+    let alloc = rt.alloc();
+    let net = network(alloc, 10_000, 90_000)?;
+    if net.names.as_slice().len() == 64 && well_formed(&net) {
+        let pairs = pairs_from(alloc, &net, sources)?;
+        let failed = vec![in alloc; false; net.links.as_slice().len()]?;
+        if let Ok(rates) = four_paths(alloc, &net, &failed, &pairs) {
+            simulate(rt, &net, &pairs, &failed, &rates, is_timed)?;
+        }
+    }
+    Ok(())
+}

@@ -1,0 +1,58 @@
+//! The mix of decomposition trees of the network, and all pairs over it.
+ghost use Rattle.std.specs.Prelude.{◌≤◌, IsTrue};
+ghost use Rattle.te_model.specs.Network.{is_well_formed};
+ghost use Rattle.scheme.specs.Reach.{ArePairsOf};
+
+use crate::network::{NODES, network};
+use crate::pairs::pairs_from;
+use racke_mix::Racke;
+use routing::Routing;
+use scheme::{Oblivious, Scheme, Spf};
+use std::alloc::Global;
+use std::io;
+use std::time::Instant;
+use te_model::{Network, Pairs, well_formed};
+
+fn count_paths(routing: &Routing) -> usize {
+    let mut count = 0usize;
+    for route in routing.routes.as_slice() {
+        count = count.wrapping_add(route.paths.as_slice().len());
+    }
+    count
+}
+
+// How many paths the pairs have by the scheme.
+fn paths_by<S: Oblivious>(alloc: Global, scheme: &S, net: &Network, pairs: &Pairs) -> usize
+    requires network { IsTrue (is_well_formed net.now) }
+    requires pairs { ArePairsOf net.now pairs.now.list }
+{
+    match scheme.prepare(alloc, net, pairs) {
+        Ok(plan) => count_paths(scheme.fixed(&plan)),
+        Err(_) => 0,
+    }
+}
+
+/// Prints how many paths the pairs have over a mix of so many trees, and if `is_timed` how many microseconds the mix
+/// took, and how many the least paths of all pairs.
+pub fn measure_trees(rt: &HostRuntime, trees: u32, is_timed: bool) -> io::Result<()>
+    requires some { 1 ≤ trees }
+    requires few { trees ≤ 16 }
+{
+    let alloc = rt.alloc();
+    let net = network(alloc, 10, 90)?;
+    if net.names.as_slice().len() == 64 && well_formed(&net) {
+        let pairs = pairs_from(alloc, &net, NODES)?;
+        let racke = Racke { trees, seed: 7 };
+        let start = Instant::now(rt)?;
+        let count = paths_by(alloc, &racke, &net, &pairs);
+        let of_mix = start.elapsed(rt)?.as_micros();
+        println!(rt; "{count}")?;
+        if is_timed {
+            let start = Instant::now(rt)?;
+            let _ = paths_by(alloc, &Spf, &net, &pairs);
+            let of_least = start.elapsed(rt)?.as_micros();
+            println!(rt; "{of_mix} {of_least}")?;
+        }
+    }
+    Ok(())
+}
