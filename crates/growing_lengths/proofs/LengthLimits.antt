@@ -2,7 +2,7 @@
 use Rattle.std.proofs.Common.{◌≡◌, inl, inr, ℕ, ◌*◌, ◌^◌, ◌≤◌, true, List, All, length, get_or, arith, ap, ◌∙◌}
 use Rattle.std.proofs.lemmas.Bool.{cases_lt}
 use Rattle.std.proofs.lemmas.Nat.{mul-le}
-use Rattle.std.proofs.lemmas.List.Elements.{All-get_or}
+use Rattle.std.proofs.lemmas.List.Elements.{All-from_get_or, All-get_or}
 use Rattle.te_model.specs.declared.network.Network.{Network}
 use Rattle.te_model.specs.Network.{link_count, capacity_of, is_well_formed}
 use Rattle.routing.specs.Utilisation.{quotient_up}
@@ -34,3 +34,11 @@ lengths_some net multipliers formed count some = all_links (λ l. 1 ≤ l) net (
     (below_greatest (link_count net) (capacity_of net) h inside)
     in
     omega (arith, is, q))
+
+pub lengths_moderate : (net : Network) (multipliers : List ℕ) → is_well_formed net ≡ true → length multipliers ≡ link_count net →
+    All (λ m. 1 ≤ m) multipliers → All (λ l. (1 ≤ l) × (l ≤ 2 ^ 28)) (lengths_of net multipliers)
+lengths_moderate net multipliers formed count some =
+    All-from_get_or (λ l. (1 ≤ l) × (l ≤ 2 ^ 28)) (lengths_of net multipliers) 0 (λ h below. (
+      All-get_or (λ l. 1 ≤ l) (lengths_of net multipliers) h 0 below (lengths_some net multipliers formed count some),
+      All-get_or (λ l. l ≤ 2 ^ 28) (lengths_of net multipliers) h 0 below (lengths_limit net multipliers),
+    ))

@@ -10,7 +10,7 @@ use Rattle.routing.specs.Utilisation.{quotient_up}
 use Rattle.routing.proofs.Quotients.{quotient_up-least}
 use Rattle.growing_lengths.specs.Growth.{first_multipliers, greatest_usage, grown, grown_multiplier, usage_of}
 use Rattle.growing_lengths.proofs.Greatest.{below_greatest}
-use Rattle.growing_lengths.proofs.EachLink.{all_links, count_each}
+use Rattle.growing_lengths.proofs.EachLink.{all_links, at_link, count_each}
 
 -- the multipliers of round j
 pub record HaveGrown (net : Network) (j : ℕ) (multipliers : List ℕ) : Type 0 where
@@ -55,3 +55,13 @@ next_grown net j loads divisor multipliers next far most are = subst (HaveGrown 
 pub grown_small : (net : Network) (j : ℕ) (multipliers : List ℕ) → HaveGrown net j multipliers → j < 28 → All (λ m. m ≤ 2 ^ 38) multipliers
 grown_small net j multipliers far few = All-from_get_or (λ m. m ≤ 2 ^ 38) multipliers 0 (λ h below.
     omega (arith, All-get_or (λ m. m ≤ 1024 * 2 ^ j) multipliers h 0 below far.small, pow_below j 28 few))
+
+pub at_most_double : (net : Network) (loads : List ℕ) (divisor : ℕ) (multipliers : List ℕ) → greatest_usage net loads ≤ divisor →
+    (h : ℕ) → h < link_count net →
+    (get_or multipliers h 0 ≤ get_or (grown net loads divisor multipliers) h 0)
+    × (get_or (grown net loads divisor multipliers) h 0 ≤ 2 * get_or multipliers h 0)
+at_most_double net loads divisor multipliers most h inside =
+    let is = at_link net (grown_multiplier net loads divisor multipliers) h inside in
+    let usage : usage_of net loads h ≤ divisor = omega (arith, below_greatest (link_count net) (usage_of net loads) h inside, most) in
+    let part = part_small (get_or multipliers h 0) (usage_of net loads h) divisor (omega (arith, most)) usage in
+    (omega (arith, is), omega (arith, is, part))

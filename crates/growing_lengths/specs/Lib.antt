@@ -1,3 +1,4 @@
 pub mod Growth
+pub mod Limits
 pub mod Loads
 pub mod Samples

@@ -5,9 +5,11 @@
 //! - `first_multipliers` and `lengths_of`: the lengths that a round begins with.
 //! - `add_along`: what a path puts on its links.
 //! - `greatest_usage` and `grow`: the multipliers of the next round.
+//! - `laws`: how far lengths and multipliers go.
 #![tactic(auto)]
 
 mod growth;
+pub mod laws;
 mod lengths;
 mod loads;
 

@@ -5,6 +5,7 @@
 #![tactic(auto)]
 
 mod flow;
+mod law;
 mod loads;
 mod paths;
 mod round;
@@ -12,6 +13,7 @@ mod rounds;
 mod split;
 
 pub use flow::{Mcf, McfPlan};
+pub use law::rounds_are_28;
 
 #[cfg(test)]
 mod tests;

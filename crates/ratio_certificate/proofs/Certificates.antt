@@ -22,7 +22,7 @@ use Rattle.te_model.proofs.ValidParts.{valid_parts}
 use Rattle.routing.proofs.Splits.{share-le, splits_of}
 use Rattle.ratio_certificate.specs.Best.{IsBestBlock}
 use Rattle.ratio_certificate.specs.Conditions.{IsRoutingWithin, IsSetWithin}
-use Rattle.ratio_certificate.specs.Made.{AreStartingBlocks, HasShare, IsStartingBlock, starting_weights}
+use Rattle.ratio_certificate.specs.Made.{AreStartingBlocks, HasShare, IsMade, IsStartingBlock, starting_weights}
 use Rattle.ratio_certificate.specs.Need.{HasNumbers, IsGreatestNeed}
 use Rattle.ratio_certificate.proofs.BlockValid.{best_valid}
 use Rattle.ratio_certificate.proofs.HeadValid.{made_head}
@@ -199,11 +199,18 @@ certificate_of net routes wanted ratio blocks = record {
 pub made_certificate : (net : Network) (routes : List PairRoutes) (wanted : DemandSet) (blocks : List Block) (ratio : ℕ) (n : Network) (r : List PairRoutes) (bs : List Block) →
     n ≡ net → r ≡ routes → bs ≡ blocks → is_well_formed net ≡ true → 1 ≤ link_count net → IsRoutingWithin net routes → IsSetWithin (length routes) wanted →
     AreStartingBlocks (link_count net) net routes wanted blocks → IsGreatestNeed net blocks ratio →
-    IsValid (certificate_of n r wanted ratio bs) × Holds (certificate_of n r wanted ratio bs)
+    IsMade net routes wanted (certificate_of n r wanted ratio bs)
 made_certificate net routes wanted blocks ratio n r bs is_n is_r is_bs formed some within set are greatest =
-    subst (λ (x : Network). IsValid (certificate_of x r wanted ratio bs) × Holds (certificate_of x r wanted ratio bs)) (sym is_n)
-    (subst (λ (x : List PairRoutes). IsValid (certificate_of net x wanted ratio bs) × Holds (certificate_of net x wanted ratio bs)) (sym is_r)
-    (subst (λ (x : List Block). IsValid (certificate_of net routes wanted ratio x) × Holds (certificate_of net routes wanted ratio x)) (sym is_bs) (
-      certificate_valid (certificate_of net routes wanted ratio blocks) formed some within set are greatest,
-      certificate_holds (certificate_of net routes wanted ratio blocks) within set are greatest,
-    )))
+    subst (λ (x : Network). IsMade net routes wanted (certificate_of x r wanted ratio bs)) (sym is_n)
+    (subst (λ (x : List PairRoutes). IsMade net routes wanted (certificate_of net x wanted ratio bs)) (sym is_r)
+    (subst (λ (x : List Block). IsMade net routes wanted (certificate_of net routes wanted ratio x)) (sym is_bs)
+    (record {
+      network = refl;
+      routes_are = refl;
+      set_is = refl;
+      valid = certificate_valid (certificate_of net routes wanted ratio blocks) formed some within set are greatest;
+      holds = certificate_holds (certificate_of net routes wanted ratio blocks) within set are greatest;
+      best = are.best;
+      blocks = are.complete;
+      ratio = greatest;
+    })))

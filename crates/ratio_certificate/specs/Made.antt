@@ -1,15 +1,18 @@
--- Made certificates: the best blocks of the starting weights (after Applegate and Cohen, 2003).
-use Rattle.std.specs.Prelude.{ℕ, ◌<◌, ◌≤◌, IsTrue, List, length, replicate, All, ◌==◌}
+-- Certificates as they are made, of the best blocks of the starting weights (after Applegate and Cohen, 2003).
+use Rattle.std.specs.Prelude.{◌≡◌, ℕ, ◌<◌, ◌≤◌, IsTrue, List, length, replicate, All, ◌==◌}
 use Rattle.std.specs.List.{list_any}
 use Rattle.te_model.specs.declared.network.Network.{Network}
 use Rattle.te_model.specs.declared.route.PairRoutes.{PairRoutes}
 use Rattle.te_model.specs.declared.certificate.Block.{Block}
+use Rattle.te_model.specs.declared.certificate.Certificate.{Certificate}
 use Rattle.te_model.specs.declared.demand.DemandSet.{DemandSet}
+use Rattle.te_model.specs.Inequalities.{Holds}
 use Rattle.te_model.specs.Network.{link_count}
 use Rattle.te_model.specs.Path.{share}
-use Rattle.te_model.specs.Validity.{AscendByLink}
+use Rattle.te_model.specs.Validity.{AscendByLink, IsValid}
 use Rattle.ratio_certificate.specs.declared.making.TheConstants.{STARTING_WEIGHT}
 use Rattle.ratio_certificate.specs.Best.{IsBestBlock}
+use Rattle.ratio_certificate.specs.Need.{IsGreatestNeed}
 
 -- some pair has a share on link e
 abbrev pub HasShare : List PairRoutes → ℕ → Type 0
@@ -34,3 +37,15 @@ pub record AreStartingBlocks (m : ℕ) (net : Network) (routes : List PairRoutes
   pub below : All (λ b. b.link < m) blocks
   pub few : length blocks ≤ m
   pub complete : (e : ℕ) → e < m → HasShare routes e → HasBlock blocks e
+
+-- a valid certificate of the network, the routes and the set, whose inequalities hold: the best blocks of the starting
+-- weights for exactly the links with a share, and the least ratio that pays for them
+pub record IsMade (net : Network) (routes : List PairRoutes) (set : DemandSet) (c : Certificate) : Type 0 where
+  pub network : c.head.network ≡ net
+  pub routes_are : c.head.routes ≡ routes
+  pub set_is : c.head.set ≡ set
+  pub valid : IsValid c
+  pub holds : Holds c
+  pub best : All (IsStartingBlock net routes set) c.blocks
+  pub blocks : (e : ℕ) → e < link_count net → HasShare routes e → HasBlock c.blocks e
+  pub ratio : IsGreatestNeed net c.blocks c.head.ratio

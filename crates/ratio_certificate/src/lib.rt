@@ -9,6 +9,7 @@ mod best;
 mod capacity;
 mod crossing;
 mod crossings;
+mod law;
 mod making;
 mod margin;
 mod metric;
@@ -17,6 +18,7 @@ mod rows;
 
 pub use best::scale;
 pub use capacity::need;
+pub use law::starting_weight_is_2_to_the_20;
 pub use making::make;
 
 #[cfg(test)]

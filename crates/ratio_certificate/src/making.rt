@@ -1,15 +1,13 @@
 //! The making of certificates.
 ghost use Rattle.std.specs.Prelude.{◌≡◌, ◌<◌, ◌≤◌, ◌^◌, ℕ, IfOk, IfSome, IfNone, All, IsTrue, false, true, length, slice_index};
-ghost use Rattle.te_model.specs.Inequalities.{Holds};
 ghost use Rattle.te_model.specs.Network.{is_well_formed, link_count};
 ghost use Rattle.te_model.specs.Path.{share};
-ghost use Rattle.te_model.specs.Validity.{AscendByLink, IsValid};
+ghost use Rattle.te_model.specs.Validity.{AscendByLink};
 ghost use Rattle.te_model.specs.declared.certificate.Block.{Block};
 ghost use Rattle.ratio_certificate.specs.Conditions.{IsRoutingWithin, IsSetWithin};
 ghost use Rattle.ratio_certificate.specs.Crossings.{weight_of, AreCrossings};
-ghost use Rattle.ratio_certificate.specs.Made.{starting_weights, AreStartingBlocks, HasBlock, HasShare, IsStartingBlock};
+ghost use Rattle.ratio_certificate.specs.Made.{starting_weights, AreStartingBlocks, HasShare, IsMade, IsStartingBlock};
 ghost use Rattle.ratio_certificate.specs.Metric.{IsMetric};
-ghost use Rattle.ratio_certificate.specs.Need.{IsGreatestNeed};
 
 use crate::best::best_block;
 use crate::capacity::greatest_need;
@@ -114,14 +112,7 @@ pub fn make(
     requires links { 1 ≤ link_count net.now }
     requires routing { IsRoutingWithin net.now routing.now.routes }
     requires set { IsSetWithin (length routing.now.routes) set }
-    ensures network { IfOk result (λ c. c.head.network ≡ net.now) }
-    ensures routes { IfOk result (λ c. c.head.routes ≡ routing.now.routes) }
-    ensures set { IfOk result (λ c. c.head.set ≡ set) }
-    ensures valid { IfOk result (λ c. IsValid c) }
-    ensures holds { IfOk result (λ c. Holds c) }
-    ensures best { IfOk result (λ c. All (IsStartingBlock net.now routing.now.routes set) c.blocks) }
-    ensures blocks { IfOk result (λ c. (e : ℕ) → e < link_count net.now → HasShare routing.now.routes e → HasBlock c.blocks e) }
-    ensures ratio { IfOk result (λ c. IsGreatestNeed net.now c.blocks c.head.ratio) }
+    ensures { IfOk result (IsMade net.now routing.now.routes set) }
 {
     let links = net.links.as_slice().len();
     let weights = vec![in alloc; STARTING_WEIGHT; links]?;

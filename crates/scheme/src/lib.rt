@@ -7,7 +7,6 @@
 
 mod fault;
 mod fixed;
-mod generic;
 mod low;
 mod spf;
 mod traits;

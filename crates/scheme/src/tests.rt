@@ -2,10 +2,13 @@ ghost use Rattle.std.specs.Prelude.{◌≡◌, IfOk};
 ghost use Rattle.shortest_path.specs.Samples.{four_nodes, link};
 ghost use Rattle.scheme.specs.Samples.{pair, reached_pairs, three_pairs};
 
+mod generic;
+
 use super::*;
+use generic::{fixed_copy, planned};
 use std::alloc::{AllocError, Global};
 use std::test::Fail;
-use te_model::{Items, Link, Name, Network, Pair, Pairs};
+use te_model::{Items, Link, Matrix, Name, Network, Pair, Pairs};
 
 fn link(tail: u32, head: u32, cost: u32) -> Link
     ensures { result ≡ link tail head cost }
@@ -87,5 +90,27 @@ fn the_least_path_of_each_pair(rt: HostRuntime) -> Result<(), Fail> {
         Ok(_) => assert!(rt; false),
     }
     assert!(rt; ().low() == None);
+    Ok(())
+}
+
+#[test]
+fn the_laws_of_the_traits_suffice(rt: HostRuntime) -> Result<(), Fail> {
+    let alloc = rt.alloc();
+    let net = four_nodes(alloc)?;
+    let pairs = reached_pairs(alloc)?;
+    let matrix = Matrix {
+        demand: Items::new(vec![in alloc; 3u64, 4]?),
+    };
+    match planned(alloc, &Spf, &net, &pairs, &matrix) {
+        Ok((routing, low)) => {
+            assert_eq!(rt; routing.routes.as_slice().len(), 2);
+            assert!(rt; low == None);
+        }
+        Err(_) => assert!(rt; false),
+    }
+    match fixed_copy(alloc, &Spf, &net, &pairs) {
+        Ok(routing) => assert_eq!(rt; routing.routes.as_slice().len(), 2),
+        Err(_) => assert!(rt; false),
+    }
     Ok(())
 }

@@ -1,7 +1,9 @@
 //! The records of a file, one after another.
 
-ghost use Rattle.std.specs.Prelude.{◌≡◌, ◌≢◌, ◌∷◌, [], length, true, false, IfOk, IfNone, IfSome, option_map};
+ghost use Rattle.std.specs.Prelude.{◌≡◌, ◌≢◌, ◌∷◌, [], length, true, false, IfErr, IfOk, IfNone, IfSome, option_map};
 ghost use Rattle.csv.specs.Records.{field_at};
+ghost use Rattle.csv.specs.Reading.{error_kind};
+ghost use Rattle.tables.specs.Errors.{IsShortOrUnread};
 ghost use Rattle.tables.specs.Rows.{records_of};
 ghost use Rattle.tables.specs.Table.{Table};
 
@@ -48,10 +50,13 @@ impl<'a> Rows<'a> {
         }
     }
 
-    /// Reads the next record, and says whether there was one. After want of memory no record is left.
+    /// Reads the next record, and says whether there was one. After the last one, and after want of memory, no record is
+    /// left.
     pub fn advance(&mut self) -> Result<bool, Memory>
         ensures found { IfOk result (λ found. found ≡ true → self.old.rest ≡ self.new.current ∷ self.new.rest) }
         ensures ended { IfOk result (λ found. found ≡ false → self.old.rest ≡ []) }
+        ensures stays_ended { IfOk result (λ found. found ≡ false → self.new.rest ≡ []) }
+        ensures failed { IfErr result (λ _. self.new.rest ≡ []) }
     {
         if self.ended {
             return Ok(false);
@@ -115,7 +120,11 @@ impl<'a> Rows<'a> {
     }
 }
 
-// Over bytes in memory `csv` fails for want of memory alone: it refuses no bytes here, and no clause of it says so.
-fn memory_of(_refused: csv::Error) -> Memory {
+// Over bytes in memory `csv` fails for want of memory alone. Its clauses say that it refuses no bytes here; that the reader
+// underneath, a slice, does not fail either, no clause says.
+fn memory_of(refused: csv::Error) -> Memory
+    requires { IsShortOrUnread (error_kind refused) }
+{
+    let _ = refused;
     Memory
 }

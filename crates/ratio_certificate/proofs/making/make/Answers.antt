@@ -1,7 +1,6 @@
 use Rattle.std.proofs.Common.{List, arith, sym, subst}
 use Rattle.std.specs.Prelude.{All}
 use Rattle.te_model.specs.declared.certificate.Block.{Block}
-use Rattle.ratio_certificate.specs.Made.{IsStartingBlock}
 use Rattle.ratio_certificate.specs.Need.{HasNumbers, IsGreatestNeed}
 use Rattle.ratio_certificate.proofs.Certificates.{made_certificate, starting_need, starting_numbers}
 use Rattle.ratio_certificate.proofs.making.make.Goals as goal
@@ -21,20 +20,9 @@ overflow_cast-ratio c =
     in
     omega (arith, bound)
 
-pub returns-clause-valid : goal.returns-clause-valid
-returns-clause-valid c =
+pub returns : goal.returns
+returns c =
     let net = c.args.net.now in
     let greatest = subst (λ (bs : List Block). IsGreatestNeed net bs c.greatest_need-ratio.result) c.deref-2.ensures.value c.greatest_need-ratio.ensures in
-    (made_certificate net c.args.routing.now.routes c.args.set c.in_ok-blocks.blocks.items c.greatest_need-ratio.result _ _ _ c.in_ok-network.ensures c.in_ok-routes.ensures
-    c.new.ensures c.requires.network c.requires.links c.requires.routing c.requires.set c.in_ok-blocks.ensures greatest).0
-
-pub returns-clause-holds : goal.returns-clause-holds
-returns-clause-holds c =
-    let net = c.args.net.now in
-    let greatest = subst (λ (bs : List Block). IsGreatestNeed net bs c.greatest_need-ratio.result) c.deref-2.ensures.value c.greatest_need-ratio.ensures in
-    (made_certificate net c.args.routing.now.routes c.args.set c.in_ok-blocks.blocks.items c.greatest_need-ratio.result _ _ _ c.in_ok-network.ensures c.in_ok-routes.ensures
-    c.new.ensures c.requires.network c.requires.links c.requires.routing c.requires.set c.in_ok-blocks.ensures greatest).1
-
-pub returns-clause-best : goal.returns-clause-best
-returns-clause-best c =
-    subst (λ (bs : List Block). All (IsStartingBlock c.args.net.now c.args.routing.now.routes c.args.set) bs) (sym c.new.ensures) c.in_ok-blocks.ensures.best
+    made_certificate net c.args.routing.now.routes c.args.set c.in_ok-blocks.blocks.items c.greatest_need-ratio.result _ _ _ c.in_ok-network.ensures c.in_ok-routes.ensures
+    c.new.ensures c.requires.network c.requires.links c.requires.routing c.requires.set c.in_ok-blocks.ensures greatest

@@ -1,4 +1,4 @@
-//! What generic code may rely on: each law of the schemes is used once here.
+//! What generic code may rely on: each law of the traits is used once here.
 ghost use Rattle.std.specs.Prelude.{◌≡◌, ◌≤◌, ℕ, List, IfOk, IsTrue, length, MatchResult};
 ghost use Rattle.te_model.specs.declared.route.Pair.{Pair};
 ghost use Rattle.te_model.specs.Network.{is_well_formed};
@@ -13,7 +13,7 @@ use std::alloc::Global;
 use te_model::{Matrix, Network, Pairs};
 
 /// Plans, routes one matrix, and gives the routing that stands for every matrix with the note's bound.
-fn planned<S: Oblivious>(
+pub fn planned<S: Oblivious>(
     alloc: Global,
     scheme: &S,
     net: &Network,
@@ -34,7 +34,7 @@ fn planned<S: Oblivious>(
 }
 
 /// Plans, and copies the routing that stands for every matrix.
-fn fixed_copy<S: Oblivious>(
+pub fn fixed_copy<S: Oblivious>(
     alloc: Global,
     scheme: &S,
     net: &Network,
