@@ -239,9 +239,15 @@ def check(name, data):
 
 
 def main():
+    if len(sys.argv) != 2:
+        print(__doc__.split("\n\n")[1], file=sys.stderr)
+        return 2
     name = sys.argv[1]
-    with open(name, "rb") as file:
-        out, err, status = check(name, file.read())
+    try:
+        with open(name, "rb") as file:
+            out, err, status = check(name, file.read())
+    except OSError:
+        out, err, status = "", "fault: read\n", 4
     sys.stdout.write(out)
     sys.stderr.write(err)
     return status

@@ -1,0 +1,1 @@
+"""What the tools share: the files of an experiment read as the program reads them, and the program itself."""
