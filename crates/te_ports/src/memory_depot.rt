@@ -4,9 +4,8 @@ ghost use Rattle.te_ports.specs.Ports.{Rose, Told};
 ghost use Rattle.te_ports.specs.Record.{IsPiece, IsPieceOf, Grows};
 
 use crate::{Depot, Failed};
-use std::alloc::Global;
+use std::alloc::{AllocError, Global};
 use std::collections::BTreeMap;
-use te_model::Memory;
 
 /// Files in memory, which are given in pieces. Chosen calls fail, and so does each call for a name that was not added.
 #[derive(Drop)]
@@ -23,8 +22,8 @@ pub struct MemDepot {
 impl MemDepot {
     ghost use Rattle.te_ports.specs.MemDepot.{depot_content, depot_faults, depot_calls, depot_piece, depot_failing};
 
-    /// An empty depot whose fetches give at most `piece` bytes each. `Memory` where memory is short.
-    pub fn new(alloc: Global, piece: usize) -> Result<MemDepot, Memory>
+    /// An empty depot whose fetches give at most `piece` bytes each. `AllocError` where memory is short.
+    pub fn new(alloc: Global, piece: usize) -> Result<MemDepot, AllocError>
         requires { 1 ≤ piece }
         ensures empty { IfOk result (λ d. (name : List ℕ) → depot_content d name ≡ None) }
         ensures piece { IfOk result (λ d. depot_piece d ≡ piece) }
@@ -42,9 +41,9 @@ impl MemDepot {
         })
     }
 
-    /// Sets the bytes of a name, in place of those that it had. `Memory`, which leaves the files as they were, where
+    /// Sets the bytes of a name, in place of those that it had. `AllocError`, which leaves the files as they were, where
     /// memory is short.
-    pub fn add(&mut self, name: &str, bytes: &[u8]) -> Result<(), Memory>
+    pub fn add(&mut self, name: &str, bytes: &[u8]) -> Result<(), AllocError>
         ensures added { OnOk result (depot_content self.new name.now ≡ Some bytes.now) }
         ensures others { (other : List ℕ) → other ≢ name.now → depot_content self.new other ≡ depot_content self.old other }
         ensures err { OnErr result ((other : List ℕ) → depot_content self.new other ≡ depot_content self.old other) }
@@ -59,9 +58,9 @@ impl MemDepot {
         Ok(())
     }
 
-    /// Makes the call of that number fail, the first being number 0. `Memory`, which leaves the depot as it was, where
+    /// Makes the call of that number fail, the first being number 0. `AllocError`, which leaves the depot as it was, where
     /// memory is short.
-    pub fn fail_at(&mut self, call: u64) -> Result<(), Memory>
+    pub fn fail_at(&mut self, call: u64) -> Result<(), AllocError>
         ensures ok { OnOk result (depot_failing self.new ≡ depot_failing self.old ++ call ∷ []) }
         ensures err { OnErr result (depot_failing self.new ≡ depot_failing self.old) }
         ensures content { depot_content self.new ≡ depot_content self.old }

@@ -3,8 +3,7 @@ ghost use Rattle.std.specs.Prelude.{◌≡◌, ◌≤◌, ◌<◌, ◌+◌, ◌-
 ghost use Rattle.te_ports.specs.Ports.{Rose};
 
 use crate::{Failed, Sink};
-use std::alloc::Global;
-use te_model::Memory;
+use std::alloc::{AllocError, Global};
 
 /// Bytes in memory, with room for so many, which are taken in pieces. Chosen calls fail.
 #[derive(Drop)]
@@ -23,8 +22,8 @@ impl MemSink {
     ghost use Rattle.te_ports.specs.MemSink.{sink_bytes, sink_room, sink_faults, sink_calls, sink_piece, sink_failing};
 
     /// An empty sink with room for `room` bytes, which takes at most `piece` bytes a call. It takes all its memory
-    /// here; `Memory` where that is short.
-    pub fn new(alloc: Global, room: usize, piece: usize) -> Result<MemSink, Memory>
+    /// here; `AllocError` where that is short.
+    pub fn new(alloc: Global, room: usize, piece: usize) -> Result<MemSink, AllocError>
         requires { 1 ≤ piece }
         ensures empty { IfOk result (λ s. sink_bytes s ≡ []) }
         ensures room { IfOk result (λ s. sink_room s ≡ room) }
@@ -50,9 +49,9 @@ impl MemSink {
         &self.bytes
     }
 
-    /// Makes the call of that number fail, the first being number 0. `Memory`, which leaves the sink as it was, where
+    /// Makes the call of that number fail, the first being number 0. `AllocError`, which leaves the sink as it was, where
     /// memory is short.
-    pub fn fail_at(&mut self, call: u64) -> Result<(), Memory>
+    pub fn fail_at(&mut self, call: u64) -> Result<(), AllocError>
         ensures ok { OnOk result (sink_failing self.new ≡ sink_failing self.old ++ call ∷ []) }
         ensures err { OnErr result (sink_failing self.new ≡ sink_failing self.old) }
         ensures bytes { sink_bytes self.new ≡ sink_bytes self.old }

@@ -5,8 +5,7 @@ ghost use Rattle.te_ports.specs.Record.{Grows};
 ghost use Rattle.te_ports.specs.RecordDepot.{is_on_record, WritesDown};
 
 use crate::{Depot, Failed};
-use std::alloc::Global;
-use te_model::Memory;
+use std::alloc::{AllocError, Global};
 
 /// A read: the file's name, the place, and the bytes that it gave there.
 #[derive(Drop)]
@@ -49,14 +48,14 @@ impl<D: Depot + Drop> RecordDepot<D> {
     }
 }
 
-// Writes a read down. `Memory`, which leaves the log as it was, where memory is short.
+// Writes a read down. `AllocError`, which leaves the log as it was, where memory is short.
 fn note(
     log: &mut Vec<Entry>,
     alloc: Global,
     name: &str,
     at: u64,
     bytes: &[u8],
-) -> Result<(), Memory>
+) -> Result<(), AllocError>
     ensures noted { OnOk result (WritesDown log.old.items log.new.items name.now at bytes.now) }
     ensures err { OnErr result (log.new.items ≡ log.old.items) }
 {

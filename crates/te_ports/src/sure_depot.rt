@@ -5,9 +5,8 @@ ghost use Rattle.te_ports.specs.Record.{IsPieceOf, Grows};
 
 use crate::memory_depot::copy_piece;
 use crate::{Depot, Failed};
-use std::alloc::Global;
+use std::alloc::{AllocError, Global};
 use std::collections::BTreeMap;
-use te_model::Memory;
 
 /// Files in memory. A name that was not added has no bytes.
 #[derive(Drop)]
@@ -19,8 +18,8 @@ pub struct SureDepot {
 impl SureDepot {
     ghost use Rattle.te_ports.specs.SureDepot.{sure_content};
 
-    /// A depot in which every file is empty. `Memory` where memory is short.
-    pub fn new(alloc: Global) -> Result<SureDepot, Memory>
+    /// A depot in which every file is empty. `AllocError` where memory is short.
+    pub fn new(alloc: Global) -> Result<SureDepot, AllocError>
         ensures empty { IfOk result (λ d. (name : List ℕ) → sure_content d name ≡ []) }
     {
         Ok(SureDepot {
@@ -29,9 +28,9 @@ impl SureDepot {
         })
     }
 
-    /// Sets the bytes of a name, in place of those that it had. `Memory`, which leaves the files as they were, where
+    /// Sets the bytes of a name, in place of those that it had. `AllocError`, which leaves the files as they were, where
     /// memory is short.
-    pub fn add(&mut self, name: &str, bytes: &[u8]) -> Result<(), Memory>
+    pub fn add(&mut self, name: &str, bytes: &[u8]) -> Result<(), AllocError>
         ensures added { OnOk result (sure_content self.new name.now ≡ bytes.now) }
         ensures others { (other : List ℕ) → other ≢ name.now → sure_content self.new other ≡ sure_content self.old other }
         ensures err { OnErr result ((other : List ℕ) → sure_content self.new other ≡ sure_content self.old other) }

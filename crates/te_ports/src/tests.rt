@@ -1,13 +1,15 @@
 //! Each public call once, with ample memory.
-ghost use Rattle.std.specs.Prelude.{if◌then◌else◌, nat_eq, slice_index_or};
+ghost use Rattle.std.specs.Prelude.{◌≤◌, if◌then◌else◌, nat_eq, slice_index_or};
 
 use crate::disk::OpenFile;
 use crate::{
     Depot, Disk, Failed, Limit, LoadFault, MemDepot, MemSink, RealDepot, RealSink, RecordDepot,
     Sink, SureDepot, SureSink, SystemFault, load, load_within, put_all,
 };
+use std::alloc::Global;
 use std::cell::Cell;
 use std::io::{self, Cursor, ErrorKind, Read, Seek, SeekFrom, Write};
+use std::process::Abort;
 use std::test::Fail;
 
 #[test]
@@ -98,50 +100,61 @@ fn a_record_holds_a_file_from_its_start_to_its_end(rt: HostRuntime) -> Result<()
     Ok(())
 }
 
-// Three bytes, or six for a file that begins with `!`.
-struct ByFirst;
+// Three bytes, or six for a file whose second byte is `!`.
+struct BySecond;
 
-impl Limit for ByFirst {
-    ghost allowed = { λ _ bytes. if nat_eq (slice_index_or bytes 0 0) 33 then 6 else 3 };
+impl Limit for BySecond {
+    ghost allowed = { λ _ bytes. if nat_eq (slice_index_or bytes 1 0) 33 then 6 else 3 };
 
     fn allowed(&self, bytes: &[u8]) -> u64 {
-        match bytes.first() {
+        match bytes.get(1) {
             Some(b'!') => 6,
             _ => 3,
         }
     }
 }
 
-#[test]
-fn a_limit_may_hang_on_the_first_bytes(rt: HostRuntime) -> Result<(), Fail> {
-    let alloc = rt.alloc();
+// Files in pieces of so many bytes: each read begins where the one before it ended, and they end one byte past the limit
+// at the latest.
+fn read_once_up_to_the_limit(rt: &impl Abort, alloc: Global, piece: usize) -> Result<(), Fail>
+    requires { 1 ≤ piece }
+{
     let long = Some(LoadFault::TooLong);
-    for (text, fault, reads) in [
-        ("", None, 1),
+    for (text, fault, given) in [
+        ("", None, 0),
+        ("a", None, 1),
         ("abc", None, 3),
-        ("abcd", long, 2),
-        ("!bcdef", None, 4),
+        ("abcdefgh", long, 4),
         ("!bcdefgh", long, 4),
+        ("a!cdef", None, 6),
+        ("a!cdefgh", long, 7),
     ] {
-        let mut files = MemDepot::new(alloc, 2)?;
+        let mut files = MemDepot::new(alloc, piece)?;
         files.add("file", text.as_bytes())?;
         let mut depot = RecordDepot::new(alloc, files);
-        match load_within(alloc, &mut depot, "file", &ByFirst) {
+        match load_within(alloc, &mut depot, "file", &BySecond) {
             Ok(bytes) => {
                 assert_eq!(rt; bytes.as_slice(), text.as_bytes());
                 assert_eq!(rt; fault, None, "{text}");
             }
             Err(error) => assert_eq!(rt; Some(error), fault, "{text}"),
         }
-        // Each read begins where the one before it ended.
-        assert_eq!(rt; depot.reads().len(), reads, "{text}");
         let mut at = 0;
         for read in depot.reads() {
             assert_eq!(rt; read.at, at, "{text}");
             at = read.at.saturating_add(read.bytes.len() as u64);
         }
+        assert_eq!(rt; at, given, "{text}");
     }
     Ok(())
+}
+
+#[test]
+fn a_limit_may_hang_on_the_first_bytes(rt: HostRuntime) -> Result<(), Fail> {
+    let alloc = rt.alloc();
+    read_once_up_to_the_limit(&rt, alloc, 1)?;
+    read_once_up_to_the_limit(&rt, alloc, 2)?;
+    read_once_up_to_the_limit(&rt, alloc, 64)
 }
 
 // A file in memory that gives three bytes a read, after so many reads that a signal interrupts, and counts its seeks.
