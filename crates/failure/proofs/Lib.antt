@@ -1,4 +1,3 @@
 mod RowLemmas
 mod NetworkLemmas
-pub mod Marking
 pub mod Sweeping

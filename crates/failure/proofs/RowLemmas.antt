@@ -1,7 +1,7 @@
 -- What a row says, by the tests that it passes.
 use Rattle.std.proofs.Common.{ℕ, ◌≤◌, ◌<◌, ◌≡◌, ◌≢◌, ◌∙◌, refl, List, [], ◌∷◌, ◌++◌, length, Bool, true, false, ◌&&◌, nat_lt, Result, Ok, Err, arith, if◌then◌else◌}
 use Rattle.std.proofs.lemmas.Bool.Decides.{nat_tests}
-use Rattle.tables.specs.Field.{is_number, digits_from}
+use Rattle.csv_records.specs.Field.{is_number, digits_from}
 use Rattle.failure.specs.declared.outage.Outage.{Outage}
 use Rattle.failure.specs.declared.fault.FailureFault.{FailureFault}
 use Rattle.failure.specs.declared.fault.FailureFault.TheVariants as fault

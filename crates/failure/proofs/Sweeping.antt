@@ -5,8 +5,7 @@ use Rattle.std.specs.List.{list_any, range_with_len}
 use Rattle.std.proofs.Math.ListN.{set}
 use Rattle.std.proofs.lemmas.Bool.{cases_eq, eq-eqb, ne_eqb}
 use Rattle.std.proofs.lemmas.Bool.Decides.{nat_tests}
-use Rattle.std.proofs.lemmas.List.FromFn.{get_or-map-range_with_len, length-map-range_with_len}
-use Rattle.failure.proofs.Marking.{marks_for}
+use Rattle.std.proofs.lemmas.List.FromFn.{fill_by_all, get_or-map-range_with_len, length-map-range_with_len}
 use Rattle.std.proofs.lemmas.List.{get_or_read, get_or-replicate, get_or-set_other, get_or-set_same, length-replicate, length-set}
 use Rattle.std.proofs.lemmas.List.Folds.{list_any_more}
 use Rattle.failure.specs.declared.outage.Outage.{Outage}
@@ -159,7 +158,7 @@ ends_entered links os table row i below inside before kept is step within =
 pub marks_ended : (links t : ℕ) (os : List Outage) (latest : List ℕ) → AreEnds links (λ from. nat_lt from (t + 1)) os latest →
     map (λ e. nat_lt t (get_or latest e 0)) (range_with_len 0 (length latest)) ≡ map (λ e. list_any (is_during t e) os) (range_with_len 0 links)
 marks_ended links t os latest are =
-    marks_for (λ e. list_any (is_during t e) os) (map (λ e. nat_lt t (get_or latest e 0)) (range_with_len 0 (length latest))) links
+    fill_by_all (λ e. list_any (is_during t e) os) (map (λ e. nat_lt t (get_or latest e 0)) (range_with_len 0 (length latest))) links false
     (length-map-range_with_len (λ e. nat_lt t (get_or latest e 0)) 0 (length latest) ∙ are.count)
     (λ e below. get_or-map-range_with_len (λ e. nat_lt t (get_or latest e 0)) 0 (length latest) e e false (omega (arith, below, are.count)) (omega arith)
     ∙ ends_mark links t os latest are e below)

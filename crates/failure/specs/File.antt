@@ -1,8 +1,8 @@
 -- The outages that the rows of a failure file say, or the first fault.
 use Rattle.std.specs.Prelude.{ℕ, ◌<◌, ◌≤◌, List, [], ◌∷◌, ◌++◌, Bool, false, not, ◌&&◌, ◌||◌, nat_lt, Result, Ok, Err, codes, if◌then◌else◌}
 use Rattle.std.specs.Str.{bytes_eq}
-use Rattle.tables.specs.Field.{is_number, digits_from}
-use Rattle.tables.specs.Rows.{and_then, fold_table, records_of}
+use Rattle.csv_records.specs.Field.{is_number, digits_from}
+use Rattle.csv_records.specs.Rows.{and_then, fold_table, records_of}
 use Rattle.failure.specs.declared.outage.Outage.{Outage}
 use Rattle.failure.specs.declared.outage.Failures.{Failures}
 use Rattle.failure.specs.declared.fault.FailureFault.{FailureFault}

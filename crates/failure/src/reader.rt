@@ -7,8 +7,8 @@ ghost use Rattle.failure.specs.File.{failures_of, outage_of, is_header, IsOutage
 
 use crate::fault::FailureFault;
 use crate::outage::{Failures, Outage};
+use csv_records::{Rows, number};
 use std::alloc::Global;
-use tables::{Rows, number};
 use te_model::{Items, Network};
 
 /// Reads the failures of a network in a series of `steps` steps: the header `from,to,link`, and then a row for each

@@ -1,6 +1,7 @@
 //! The network that failures leave.
 
 ghost use Rattle.std.specs.Prelude.{◌≡◌, ◌≤◌, ◌<◌, All, IfOk, IsTrue, length, map};
+ghost use Rattle.te_model.specs.declared.limits.TheConstants.{FORMAT_2};
 ghost use Rattle.te_model.specs.Network.{is_well_formed, link_at, link_count};
 ghost use Rattle.failure.specs.Survivor.{surviving_links, survivor_of};
 
@@ -36,7 +37,7 @@ pub fn surviving(alloc: Global, net: &Network, failed: &[bool]) -> Result<Surviv
 
 // The numbers of the links that have not failed.
 fn standing(alloc: Global, failed: &[bool]) -> Result<Vec<u32>, Memory>
-    requires { length failed.now ≤ 512 }
+    requires { length failed.now ≤ FORMAT_2.links }
     ensures { IfOk result (λ v. v.items ≡ surviving_links failed.now) }
 {
     let mut origin = Vec::new(alloc);

@@ -2,7 +2,7 @@
 use Rattle.std.proofs.Common.{ℕ, ◌^◌, ◌≡◌, ◌≢◌, ◌∙◌, refl, List, [], ◌∷◌, length, Bool, true, false, ◌&&◌, not, Some, None, Result, Ok, Err, if◌then◌else◌}
 use Rattle.std.specs.Str.{bytes_eq}
 use Rattle.te_model.specs.Network.{is_name}
-use Rattle.tables.specs.Field.{is_number_within, digits_from}
+use Rattle.csv_records.specs.Field.{is_number_within, digits_from}
 use Rattle.topology.specs.declared.fault.TopologyFault.{TopologyFault}
 use Rattle.topology.specs.declared.fault.TopologyFault.TheVariants as fault
 use Rattle.topology.specs.Topology.{Entry, entry_of, entry_of_fields}

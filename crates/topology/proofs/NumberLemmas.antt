@@ -1,6 +1,6 @@
 -- What a name's number is.
 use Rattle.std.proofs.Common.{ℕ, zero, suc, ◌+◌, ◌≤◌, ◌<◌, ◌≡◌, ◌≢◌, ◌∙◌, refl, sym, List, [], ◌∷◌, ◌++◌, length, get_or, Bool, true, false, not, ◌||◌, cond, arith, All, length-append, one-add, inl, inr, nat_lt, rules, if◌then◌else◌}
-use Rattle.std.proofs.lemmas.Bool.{false≢true, cases_Bool}
+use Rattle.std.proofs.lemmas.Bool.{false≢true, cases_Bool, or_parts}
 use Rattle.std.proofs.lemmas.List.{get_or_append_left}
 use Rattle.std.proofs.lemmas.List.Elements.{All-append}
 use Rattle.std.proofs.Math.Seq.{get_or-append_seam}
@@ -22,10 +22,6 @@ pub there : (n : List ℕ) (names : List (List ℕ)) → list_any (bytes_eq n) n
 there n [] h = absurd (false≢true h)
 there n (x ∷ xs) h = head-or (bytes_eq n x) (number_in xs n) x n xs (λ e. sym ((bytes_eq-Decides n x).0 e)) (λ e. there n xs (rw e at h))
 
-neither : (a b : Bool) → (a || b) ≡ false → (a ≡ false) × (b ≡ false)
-neither true b h = absurd (false≢true (sym h))
-neither false b h = (refl, h)
-
 past : (b : Bool) (k m : ℕ) → b ≡ false → k ≡ m → cond (not b) (1 + k) 0 ≡ suc m
 past b k m e f = rw (e, f) (one-add m)
 
@@ -37,7 +33,7 @@ not-head n x xs e go (suc i) l = go i (omega arith)
 pub absent : (n : List ℕ) (names : List (List ℕ)) → list_any (bytes_eq n) names ≡ false → (number_in names n ≡ length names) × ((i : ℕ) → i < length names → get_or names i [] ≢ n)
 absent n [] h = (refl, λ i l. absurd (omega arith))
 absent n (x ∷ xs) h =
-    let (first, rest) = neither (bytes_eq n x) (list_any (bytes_eq n) xs) h in
+    let (first, rest) = or_parts (bytes_eq n x) (list_any (bytes_eq n) xs) h in
     let (count, none) = absent n xs rest in
     (past (bytes_eq n x) (number_in xs n) (length xs) first count, not-head n x xs first none)
 

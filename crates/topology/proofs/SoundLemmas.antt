@@ -1,21 +1,22 @@
 -- The network that a file makes is well formed.
 use Rattle.std.proofs.Common.{ℕ, ◌+◌, ◌^◌, ◌≤◌, ◌<◌, ◌≡◌, ◌≢◌, ◌∙◌, refl, sym, ap, subst, List, [], ◌∷◌, length, get_or, Bool, true, false, not, ◌||◌, ◌&&◌, nat_lt, nat_le, arith, All, Result, Ok, Err, if◌then◌else◌}
-use Rattle.std.proofs.lemmas.Bool.{false≢true}
+use Rattle.std.proofs.lemmas.Bool.{false≢true, ltb-false}
 use Rattle.std.proofs.lemmas.Bool.Decides.{nat_tests}
 use Rattle.std.proofs.lemmas.List.Elements.{All-append, All-cons}
 use Rattle.std.proofs.lemmas.Slice.Eq.{bytes_eq-Decides}
 use Rattle.std.specs.Str.{bytes_eq}
 use Rattle.te_model.specs.declared.network.Link.{Link}
 use Rattle.te_model.specs.declared.network.Network.{Network}
+use Rattle.te_model.specs.declared.limits.TheConstants.{MAX_LINKS, MAX_NODES}
 use Rattle.te_model.specs.Network.{is_name, is_well_formed, link_count}
-use Rattle.tables.specs.Field.{digits_from, is_number_within}
-use Rattle.tables.proofs.FieldFacts.{within-bounds}
+use Rattle.csv_records.specs.Field.{digits_from, is_number_within}
+use Rattle.csv_records.proofs.FieldFacts.{within-bounds}
 use Rattle.topology.proofs.WellFormed.{IsLink, WellFormed, well-formed}
 use Rattle.topology.specs.declared.fault.TopologyFault.{TopologyFault}
 use Rattle.topology.specs.declared.fault.TopologyFault.TheVariants as fault
 use Rattle.topology.specs.Numbering.{with_name, number_in}
-use Rattle.tables.specs.Rows.{and_then, fold_table, records_of}
-use Rattle.tables.proofs.RowFacts.{table-keep}
+use Rattle.csv_records.specs.Rows.{and_then, fold_table, records_of}
+use Rattle.csv_records.proofs.RowFacts.{table-keep}
 use Rattle.topology.specs.Topology.{Entry, entry_of, entry_of_fields, with_link, within, with_row, is_header, no_links, closed, topology_of}
 use Rattle.topology.proofs.NumberLemmas.{named}
 
@@ -63,14 +64,14 @@ entry-said row (a ∷ b ∷ c ∷ []) e said = cc said
 entry-said row (a ∷ b ∷ c ∷ d ∷ []) e said = fields-said row a b c d e said
 entry-said row (a ∷ b ∷ c ∷ d ∷ f ∷ rest) e said = cc said
 
-limits : (row : ℕ) (net more : Network) → within row net ≡ Ok more → (net ≡ more) × (length net.names ≤ 64) × (length net.links ≤ 512)
-limits row net more h = go (nat_lt 64 (length net.names)) (nat_lt 512 (length net.links)) refl refl h
+limits : (row : ℕ) (net more : Network) → within row net ≡ Ok more → (net ≡ more) × (length net.names ≤ MAX_NODES) × (length net.links ≤ MAX_LINKS)
+limits row net more h = go (nat_lt MAX_NODES (length net.names)) (nat_lt MAX_LINKS (length net.links)) refl refl h
   where
-    go : (a b : Bool) → nat_lt 64 (length net.names) ≡ a → nat_lt 512 (length net.links) ≡ b → ◌≡◌ {A = Result Network TopologyFault} (if a || b then Err (fault.TooMany row) else Ok net) (Ok more)
-        → (net ≡ more) × (length net.names ≤ 64) × (length net.links ≤ 512)
+    go : (a b : Bool) → nat_lt MAX_NODES (length net.names) ≡ a → nat_lt MAX_LINKS (length net.links) ≡ b → ◌≡◌ {A = Result Network TopologyFault} (if a || b then Err (fault.TooMany row) else Ok net) (Ok more)
+        → (net ≡ more) × (length net.names ≤ MAX_NODES) × (length net.links ≤ MAX_LINKS)
     go true b p q e = cc e
     go false true p q e = cc e
-    go false false p q e = (cc e, grind (arith, nat_tests), grind (arith, nat_tests))
+    go false false p q e = (cc e, ltb-false MAX_NODES (length net.names) p, ltb-false MAX_LINKS (length net.links) q)
 
 wider : (n m : ℕ) → n ≤ m → (l : Link) → IsLink n l → IsLink m l
 wider n m h l i = record {
@@ -87,7 +88,7 @@ all-wider : (n m : ℕ) → n ≤ m → (ls : List Link) → All (IsLink n) ls �
 all-wider n m h ls a = λ k d l. wider n m h (get_or ls k d) (a k d l)
 
 -- a link more
-pub linked : (net : Network) (e : Entry) → WellFormed net → IsEntry e → length (with_link net e).names ≤ 64 → length (with_link net e).links ≤ 512 → WellFormed (with_link net e)
+pub linked : (net : Network) (e : Entry) → WellFormed net → IsEntry e → length (with_link net e).names ≤ MAX_NODES → length (with_link net e).links ≤ MAX_LINKS → WellFormed (with_link net e)
 linked net e w i nodes links =
     let n1 = with_name net.names e.source in
     let n2 = with_name n1 e.target in

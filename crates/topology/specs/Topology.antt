@@ -2,9 +2,10 @@
 use Rattle.std.specs.Prelude.{ℕ, ◌^◌, List, [], ◌∷◌, ◌++◌, length, Bool, false, not, ◌&&◌, ◌||◌, nat_lt, Result, Ok, Err, codes, if◌then◌else◌}
 use Rattle.std.specs.Str.{bytes_eq}
 use Rattle.te_model.specs.declared.network.Network.{Network}
+use Rattle.te_model.specs.declared.limits.TheConstants.{MAX_LINKS, MAX_NODES}
 use Rattle.te_model.specs.Network.{is_name}
-use Rattle.tables.specs.Field.{is_number_within, digits_from}
-use Rattle.tables.specs.Rows.{and_then, fold_table, records_of}
+use Rattle.csv_records.specs.Field.{is_number_within, digits_from}
+use Rattle.csv_records.specs.Rows.{and_then, fold_table, records_of}
 use Rattle.topology.specs.declared.fault.TopologyFault.{TopologyFault}
 use Rattle.topology.specs.declared.fault.TopologyFault.TheVariants as fault
 use Rattle.topology.specs.Numbering.{with_name, number_in}
@@ -43,7 +44,7 @@ with_link net e = record {
 
 -- a network within the limits
 abbrev pub within : ℕ → Network → Result Network TopologyFault
-within row net = if nat_lt 64 (length net.names) || nat_lt 512 (length net.links) then Err (fault.TooMany row) else Ok net
+within row net = if nat_lt MAX_NODES (length net.names) || nat_lt MAX_LINKS (length net.links) then Err (fault.TooMany row) else Ok net
 
 -- what a row adds to the network that the rows before it made, or the first of its faults
 abbrev pub with_row : Network → ℕ → List (List ℕ) → Result Network TopologyFault

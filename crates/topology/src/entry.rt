@@ -5,7 +5,7 @@ ghost use Rattle.te_model.specs.Network.{is_name};
 ghost use Rattle.topology.specs.Topology.{entry_of};
 
 use crate::fault::TopologyFault;
-use tables::{Rows, number_within};
+use csv_records::{Rows, number_within};
 use te_model::is_name;
 
 /// A link between two names.

@@ -9,8 +9,8 @@ ghost use Rattle.topology.specs.Topology.{topology_of, with_link, within, is_hea
 use crate::entry::{Entry, read_entry};
 use crate::fault::TopologyFault;
 use crate::nodes::Nodes;
+use csv_records::Rows;
 use std::alloc::Global;
-use tables::Rows;
 use te_model::{Items, Link, MAX_LINKS, MAX_NODES, Network};
 
 /// Reads a topology: the header `source,target,capacity,cost`, and then a row for each link.
@@ -70,11 +70,11 @@ fn add_link(
     link: Entry<'_>,
     row: u64,
 ) -> Result<(), TopologyFault>
-    requires nodes { length nodes.old ≤ 64 }
+    requires nodes { length nodes.old ≤ MAX_NODES }
     ensures added { OnOk result (within row (with_link (record { names = nodes.old; links = links.old.items }) (record { source = link.entry.source.now; target = link.entry.target.now; capacity = link.entry.capacity; cost = link.entry.cost })) ≡ Ok (record { names = nodes.new; links = links.new.items })) }
-    ensures nodes { OnOk result (length nodes.new ≤ 64) }
+    ensures nodes { OnOk result (length nodes.new ≤ MAX_NODES) }
     ensures links { OnOk result (length links.new.items ≡ length links.old.items + 1) }
-    ensures few { OnOk result (length links.new.items ≤ 512) }
+    ensures few { OnOk result (length links.new.items ≤ MAX_LINKS) }
     ensures refused { IfErr result (λ e. e ≢ fault.Memory → within row (with_link (record { names = nodes.old; links = links.old.items }) (record { source = link.entry.source.now; target = link.entry.target.now; capacity = link.entry.capacity; cost = link.entry.cost })) ≡ Err e) }
 {
     let tail = nodes.number(alloc, link.source)? as u32;

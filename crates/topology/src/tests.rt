@@ -1,6 +1,7 @@
 use super::*;
 use std::alloc::Global;
 use std::test::Fail;
+use te_model::MAX_NODES;
 
 fn fault_of(alloc: Global, bytes: &[u8]) -> Option<TopologyFault> {
     read(alloc, bytes).err()
@@ -77,15 +78,15 @@ fn nodes_in_order_of_appearance(rt: HostRuntime) -> Result<(), Fail> {
 }
 
 #[test]
-fn no_more_than_64_nodes(rt: HostRuntime) -> Result<(), Fail> {
+fn no_more_nodes_than_the_limit(rt: HostRuntime) -> Result<(), Fail> {
     let alloc = rt.alloc();
     let mut text = String::from_str(alloc, "source,target,capacity,cost\n")?;
-    for node in 1..65 {
+    for node in 1..=MAX_NODES {
         text.push_str(format!(in alloc; "n0,n{node},1,1\n")?.as_str())?;
     }
     assert_eq!(rt;
         fault_of(alloc, text.as_bytes()),
-        Some(TopologyFault::TooMany(64))
+        Some(TopologyFault::TooMany(MAX_NODES as u64))
     );
     Ok(())
 }

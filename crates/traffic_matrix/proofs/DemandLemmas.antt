@@ -8,14 +8,14 @@ use Rattle.std.proofs.Math.Nat.{mul-le-mul_left}
 use Rattle.te_model.specs.declared.network.Network.{Network}
 use Rattle.te_model.specs.declared.route.Pair.{Pair}
 use Rattle.te_model.specs.Network.{node_count}
-use Rattle.tables.specs.Rows.{and_then, fold_rows}
-use Rattle.tables.proofs.RowFacts.{rows-end, rows-fault, rows-more}
+use Rattle.csv_records.specs.Rows.{and_then, fold_rows}
+use Rattle.csv_records.proofs.RowFacts.{rows-end, rows-fault, rows-more}
 use Rattle.traffic_matrix.specs.declared.series.Series.{Series}
 use Rattle.traffic_matrix.specs.declared.entry.Entry.{Entry}
 use Rattle.traffic_matrix.specs.declared.demands.Demands.{Demands}
 use Rattle.traffic_matrix.specs.declared.fault.MatrixFault.{MatrixFault}
 use Rattle.traffic_matrix.specs.declared.fault.MatrixFault.TheVariants as fault
-use Rattle.traffic_matrix.specs.Pairs.{IsWithin, same_pair, pair_at}
+use Rattle.traffic_matrix.specs.Pairs.{IsWithin, same_pair, pair_of_place}
 use Rattle.traffic_matrix.specs.Series.{demand_in, is_declared, step_count, series_of}
 use Rattle.traffic_matrix.specs.Rows.{latest_step, accepted, entry_of, with_row, entries_in, series_in}
 use Rattle.traffic_matrix.specs.Table.{declared_at, IsPut}
@@ -70,7 +70,7 @@ module _ (entries : List Entry) (row : ℕ) (e : Entry) where
           rw (a, new, h, b) refl
 
 -- the pair of a place
-pub pair-within : (n k : ℕ) → k < n * n → IsWithin n (pair_at n k)
+pub pair-within : (n k : ℕ) → k < n * n → IsWithin n (pair_of_place n k)
 pair-within n k low =
     elim (cases_lt 0 n) [
       | inl some ↦ record {
@@ -121,11 +121,11 @@ pub header-refused : (net : Network) (bytes : List ℕ) (f : MatrixFault) → en
 header-refused net bytes f e = ap (and_then (λ es. Ok (series_of (node_count net) es))) e
 
 -- the pair of the next place passes a test, or it does not
-pub pairs-more : (test : Pair → Bool) (n k : ℕ) (b : Bool) → test (pair_at n k) ≡ b
-    → filter test (map (pair_at n) (range_with_len 0 (k + 1))) ≡ (if b then filter test (map (pair_at n) (range_with_len 0 k)) ++ pair_at n k ∷ [] else filter test (map (pair_at n) (range_with_len 0 k)))
-pairs-more test n k b e = filter_of_map_range_with_len_more test (pair_at n) 0 k k (omega arith) ∙ go b e
+pub pairs-more : (test : Pair → Bool) (n k : ℕ) (b : Bool) → test (pair_of_place n k) ≡ b
+    → filter test (map (pair_of_place n) (range_with_len 0 (k + 1))) ≡ (if b then filter test (map (pair_of_place n) (range_with_len 0 k)) ++ pair_of_place n k ∷ [] else filter test (map (pair_of_place n) (range_with_len 0 k)))
+pairs-more test n k b e = filter_of_map_range_with_len_more test (pair_of_place n) 0 k k (omega arith) ∙ go b e
   where
-    go : (b : Bool) → test (pair_at n k) ≡ b → filter test (map (pair_at n) (range_with_len 0 k)) ++ cond (test (pair_at n k)) (pair_at n k ∷ []) []
-        ≡ (if b then filter test (map (pair_at n) (range_with_len 0 k)) ++ pair_at n k ∷ [] else filter test (map (pair_at n) (range_with_len 0 k)))
+    go : (b : Bool) → test (pair_of_place n k) ≡ b → filter test (map (pair_of_place n) (range_with_len 0 k)) ++ cond (test (pair_of_place n k)) (pair_of_place n k ∷ []) []
+        ≡ (if b then filter test (map (pair_of_place n) (range_with_len 0 k)) ++ pair_of_place n k ∷ [] else filter test (map (pair_of_place n) (range_with_len 0 k)))
     go true h = rw h refl
-    go false h = rw h (append-nil (filter test (map (pair_at n) (range_with_len 0 k))))
+    go false h = rw h (append-nil (filter test (map (pair_of_place n) (range_with_len 0 k))))

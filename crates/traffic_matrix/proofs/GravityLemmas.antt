@@ -1,38 +1,27 @@
 -- The words of a step, and a drawn series within the limits.
 use Rattle.std.proofs.Common.{ℕ, ◌+◌, ◌*◌, ◌^◌, ◌≤◌, ◌<◌, ◌≡◌, ◌≢◌, ◌∙◌, refl, sym, ap, List, [], length, get_or, map, filter, All, AllPairs, Bool, true, false, not, ◌==◌, arith, inl, inr}
 use Rattle.std.specs.List.{range_with_len}
-use Rattle.std.proofs.lemmas.Bool.{false≢true, cases_lt}
+use Rattle.std.proofs.lemmas.Bool.{cases_lt, eqb-false, not-true}
 use Rattle.std.proofs.lemmas.Bool.Decides.{nat_tests}
 use Rattle.std.proofs.lemmas.List.{get_or-map, length-map}
 use Rattle.std.proofs.lemmas.List.FromFn.{get_or-map-range_with_len, length-map-range_with_len}
 use Rattle.std.proofs.lemmas.List.Kept.{AllPairs-filter}
 use Rattle.std.proofs.Math.Nat.{mul-le-mul_left}
-use Rattle.rand_chacha.specs.ChaCha.{ChaCha, word_at}
 use Rattle.te_model.specs.declared.route.Pair.{Pair}
+use Rattle.te_model.specs.Pairs.{no_pair, IsPairAmong}
 use Rattle.te_model.proofs.Tests.{get_or_past}
 use Rattle.traffic_matrix.specs.declared.series.Series.{Series}
-use Rattle.draws.specs.Words.{generator}
-use Rattle.traffic_matrix.specs.Pairs.{IsWithin, pair_at, all_pairs}
+use Rattle.random_words.specs.Words.{generator}
+use Rattle.traffic_matrix.specs.Pairs.{IsWithin, pair_of_place, all_pairs}
 use Rattle.traffic_matrix.specs.Gravity.{every_pair, size_at, sizes_in, products, gravity_matrix, gravity_of}
-use Rattle.traffic_matrix.specs.Limits.{IsPair, Below, IsMatrix, IsSeries}
+use Rattle.traffic_matrix.specs.Limits.{Below, IsMatrix, IsSeries}
 use Rattle.traffic_matrix.proofs.DemandLemmas.{pair-within}
 use Rattle.traffic_matrix.proofs.LimitLemmas.{All-where, all-ascend}
 
--- a generator so many words on, and one more
-pub step-on : (from at : ChaCha) (k : ℕ) → at ≡ record from { word_pos = from.word_pos + k } → record at { word_pos = at.word_pos + 1 } ≡ record from { word_pos = from.word_pos + (k + 1) }
-step-on from at k e = rw e (ap (λ (p : ℕ). record from { word_pos = p }) (omega arith))
-
-pub word-on : (from at : ChaCha) (k : ℕ) → at ≡ record from { word_pos = from.word_pos + k } → word_at 4 at.key at.stream at.word_pos ≡ word_at 4 from.key from.stream (from.word_pos + k)
-word-on from at k e = rw e refl
-
--- the words of a step lead to the next step
-pub step-words : (seed n k : ℕ) (at next : ChaCha) → at ≡ generator seed 1 (k * n) → next ≡ record at { word_pos = at.word_pos + n } → next ≡ generator seed 1 ((k + 1) * n)
-step-words seed n k at next e f = f ∙ rw e (ap (generator seed 1) (omega arith))
-
 all-within : (n : ℕ) → All (IsWithin n) (all_pairs n)
 all-within n k d low =
-    let inside : k < n * n = omega (arith, length-map-range_with_len (pair_at n) 0 (n * n)) in
-    rw (get_or-map-range_with_len (pair_at n) 0 (n * n) k k d inside (omega arith)) (pair-within n k inside)
+    let inside : k < n * n = omega (arith, length-map-range_with_len (pair_of_place n) 0 (n * n)) in
+    rw (get_or-map-range_with_len (pair_of_place n) 0 (n * n) k k d inside (omega arith)) (pair-within n k inside)
 
 small-size : (n seed step k : ℕ) → get_or (sizes_in n seed step) k 0 ≤ 100
 small-size n seed step k =
@@ -43,9 +32,6 @@ small-size n seed step k =
       | inr past ↦ rw (get_or_past (sizes_in n seed step) k 0 (omega arith)) (omega arith)
     ]
 
-apart : (a b : ℕ) → not (a == b) ≡ true → a ≢ b
-apart a b h = λ same. let e : (a == b) ≡ true = grind (arith, nat_tests) in false≢true (rw e at h)
-
 product-small : (a b : ℕ) → a ≤ 100 → b ≤ 100 → a * b ≤ 2 ^ 32
 product-small a b low small = let h : a * b ≤ a * 100 = mul-le-mul_left a small in omega arith
 
@@ -54,10 +40,9 @@ matrix-limits n seed k = record {
   count = simp length-map;
   demands = λ j d low.
       let sizes = sizes_in n seed k in
-      let p0 : Pair = record { src = 0; dst = 0 } in
       let inside : j < length (every_pair n) = simp length-map at low in
-      rw (get_or-map (λ p. get_or sizes p.src 0 * get_or sizes p.dst 0) (every_pair n) j p0 d inside)
-      (product-small _ _ (small-size n seed k (get_or (every_pair n) j p0).src) (small-size n seed k (get_or (every_pair n) j p0).dst));
+      rw (get_or-map (λ p. get_or sizes p.src 0 * get_or sizes p.dst 0) (every_pair n) j no_pair d inside)
+      (product-small _ _ (small-size n seed k (get_or (every_pair n) j no_pair).src) (small-size n seed k (get_or (every_pair n) j no_pair).dst));
 }
 
 -- a drawn series
@@ -65,7 +50,7 @@ pub gravity-in-range : (n seed steps : ℕ) → steps ≤ 1024 → IsSeries n (g
 gravity-in-range n seed steps few =
     let test : Pair → Bool = λ p. not (p.src == p.dst) in
     record {
-      pairs = All-where test (IsWithin n) (IsPair n) (all_pairs n) (all-within n) (λ p w h. record { src = w.src; dst = w.dst; differ = apart p.src p.dst h });
+      pairs = All-where test (IsWithin n) (IsPairAmong n) (all_pairs n) (all-within n) (λ p w h. record { src_inside = w.src; dst_inside = w.dst; apart = eqb-false p.src p.dst (not-true (p.src == p.dst) h) });
       ascending = AllPairs-filter Below test (all_pairs n) (all-ascend n);
       few = omega (arith, length-map-range_with_len (gravity_matrix n seed) 0 steps);
       matrices = λ k d low.

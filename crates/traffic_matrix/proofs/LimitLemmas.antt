@@ -2,7 +2,7 @@
 use Rattle.std.proofs.Common.{ℕ, zero, suc, ◌+◌, ◌*◌, ◌/◌, ◌%◌, ◌^◌, ◌≤◌, ◌<◌, ◌≡◌, ◌≢◌, ◌⊎◌, ◌∙◌, refl, sym, ap, subst, inl, inr, List, [], ◌∷◌, length, get_or, map, filter, All, AllPairs, Bool, true, false, ◌&&◌, ◌||◌, ◌==◌, cond, nat_lt, nat_le, is_some, unwrap_or, max, Option, Some, None, Result, Ok, Err, arith, if◌then◌else◌}
 use Rattle.std.specs.Str.{bytes_eq}
 use Rattle.std.specs.List.{list_any, position, position_or_len, range_with_len}
-use Rattle.std.proofs.lemmas.Bool.{false≢true, cases_lt}
+use Rattle.std.proofs.lemmas.Bool.{false≢true, cases_lt, or_cases}
 use Rattle.std.proofs.lemmas.Bool.Decides.{nat_tests}
 use Rattle.std.proofs.lemmas.List.{get_or-map, length-map}
 use Rattle.std.proofs.lemmas.List.Elements.{All-cons}
@@ -13,23 +13,24 @@ use Rattle.te_model.specs.declared.network.Network.{Network}
 use Rattle.te_model.specs.declared.route.Pair.{Pair}
 use Rattle.te_model.specs.declared.demand.Matrix.{Matrix}
 use Rattle.te_model.specs.Network.{node_count}
-use Rattle.tables.specs.Field.{is_number, is_number_within, digits_from}
-use Rattle.tables.specs.Rows.{and_then, records_of}
-use Rattle.tables.proofs.FieldFacts.{within-bounds}
-use Rattle.tables.proofs.RowFacts.{table-keep}
+use Rattle.te_model.specs.Pairs.{no_pair, IsPairAmong}
+use Rattle.csv_records.specs.Field.{is_number, is_number_within, digits_from}
+use Rattle.csv_records.specs.Rows.{and_then, records_of}
+use Rattle.csv_records.proofs.FieldFacts.{within-bounds}
+use Rattle.csv_records.proofs.RowFacts.{table-keep}
 use Rattle.traffic_matrix.specs.declared.entry.Entry.{Entry}
 use Rattle.traffic_matrix.specs.declared.series.Series.{Series}
 use Rattle.traffic_matrix.specs.declared.fault.MatrixFault.{MatrixFault}
 use Rattle.traffic_matrix.specs.declared.fault.MatrixFault.TheVariants as fault
-use Rattle.traffic_matrix.specs.Pairs.{pair_at, all_pairs, same_pair}
+use Rattle.traffic_matrix.specs.Pairs.{pair_of_place, all_pairs, same_pair}
 use Rattle.traffic_matrix.specs.Series.{demand_in, is_declared, step_count, declared_pairs, matrix_of, series_of}
 use Rattle.traffic_matrix.specs.Rows.{number_named, entry_between, entry_of, latest_step, accepted, with_row, is_header, entries_in, series_in}
-use Rattle.traffic_matrix.specs.Limits.{IsPair, Below, IsMatrix, IsSeries}
+use Rattle.traffic_matrix.specs.Limits.{Below, IsMatrix, IsSeries}
 use Rattle.traffic_matrix.proofs.TableLemmas.{pair-parts}
 
 -- what an accepted row says
 pub record IsEntry (n : ℕ) (e : Entry) : Type 0 where
-  pub pair : IsPair n e.pair
+  pub pair : IsPairAmong n e.pair
   pub step : e.step < 1024
   pub demand : e.demand ≤ 2 ^ 32
 
@@ -87,12 +88,8 @@ row-kept names before more row r all h = go (entry_of names row r) refl h
         let (apart, few, same) = passed-all (nat_lt x.step (latest_step before)) (is_some (demand_in before x.step x.pair)) (x.pair.src == x.pair.dst) (nat_le 1024 x.step)
         (fault.Order row) (fault.Repeated row) (fault.SelfPair row) (fault.TooManySteps row) (x ∷ before) more k in
         let differ : x.pair.src ≢ x.pair.dst = grind (arith, nat_tests) in
-        let is : IsEntry (length names) x = record { pair = record { src = src; dst = dst; differ = differ }; step = grind (arith, nat_tests); demand = small } in
+        let is : IsEntry (length names) x = record { pair = record { src_inside = src; dst_inside = dst; apart = differ }; step = grind (arith, nat_tests); demand = small } in
         subst (All (IsEntry (length names))) same (All-cons (IsEntry (length names)) x before is all)
-
-either : (a b : Bool) → (a || b) ≡ true → (a ≡ true) ⊎ (b ≡ true)
-either true b h = inl refl
-either false b h = inr h
 
 module _ (n : ℕ) where
   head : (e : Entry) (es : List Entry) → All (IsEntry n) (e ∷ es) → IsEntry n e
@@ -101,14 +98,13 @@ module _ (n : ℕ) where
   tail : (e : Entry) (es : List Entry) → All (IsEntry n) (e ∷ es) → All (IsEntry n) es
   tail e es all = λ k d low. all (suc k) d (omega arith)
 
-  declared-pair : (entries : List Entry) (p : Pair) → All (IsEntry n) entries → is_declared entries p ≡ true → IsPair n p
+  declared-pair : (entries : List Entry) (p : Pair) → All (IsEntry n) entries → is_declared entries p ≡ true → IsPairAmong n p
   declared-pair [] p all h = absurd (false≢true h)
-  declared-pair (e ∷ es) p all h = elim (either (same_pair e.pair p) (is_declared es p) h) [
+  declared-pair (e ∷ es) p all h = elim (or_cases (same_pair e.pair p) (is_declared es p) h) [
     | inl here ↦
         let (src, dst) = pair-parts e.pair p here in
         let is = (head e es all).pair in
-        let differ = is.differ in
-        record { src = omega (arith, is.src); dst = omega (arith, is.dst); differ = λ same. differ (src ∙ same ∙ sym dst) }
+        record { src_inside = omega (arith, is.src_inside); dst_inside = omega (arith, is.dst_inside); apart = λ same. is.apart (src ∙ same ∙ sym dst) }
     | inr later ↦ declared-pair es p (tail e es all) later
   ]
 
@@ -133,7 +129,7 @@ All-where test P Q (x ∷ xs) all each = go (test x) refl (All-where test P Q xs
     go false e rest = rest
 
 -- places ascend as their pairs do
-places-ascend : (n i j : ℕ) → 0 < n → i < j → Below (pair_at n i) (pair_at n j)
+places-ascend : (n i j : ℕ) → 0 < n → i < j → Below (pair_of_place n i) (pair_of_place n j)
 places-ascend n i j some less = elim (cases_lt (i / n) (j / n)) [
   | inl lower ↦ inl lower
   | inr upper ↦ elim (cases_lt (j / n) (i / n)) [
@@ -144,10 +140,10 @@ places-ascend n i j some less = elim (cases_lt (i / n) (j / n)) [
 
 pub all-ascend : (n : ℕ) → AllPairs Below (all_pairs n)
 all-ascend n i j d less low =
-    let count = length-map-range_with_len (pair_at n) 0 (n * n) in
+    let count = length-map-range_with_len (pair_of_place n) 0 (n * n) in
     let inside : j < n * n = omega arith in
-    let at-i = get_or-map-range_with_len (pair_at n) 0 (n * n) i i d (omega arith) (omega arith) in
-    let at-j = get_or-map-range_with_len (pair_at n) 0 (n * n) j j d inside (omega arith) in
+    let at-i = get_or-map-range_with_len (pair_of_place n) 0 (n * n) i i d (omega arith) (omega arith) in
+    let at-j = get_or-map-range_with_len (pair_of_place n) 0 (n * n) j j d inside (omega arith) in
     let some : 0 < n = elim (cases_lt 0 n) [ inl positive ↦ positive | inr none ↦ absurd (let e : n ≡ 0 = omega arith in let f : j < 0 = rw e at inside in omega arith) ] in
     rw (at-i, at-j) (places-ascend n i j some less)
 
@@ -156,7 +152,7 @@ pub series-limits : (n : ℕ) (entries : List Entry) → All (IsEntry n) entries
 series-limits n entries all =
     let pairs = declared_pairs n entries in
     record {
-      pairs = All-where (is_declared entries) (λ p. Unit {0}) (IsPair n) (all_pairs n) (λ k d low. tt) (λ p u h. declared-pair n entries p all h);
+      pairs = All-where (is_declared entries) (λ p. Unit {0}) (IsPairAmong n) (all_pairs n) (λ k d low. tt) (λ p u h. declared-pair n entries p all h);
       ascending = AllPairs-filter Below (is_declared entries) (all_pairs n) (all-ascend n);
       few = omega (arith, length-map-range_with_len (matrix_of pairs entries) 0 (step_count entries), few-steps n entries all);
       matrices = λ k d low.
@@ -169,9 +165,8 @@ series-limits n entries all =
     matrix-limits k = record {
       count = simp length-map;
       demands = λ j d low.
-          let p0 : Pair = record { src = 0; dst = 0 } in
           let inside : j < length (declared_pairs n entries) = simp length-map at low in
-          rw (get_or-map (λ p. unwrap_or (demand_in entries k p) 0) (declared_pairs n entries) j p0 d inside) (small-demand n entries k (get_or (declared_pairs n entries) j p0) all);
+          rw (get_or-map (λ p. unwrap_or (demand_in entries k p) 0) (declared_pairs n entries) j no_pair d inside) (small-demand n entries k (get_or (declared_pairs n entries) j no_pair) all);
     }
 
 -- a series that was read

@@ -1,15 +1,15 @@
 -- The names of nodes, as the keys of a set.
 use Rattle.std.proofs.Common.{ℕ, zero, suc, ◌+◌, ◌<◌, ◌≡◌, ◌≢◌, ◌∙◌, refl, sym, ap, List, [], ◌∷◌, ◌++◌, length, map, take, get_or, Vec, Global, Bool, true, false, not, ◌||◌, cond, arith, inl, inr, if◌then◌else◌}
-use Rattle.std.specs.Prelude.{◌&&◌, nat_le}
 use Rattle.std.specs.Str.{bytes_eq}
-use Rattle.std.specs.List.{list_any, list_all, position, position_or_len}
-use Rattle.std.proofs.lemmas.Bool.{false≢true, cases_lt, cases_Bool}
+use Rattle.std.specs.List.{list_any, position, position_or_len}
+use Rattle.std.proofs.lemmas.Bool.{false≢true, false_from_ne_true, not-true}
 use Rattle.std.proofs.lemmas.List.{map-append, get_or-take, get_or_default, take_more, length-take}
 use Rattle.std.proofs.lemmas.Slice.Eq.{bytes_eq-Decides}
 use Rattle.indexmap.specs.IndexSet.{insert_key}
 use Rattle.te_model.specs.declared.network.Network.{Network}
-use Rattle.te_model.specs.Counting.{all_below}
-use Rattle.te_model.specs.Network.{is_name, is_new_name, is_sound_link, is_well_formed, node_count, link_count, name_at}
+use Rattle.te_model.specs.Network.{is_well_formed, node_count, name_at}
+use Rattle.te_model.proofs.Searches.{all_below_at}
+use Rattle.te_model.proofs.WellFormed.{well_formed_parts}
 use Rattle.traffic_matrix.specs.Rows.{number_named}
 
 abbrev Keys : Type 0
@@ -36,47 +36,17 @@ any-bytes k (x ∷ ks) = ap (λ (b : Bool). bytes_eq (bytes_of k) (bytes_of x) |
 
 none-any : (name : List ℕ) (names : List (List ℕ)) → ((u : ℕ) → u < length names → get_or names u [] ≢ name) → list_any (bytes_eq name) names ≡ false
 none-any name [] h = refl
-none-any name (x ∷ xs) h = rw (unlike (bytes_eq name x) (λ e. h 0 (omega arith) (sym ((bytes_eq-Decides name x).0 e)))) (none-any name xs (λ u low. h (suc u) (omega arith)))
-  where
-    unlike : (b : Bool) → (b ≡ true → ⊥) → b ≡ false
-    unlike true f = absurd (f refl)
-    unlike false f = refl
-
-below_at : (n k : ℕ) (test : ℕ → Bool) → all_below n test ≡ true → k < n → test k ≡ true
-below_at zero k test all low = absurd (omega arith)
-below_at (suc n) k test all low =
-    let (rest, last) = both (all_below n test) (test n) all in
-    elim (cases_lt k n) [
-      | inl lt ↦ below_at n k test rest lt
-      | inr ge ↦ let e : k ≡ n = omega arith in rw e last
-    ]
-  where
-    both : (a b : Bool) → (a && b) ≡ true → (a ≡ true) × (b ≡ true)
-    both true b h = (refl, h)
-    both false b h = cc h
-
-parts_of : (a b c d e f : Bool) → (a && b && c && d && e && f) ≡ true → (b ≡ true) × (e ≡ true)
-parts_of true true true true true true h = (refl, refl)
-parts_of true true true true true false h = cc h
-parts_of true true true true false f h = cc h
-parts_of true true true false e f h = cc h
-parts_of true true false d e f h = cc h
-parts_of true false c d e f h = cc h
-parts_of false b c d e f h = cc h
-
-not-true : (b : Bool) → not b ≡ true → b ≡ true → ⊥
-not-true true h e = false≢true h
-not-true false h e = false≢true e
+none-any name (x ∷ xs) h =
+    rw (false_from_ne_true (bytes_eq name x) (λ e. h 0 (omega arith) (sym ((bytes_eq-Decides name x).0 e)))) (none-any name xs (λ u low. h (suc u) (omega arith)))
 
 -- a name of a well-formed network stands not before its place
 pub new-here : (net : Network) (i : ℕ) → is_well_formed net ≡ true → i < node_count net → list_any (bytes_eq (name_at net i)) (take i net.names) ≡ false
 new-here net i w low =
-    let p = parts_of (nat_le 2 (node_count net)) (nat_le (node_count net) 64) (nat_le (link_count net) 512) (list_all is_name net.names) (all_below (node_count net) (is_new_name net)) (all_below (link_count net) (is_sound_link net)) w in
-    let new = below_at (node_count net) i (is_new_name net) p.1 low in
+    let new = (well_formed_parts net w).new_names i low in
     none-any (name_at net i) (take i net.names) (λ u below same.
     let before : u < i = omega (arith, length-take i net.names) in
-    not-true (bytes_eq (name_at net u) (name_at net i)) (below_at i u (λ v. not (bytes_eq (name_at net v) (name_at net i))) new before)
-    ((bytes_eq-Decides (name_at net u) (name_at net i)).1 (sym (get_or-take i net.names u [] before) ∙ same)))
+    let apart = not-true (bytes_eq (name_at net u) (name_at net i)) (all_below_at i (λ v. not (bytes_eq (name_at net v) (name_at net i))) u new before) in
+    false≢true (sym apart ∙ (bytes_eq-Decides (name_at net u) (name_at net i)).1 (sym (get_or-take i net.names u [] before) ∙ same)))
 
 one-more : (k : Vec ℕ Global) (ks : Keys) (b : Bool) → b ≡ false → map bytes_of (if b then ks else ks ++ k ∷ []) ≡ map bytes_of ks ++ bytes_of k ∷ []
 one-more k ks b e = rw e (map-append bytes_of ks (k ∷ []))

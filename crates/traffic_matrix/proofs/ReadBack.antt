@@ -1,28 +1,27 @@
 -- What a series prints reads back as the series.
 use Rattle.std.proofs.Common.{ℕ, zero, suc, ◌+◌, ◌*◌, ◌/◌, ◌%◌, ◌≤◌, ◌<◌, ◌≡◌, ◌∙◌, refl, sym, ap, inl, inr, List, [], ◌∷◌, length, get_or, map, filter, All, AllPairs, Bool, true, false, cond, unwrap_or, min, Option, Some, Result, Ok, arith}
-use Rattle.std.specs.Prelude.{◌&&◌, nat_le}
-use Rattle.std.specs.List.{list_all, range_with_len}
+use Rattle.std.specs.List.{range_with_len}
 use Rattle.std.proofs.lemmas.Bool.{false≢true}
 use Rattle.std.proofs.lemmas.List.{get_or-map, length-map}
 use Rattle.std.proofs.lemmas.List.FromFn.{fill_by_all, get_or-map-range_with_len, length-map-range_with_len}
 use Rattle.std.proofs.lemmas.List.Kept.{AllPairs-filter}
 use Rattle.std.proofs.lemmas.Nat.{div-mul-add}
-use Rattle.te_model.proofs.Tests.{and_true}
+use Rattle.te_model.proofs.WellFormed.{well_formed_parts}
 use Rattle.te_model.specs.declared.network.Network.{Network}
 use Rattle.te_model.specs.declared.route.Pair.{Pair}
 use Rattle.te_model.specs.declared.demand.Matrix.{Matrix}
-use Rattle.te_model.specs.Counting.{all_below}
-use Rattle.te_model.specs.Network.{is_name, is_new_name, is_sound_link, is_well_formed, node_count, link_count}
-use Rattle.tables.specs.Rows.{and_then, records_of}
-use Rattle.tables.proofs.RowFacts.{after-header}
+use Rattle.te_model.specs.Network.{is_well_formed, node_count}
+use Rattle.te_model.specs.Pairs.{no_pair}
+use Rattle.csv_records.specs.Rows.{and_then, records_of}
+use Rattle.csv_records.proofs.RowFacts.{after-header}
 use Rattle.traffic_matrix.specs.declared.entry.Entry.{Entry}
 use Rattle.traffic_matrix.specs.declared.series.Series.{Series}
 use Rattle.traffic_matrix.specs.declared.fault.MatrixFault.TheVariants as fault
-use Rattle.traffic_matrix.specs.Limits.{Below, IsPair, IsSeries}
-use Rattle.traffic_matrix.specs.Pairs.{IsWithin, place, pair_at, all_pairs, same_pair}
+use Rattle.traffic_matrix.specs.Limits.{Below, IsSeries}
+use Rattle.traffic_matrix.specs.Pairs.{IsWithin, place, pair_of_place, all_pairs, same_pair}
 use Rattle.traffic_matrix.specs.Rows.{is_header, with_row, series_in}
 use Rattle.traffic_matrix.specs.Series.{demand_in, is_declared, step_count, declared_pairs, matrix_of, series_of}
-use Rattle.traffic_matrix.specs.Text.{text_of, no_pair, no_matrix}
+use Rattle.traffic_matrix.specs.Text.{text_of, no_matrix}
 use Rattle.traffic_matrix.proofs.LimitLemmas.{All-where, all-ascend}
 use Rattle.traffic_matrix.proofs.TableLemmas.{pair-parts, place-below}
 use Rattle.traffic_matrix.proofs.RowText.{entry_at, entries_from, fields, header, series-records}
@@ -87,11 +86,8 @@ among-all n p w =
     let low = place-below n p w in
     let quotient : k / n ≡ p.src = div-mul-add p.src n p.dst w.dst in
     let rest : k % n ≡ p.dst = (let dst = w.dst in let f : n * (k / n) ≡ n * p.src = ap (λ (v : ℕ). n * v) quotient in omega arith) in
-    let is : pair_at n k ≡ p = ap (λ (v : ℕ). let r : Pair = record { src = v; dst = k % n } in r) quotient ∙ ap (λ (v : ℕ). let r : Pair = record { src = p.src; dst = v } in r) rest in
-    (k, omega (arith, length-map-range_with_len (pair_at n) 0 (n * n)), get_or-map-range_with_len (pair_at n) 0 (n * n) k k no_pair low (omega arith) ∙ is)
-
-names-of : (a b c d e f : Bool) → (a && b && c && d && e && f) ≡ true → d ≡ true
-names-of a b c d e f h = (and_true (a && b && c) d (and_true (a && b && c && d) e (and_true (a && b && c && d && e) f h).0).0).1
+    let is : pair_of_place n k ≡ p = ap (λ (v : ℕ). let r : Pair = record { src = v; dst = k % n } in r) quotient ∙ ap (λ (v : ℕ). let r : Pair = record { src = p.src; dst = v } in r) rest in
+    (k, omega (arith, length-map-range_with_len (pair_of_place n) 0 (n * n)), get_or-map-range_with_len (pair_of_place n) 0 (n * n) k k no_pair low (omega arith) ∙ is)
 
 module _ (net : Network) (s : Series) (formed : is_well_formed net ≡ true) (limits : IsSeries (node_count net) s) (after : List Entry) (w : Written net s formed limits (length s.steps) 0 after) where
   pairs-back : 0 < length s.steps → declared_pairs (node_count net) after ≡ s.pairs.list
@@ -106,7 +102,7 @@ module _ (net : Network) (s : Series) (formed : is_well_formed net ≡ true) (li
       (j, inside, pair-is (get_or s.pairs.list j no_pair) q same))
       (λ q m. let (i, low, is) = m in
       let pair = limits.pairs i no_pair low in
-      let within : IsWithin n (get_or s.pairs.list i no_pair) = record { src = pair.src; dst = pair.dst } in
+      let within : IsWithin n (get_or s.pairs.list i no_pair) = record { src = pair.src_inside; dst = pair.dst_inside } in
       rw is at (mem-filter declared (all_pairs n) (get_or s.pairs.list i no_pair) (among-all n (get_or s.pairs.list i no_pair) within) (w.has i low (inl some))))
 
   demands-back : (k : ℕ) → k < length s.steps → (ps : List Pair) (ds : List ℕ) → length ds ≡ length ps
@@ -136,7 +132,7 @@ module _ (net : Network) (s : Series) (formed : is_well_formed net ≡ true) (li
 -- what is printed reads back, where there is a step and a pair
 pub reads-back : (net : Network) (s : Series) → is_well_formed net ≡ true → IsSeries (node_count net) s → 1 ≤ length s.steps → 1 ≤ length s.pairs.list → series_in net (text_of net s) ≡ Ok s
 reads-back net s formed limits some pair =
-    let names = names-of (nat_le 2 (node_count net)) (nat_le (node_count net) 64) (nat_le (link_count net) 512) (list_all is_name net.names) (all_below (node_count net) (is_new_name net)) (all_below (link_count net) (is_sound_link net)) formed in
+    let names = (well_formed_parts net formed).names in
     let (after, written, goes) = steps-read net s formed limits 0 (length s.steps) 1 [] pair (omega arith) (start net s formed limits) in
     ap (and_then (λ es. Ok (series_of (node_count net) es)))
     (after-header (with_row net.names) is_header fault.Header [] (records_of (text_of net s)) header (map (fields net.names) (entries_from s 0 (length s.steps))) (series-records net s names limits) refl ∙ goes)

@@ -7,17 +7,18 @@ use Rattle.csv.specs.Reading.{default_config, strip_bom}
 use Rattle.csv.specs.Writing.{default_writer, row_text, fields_text, is_blank, read_back}
 use Rattle.csv.specs.declared.parser.State.TheVariants as st
 use Rattle.csv.proofs.RoundTrip.{rows_text}
-use Rattle.tables.specs.Rest.{all_from}
-use Rattle.tables.specs.Rows.{records_of}
-use Rattle.tables.proofs.WriteLemmas.{read-back}
-use Rattle.te_model.proofs.Tests.{and_true}
+use Rattle.csv_records.specs.Rest.{all_from}
+use Rattle.csv_records.specs.Rows.{records_of}
+use Rattle.csv_records.proofs.WriteLemmas.{read-back}
+use Rattle.std.proofs.lemmas.Bool.{and_parts}
 use Rattle.te_model.specs.declared.network.Network.{Network}
 use Rattle.te_model.specs.declared.route.Pair.{Pair}
 use Rattle.te_model.specs.Network.{is_name, node_count}
+use Rattle.te_model.specs.Pairs.{no_pair}
 use Rattle.traffic_matrix.specs.declared.entry.Entry.{Entry}
 use Rattle.traffic_matrix.specs.declared.series.Series.{Series}
 use Rattle.traffic_matrix.specs.Limits.{IsSeries}
-use Rattle.traffic_matrix.specs.Text.{row_line, line_at, step_lines, lines_of, text_of, no_pair, no_matrix}
+use Rattle.traffic_matrix.specs.Text.{row_line, line_at, step_lines, lines_of, text_of, no_matrix}
 use Rattle.traffic_matrix.proofs.FieldText.{IsPlain, decimal-plain, name-plain}
 
 -- the entry of the pair at a place in a step
@@ -71,8 +72,8 @@ below n P each k d low =
 
 every_name : (names : List (List ℕ)) (v : ℕ) → list_all is_name names ≡ true → v < length names → is_name (get_or names v []) ≡ true
 every_name [] v all low = absurd (omega arith)
-every_name (x ∷ xs) zero all low = (and_true (is_name x) (list_all is_name xs) all).0
-every_name (x ∷ xs) (suc v) all low = every_name xs v (and_true (is_name x) (list_all is_name xs) all).1 (omega arith)
+every_name (x ∷ xs) zero all low = (and_parts (is_name x) (list_all is_name xs) all).0
+every_name (x ∷ xs) (suc v) all low = every_name xs v (and_parts (is_name x) (list_all is_name xs) all).1 (omega arith)
 
 module _ (net : Network) (s : Series) (named : list_all is_name net.names ≡ true) (limits : IsSeries (node_count net) s) where
   line-text : (step place : ℕ) → step < length s.steps → place < length s.pairs.list
@@ -85,7 +86,7 @@ module _ (net : Network) (s : Series) (named : list_all is_name net.names ≡ tr
       let few = limits.few in
       let low = matrix.demands place 0 (omega arith) in
       row-plain (decimal step) (get_or net.names e.pair.src []) (get_or net.names e.pair.dst []) (decimal e.demand)
-      (decimal-plain step (omega arith)) (name-plain (get_or net.names e.pair.src []) (name-at e.pair.src pair.src)) (name-plain (get_or net.names e.pair.dst []) (name-at e.pair.dst pair.dst)) (decimal-plain e.demand (omega arith))
+      (decimal-plain step (omega arith)) (name-plain (get_or net.names e.pair.src []) (name-at e.pair.src pair.src_inside)) (name-plain (get_or net.names e.pair.dst []) (name-at e.pair.dst pair.dst_inside)) (decimal-plain e.demand (omega arith))
     where
       name-at : (v : ℕ) → v < length net.names → is_name (get_or net.names v []) ≡ true
       name-at v low = every_name net.names v named low

@@ -1,6 +1,6 @@
 -- Where the demands of pairs stand in a table.
 use Rattle.std.proofs.Common.{ℕ, ◌+◌, ◌-◌, ◌*◌, ◌<◌, ◌≤◌, ◌≡◌, ◌≢◌, ◌∙◌, refl, sym, ap, List, ◌++◌, length, get_or, set, take, Bool, true, false, ◌&&◌, ◌||◌, ◌==◌, nat_lt, Option, Some, None, arith, inl, inr, replicate, if◌then◌else◌}
-use Rattle.std.proofs.lemmas.Bool.{cases_lt}
+use Rattle.std.proofs.lemmas.Bool.{and_from, and_parts, cases_lt}
 use Rattle.std.proofs.lemmas.Bool.Decides.{nat_tests}
 use Rattle.std.proofs.lemmas.List.{get_or-set_same, get_or-set_other, get_or_append_left, get_or-append_right, get_or-replicate, take_all}
 use Rattle.std.proofs.Math.Nat.{mul-le-mul_left}
@@ -37,19 +37,12 @@ place-below n p w = two-digits p.src p.dst n n w.src w.dst
 pub cell-below : (n steps step : ℕ) (p : Pair) → step < steps → IsWithin n p → cell n step p < steps * (n * n)
 cell-below n steps step p low w = two-digits step (place n p) steps (n * n) low (place-below n p w)
 
-both : (a b : Bool) → a ≡ true → b ≡ true → (a && b) ≡ true
-both a b e f = rw (e, f) refl
-
-split : (a b : Bool) → (a && b) ≡ true → (a ≡ true) × (b ≡ true)
-split true b h = (refl, h)
-split false b h = cc h
-
 pub same-pair : (p q : Pair) → p.src ≡ q.src → p.dst ≡ q.dst → same_pair p q ≡ true
-same-pair p q e f = both (p.src == q.src) (p.dst == q.dst) (grind (arith, nat_tests)) (grind (arith, nat_tests))
+same-pair p q e f = and_from (p.src == q.src) (p.dst == q.dst) (grind (arith, nat_tests)) (grind (arith, nat_tests))
 
 pub pair-parts : (p q : Pair) → same_pair p q ≡ true → (p.src ≡ q.src) × (p.dst ≡ q.dst)
 pair-parts p q h =
-    let (a, b) = split (p.src == q.src) (p.dst == q.dst) h in
+    let (a, b) = and_parts (p.src == q.src) (p.dst == q.dst) h in
     (grind (arith, nat_tests), grind (arith, nat_tests))
 
 -- the pair of a place
@@ -87,14 +80,14 @@ demand-set n steps step k cells p q d i here size low v w =
   where
     go : (b : Bool) → (step == k && same_pair p q) ≡ b → get_or (set cells (cell n step p) (Some d)) (cell n k q) None ≡ (if b then Some d else get_or cells (cell n k q) None)
     go true e =
-        let (a, b) = split (step == k) (same_pair p q) e in
+        let (a, b) = and_parts (step == k) (same_pair p q) e in
         let s : step ≡ k = grind (arith, nat_tests) in
         let here : cell n step p ≡ cell n k q = (let f : step * (n * n) ≡ k * (n * n) = ap (λ (i : ℕ). i * (n * n)) s in omega (arith, pair-place n p q b)) in
         rw (← here) (get_or-set_same cells (cell n step p) (Some d) None (let below = cell-below n steps step p low v in omega arith))
     go false e = get_or-set_other cells (cell n step p) (cell n k q) (Some d) None (λ same.
         let (s, i) = same-digits step (place n p) k (place n q) (n * n) (place-below n p v) (place-below n q w) (sym same) in
         let a : (step == k) ≡ true = grind (arith, nat_tests) in
-        cc (e, both (step == k) (same_pair p q) a (place-pair n p q v w i)))
+        cc (e, and_from (step == k) (same_pair p q) a (place-pair n p q v w i)))
 
 -- room for more steps changes no demand
 pub demand-grown : (n old new k count : ℕ) (cells more : List (Option ℕ)) (q : Pair) → more ≡ take (new * (n * n)) cells ++ replicate count None → count ≡ new * (n * n) - length cells

@@ -2,14 +2,12 @@
 use Rattle.std.proofs.Common.{ℕ, ◌+◌, ◌<◌, ◌≡◌, ◌∙◌, refl, sym, ap, List, [], ◌∷◌, ◌++◌, length, get_or, append_assoc, append-nil, arith}
 use Rattle.std.specs.List.{flat_map, range_with_len}
 use Rattle.std.proofs.lemmas.Grind.{flat_map-append}
-use Rattle.std.proofs.lemmas.List.{map-id, get_or_default}
-use Rattle.std.proofs.lemmas.List.FromFn.{map-range_with_len_more}
+use Rattle.std.proofs.lemmas.List.{get_or_default}
+use Rattle.te_model.proofs.Lists.{range-more}
+use Rattle.te_model.specs.Pairs.{no_pair}
 use Rattle.te_model.specs.declared.route.Pair.{Pair}
 use Rattle.te_model.specs.declared.demand.Matrix.{Matrix}
-use Rattle.traffic_matrix.specs.Text.{row_line, line_at, step_lines, lines_of, no_pair, no_matrix}
-
-range-more : (k : ℕ) → range_with_len 0 (k + 1) ≡ range_with_len 0 k ++ k ∷ []
-range-more k = sym (map-id (range_with_len 0 (k + 1))) ∙ map-range_with_len_more (λ (x : ℕ). x) 0 k k (omega arith) ∙ ap (λ (r : List ℕ). r ++ k ∷ []) (map-id (range_with_len 0 k))
+use Rattle.traffic_matrix.specs.Text.{row_line, line_at, step_lines, lines_of, no_matrix}
 
 -- what stands before, and then one piece more
 pub pieces-more : (before : List ℕ) (f : ℕ → List ℕ) (k : ℕ) → (before ++ flat_map f (range_with_len 0 k)) ++ f k ≡ before ++ flat_map f (range_with_len 0 (k + 1))

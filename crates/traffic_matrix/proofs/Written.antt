@@ -2,23 +2,24 @@
 use Rattle.std.proofs.Common.{ℕ, zero, suc, ◌+◌, ◌^◌, ◌≤◌, ◌<◌, ◌≡◌, ◌≢◌, ◌⊎◌, ◌∙◌, refl, sym, ap, subst, inl, inr, List, [], ◌∷◌, ◌++◌, length, get_or, map, take, AllPairs, All, decimal, Bool, true, false, not, ◌&&◌, ◌||◌, ◌==◌, cond, nat_lt, nat_le, is_some, min, max, Option, Some, None, Result, Ok, Err, arith, if◌then◌else◌}
 use Rattle.std.specs.Str.{bytes_eq}
 use Rattle.std.specs.List.{flat_map, list_any, list_all, position, position_or_len, range_with_len}
-use Rattle.std.proofs.lemmas.Bool.{false≢true, cases_lt}
+use Rattle.std.proofs.lemmas.Bool.{false≢true, cases_lt, or_cases, or_parts, or_right}
 use Rattle.std.proofs.lemmas.Bool.Decides.{nat_tests}
 use Rattle.std.proofs.lemmas.List.{map-append, append-nil}
 use Rattle.std.proofs.lemmas.Slice.Eq.{bytes_eq-Decides}
 use Rattle.te_model.specs.declared.network.Network.{Network}
 use Rattle.te_model.specs.declared.route.Pair.{Pair}
 use Rattle.te_model.specs.Network.{is_well_formed, node_count, name_at}
-use Rattle.tables.specs.Rows.{and_then, fold_rows}
-use Rattle.tables.proofs.RowFacts.{rows-end, rows-more}
+use Rattle.te_model.specs.Pairs.{no_pair}
+use Rattle.csv_records.specs.Rows.{and_then, fold_rows}
+use Rattle.csv_records.proofs.RowFacts.{rows-end, rows-more}
 use Rattle.traffic_matrix.specs.declared.entry.Entry.{Entry}
 use Rattle.traffic_matrix.specs.declared.series.Series.{Series}
 use Rattle.traffic_matrix.specs.declared.fault.MatrixFault.{MatrixFault}
-use Rattle.traffic_matrix.specs.Limits.{Below, IsPair, IsSeries}
+use Rattle.traffic_matrix.specs.Limits.{Below, IsSeries}
 use Rattle.traffic_matrix.specs.Pairs.{same_pair}
 use Rattle.traffic_matrix.specs.Series.{demand_in, is_declared, step_count}
 use Rattle.traffic_matrix.specs.Rows.{number_named, entry_of, accepted, latest_step, with_row}
-use Rattle.traffic_matrix.specs.Text.{no_pair, no_matrix}
+use Rattle.traffic_matrix.specs.Text.{no_matrix}
 use Rattle.traffic_matrix.proofs.FieldText.{decimal-number, decimal-within}
 use Rattle.traffic_matrix.proofs.NodeLemmas.{new-here}
 use Rattle.traffic_matrix.proofs.RowLemmas.{four-fields, good}
@@ -26,16 +27,12 @@ use Rattle.traffic_matrix.proofs.DemandLemmas.{accepts}
 use Rattle.traffic_matrix.proofs.TableLemmas.{same-pair, pair-parts}
 use Rattle.traffic_matrix.proofs.RowText.{entry_at, step_entries, entries_from, fields}
 
-neither : (a b : Bool) → (a || b) ≡ false → (a ≡ false) × (b ≡ false)
-neither true b h = absurd (false≢true (sym h))
-neither false b h = (refl, h)
-
 -- a name stands at its place where no name before equals it
 first-place : (name : List ℕ) (names : List (List ℕ)) (v : ℕ) → v < length names → get_or names v [] ≡ name → list_any (bytes_eq name) (take v names) ≡ false → position_or_len (bytes_eq name) names ≡ v
 first-place name [] v low is none = absurd (omega arith)
 first-place name (x ∷ xs) zero low is none = let e : bytes_eq name x ≡ true = (bytes_eq-Decides name x).1 (sym is) in rw e refl
 first-place name (x ∷ xs) (suc v) low is none =
-    let (first, rest) = neither (bytes_eq name x) (list_any (bytes_eq name) (take v xs)) none in
+    let (first, rest) = or_parts (bytes_eq name x) (list_any (bytes_eq name) (take v xs)) none in
     rw (first, first-place name xs v (omega arith) is rest) (omega arith)
 
 pub number-of : (net : Network) (v : ℕ) → is_well_formed net ≡ true → v < node_count net → number_named net.names (name_at net v) ≡ Some v
@@ -43,14 +40,6 @@ number-of net v w low =
     let first = first-place (name_at net v) net.names v low refl (new-here net v w low) in
     let inside : nat_lt v (length net.names) ≡ true = grind (arith, nat_tests) in
     rw (first, inside) refl
-
-either : (a b : Bool) → (a || b) ≡ true → (a ≡ true) ⊎ (b ≡ true)
-either true b h = inl refl
-either false b h = inr h
-
-or-right : (a b : Bool) → b ≡ true → (a || b) ≡ true
-or-right true b h = refl
-or-right false b h = h
 
 unequal : (p q : Pair) → (p.src ≡ q.src → p.dst ≡ q.dst → ⊥) → same_pair p q ≡ false
 unequal p q f = go (same_pair p q) refl
@@ -122,14 +111,14 @@ module _ (net : Network) (s : Series) (formed : is_well_formed net ≡ true) (li
         ];
         rest = λ i ge inside. other-pair e before k (get_or s.pairs.list i no_pair) (apart (get_or s.pairs.list a no_pair) (get_or s.pairs.list i no_pair) (ascending a i no_pair (omega arith) inside)).0 ∙ w.rest i (omega arith) inside;
         later = λ j i less inside. other-step e before j (get_or s.pairs.list i no_pair) (omega arith) ∙ w.later j i less inside;
-        known = λ q h. elim (either (same_pair e.pair q) (is_declared before q) h) [
+        known = λ q h. elim (or_cases (same_pair e.pair q) (is_declared before q) h) [
           | inl now ↦ (a, low, now)
           | inr earlier ↦ w.known q earlier
         ];
         has = λ i inside o. elim (cases_lt i a) [
-          | inl earlier ↦ or-right (same_pair e.pair (get_or s.pairs.list i no_pair)) (is_declared before (get_or s.pairs.list i no_pair)) (w.has i inside (inr earlier))
+          | inl earlier ↦ or_right (same_pair e.pair (get_or s.pairs.list i no_pair)) (is_declared before (get_or s.pairs.list i no_pair)) (w.has i inside (inr earlier))
           | inr others ↦ elim o [
-            | inl some ↦ or-right (same_pair e.pair (get_or s.pairs.list i no_pair)) (is_declared before (get_or s.pairs.list i no_pair)) (w.has i inside (inl some))
+            | inl some ↦ or_right (same_pair e.pair (get_or s.pairs.list i no_pair)) (is_declared before (get_or s.pairs.list i no_pair)) (w.has i inside (inl some))
             | inr less ↦ (let same : i ≡ a = omega arith in rw (same, same-pair (get_or s.pairs.list a no_pair) (get_or s.pairs.list a no_pair) refl refl) refl)
           ]
         ];
@@ -160,13 +149,13 @@ module _ (net : Network) (s : Series) (formed : is_well_formed net ≡ true) (li
       let count = matrix.count in
       let few = limits.few in
       let small = matrix.demands a 0 (omega arith) in
-      let differ = pair.differ in
+      let differ = pair.apart in
       let (is-step, step-value) = decimal-number k (omega arith) in
       let (is-demand, demand-value) = decimal-number e.demand (omega arith) in
       let said : entry_of net.names row (fields net.names e) ≡ Ok e =
       four-fields net.names row (fields net.names e) (decimal k) (name_at net e.pair.src) (name_at net e.pair.dst) (decimal e.demand) (Ok e) refl
       (good row (decimal k) (decimal e.demand) (number_named net.names (name_at net e.pair.src)) (number_named net.names (name_at net e.pair.dst)) e.pair.src e.pair.dst
-      (number-of net e.pair.src formed pair.src) (number-of net e.pair.dst formed pair.dst) k e.demand (is-step, sym step-value) (decimal-within e.demand small, sym demand-value)) in
+      (number-of net e.pair.src formed pair.src_inside) (number-of net e.pair.dst formed pair.dst_inside) k e.demand (is-step, sym step-value) (decimal-within e.demand small, sym demand-value)) in
       let new : is_some (demand_in before e.step e.pair) ≡ false = ap is_some (w.rest a (omega arith) low) in
       rw said (accepts before row e w.latest new (grind (arith, nat_tests)) (omega arith))
 

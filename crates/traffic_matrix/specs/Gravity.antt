@@ -1,10 +1,10 @@
 -- Series that are drawn by the gravity model: a demand is the product of the sizes of its nodes.
 use Rattle.std.specs.Prelude.{ℕ, ◌+◌, ◌*◌, ◌%◌, not, List, map, filter, ◌==◌, slice_index}
 use Rattle.std.specs.List.{range_with_len}
-use Rattle.rand_chacha.specs.ChaCha.{ChaCha, word_at}
+use Rattle.rand_chacha.specs.ChaCha.{ChaCha}
 use Rattle.te_model.specs.declared.route.Pair.{Pair}
 use Rattle.te_model.specs.declared.demand.Matrix.{Matrix}
-use Rattle.draws.specs.Words.{generator}
+use Rattle.random_words.specs.Words.{generator, word_on}
 use Rattle.traffic_matrix.specs.declared.series.Series.{Series}
 use Rattle.traffic_matrix.specs.Pairs.{all_pairs}
 
@@ -14,7 +14,7 @@ every_pair n = filter (λ p. not (p.src == p.dst)) (all_pairs n)
 
 -- the size of a node, 1 to 100, by the word that stands so many places on
 abbrev pub size_at : ChaCha → ℕ → ℕ
-size_at rng node = 1 + word_at 4 rng.key rng.stream (rng.word_pos + node) % 100
+size_at rng node = 1 + word_on rng node % 100
 
 -- the sizes of n nodes in a step: step after step, each node takes one word of the seed for the purpose 1
 abbrev pub sizes_in : ℕ → ℕ → ℕ → List ℕ

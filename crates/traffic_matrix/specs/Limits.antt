@@ -1,14 +1,9 @@
 -- Series within the limits: ascending pairs of two different nodes, at most 1024 steps, demands of at most 2^32.
-use Rattle.std.specs.Prelude.{ℕ, ◌<◌, ◌≤◌, ◌≡◌, ◌≢◌, ◌^◌, ◌⊎◌, List, length, All, AllPairs}
+use Rattle.std.specs.Prelude.{ℕ, ◌<◌, ◌≤◌, ◌≡◌, ◌^◌, ◌⊎◌, List, length, All, AllPairs}
 use Rattle.te_model.specs.declared.route.Pair.{Pair}
 use Rattle.te_model.specs.declared.demand.Matrix.{Matrix}
+use Rattle.te_model.specs.Pairs.{IsPairAmong}
 use Rattle.traffic_matrix.specs.declared.series.Series.{Series}
-
--- a pair of two different nodes of n
-pub record IsPair (n : ℕ) (p : Pair) : Type 0 where
-  pub src : p.src < n
-  pub dst : p.dst < n
-  pub differ : p.src ≢ p.dst
 
 -- by source, then by destination
 abbrev pub Below : Pair → Pair → Type 0
@@ -21,7 +16,7 @@ pub record IsMatrix (pairs : ℕ) (m : Matrix) : Type 0 where
 
 -- a series for a network of n nodes
 pub record IsSeries (n : ℕ) (s : Series) : Type 0 where
-  pub pairs : All (IsPair n) s.pairs.list
+  pub pairs : All (IsPairAmong n) s.pairs.list
   pub ascending : AllPairs Below s.pairs.list
   pub few : length s.steps ≤ 1024
   pub matrices : All (IsMatrix (length s.pairs.list)) s.steps

@@ -16,8 +16,8 @@ abbrev pub place : ℕ → Pair → ℕ
 place n pair = pair.src * n + pair.dst
 
 -- the pair at a place
-abbrev pub pair_at : ℕ → ℕ → Pair
-pair_at n k = record { src = k / n; dst = k % n }
+abbrev pub pair_of_place : ℕ → ℕ → Pair
+pair_of_place n k = record { src = k / n; dst = k % n }
 
 abbrev pub all_pairs : ℕ → List Pair
-all_pairs n = map (pair_at n) (range_with_len 0 (n * n))
+all_pairs n = map (pair_of_place n) (range_with_len 0 (n * n))

@@ -4,8 +4,8 @@ use Rattle.std.specs.List.{position}
 use Rattle.std.specs.Str.{bytes_eq}
 use Rattle.te_model.specs.declared.network.Network.{Network}
 use Rattle.te_model.specs.Network.{node_count}
-use Rattle.tables.specs.Field.{is_number, is_number_within, digits_from}
-use Rattle.tables.specs.Rows.{and_then, fold_table, records_of}
+use Rattle.csv_records.specs.Field.{is_number, is_number_within, digits_from}
+use Rattle.csv_records.specs.Rows.{and_then, fold_table, records_of}
 use Rattle.traffic_matrix.specs.declared.entry.Entry.{Entry}
 use Rattle.traffic_matrix.specs.declared.series.Series.{Series}
 use Rattle.traffic_matrix.specs.declared.fault.MatrixFault.{MatrixFault}

@@ -4,14 +4,12 @@ use Rattle.std.specs.List.{flat_map, range_with_len}
 use Rattle.te_model.specs.declared.network.Network.{Network}
 use Rattle.te_model.specs.declared.route.Pair.{Pair}
 use Rattle.te_model.specs.declared.demand.Matrix.{Matrix}
+use Rattle.te_model.specs.Pairs.{no_pair}
 use Rattle.traffic_matrix.specs.declared.series.Series.{Series}
 
 -- a row: fields apart by commas (44), ended by a line feed (10)
 abbrev pub row_line : ℕ → List ℕ → List ℕ → ℕ → List ℕ
 row_line step source target demand = decimal step ++ 44 ∷ source ++ 44 ∷ target ++ 44 ∷ decimal demand ++ 10 ∷ []
-
-abbrev pub no_pair : Pair
-no_pair = record { src = 0; dst = 0 }
 
 -- the row of the pair at a place
 abbrev pub line_at : List (List ℕ) → List Pair → ℕ → List ℕ → ℕ → List ℕ

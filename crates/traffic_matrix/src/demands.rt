@@ -1,6 +1,7 @@
 //! The demands of the rows that were read.
 
 ghost use Rattle.std.specs.Prelude.{◌≡◌, ◌<◌, ◌≤◌, All, List, [], ◌∷◌, OnOk, IfOk, IfErr, Err, Ok};
+ghost use Rattle.te_model.specs.declared.limits.TheConstants.{FORMAT_2};
 ghost use Rattle.traffic_matrix.specs.declared.entry.Entry.{Entry};
 ghost use Rattle.traffic_matrix.specs.Pairs.{IsWithin};
 ghost use Rattle.traffic_matrix.specs.Rows.{accepted};
@@ -24,7 +25,7 @@ pub struct Demands {
 impl Demands {
     /// No row yet, between this many nodes.
     pub fn new(alloc: Global, nodes: usize) -> Result<Demands, Memory>
-        requires { nodes ≤ 64 }
+        requires { nodes ≤ FORMAT_2.nodes }
         ensures nodes { IfOk result (λ d. d.table.nodes ≡ nodes) }
         ensures shows { IfOk result (Shows []) }
     {

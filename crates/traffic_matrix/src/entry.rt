@@ -1,11 +1,12 @@
 //! What a row says.
 
 ghost use Rattle.std.specs.Prelude.{◌≡◌, ◌<◌, ◌≤◌, ◌^◌, IfOk, IfErr, Ok, Err, length};
+ghost use Rattle.te_model.specs.declared.limits.TheConstants.{FORMAT_2};
 ghost use Rattle.traffic_matrix.specs.Rows.{entry_of};
 
 use crate::fault::MatrixFault;
 use crate::nodes::Nodes;
-use tables::{Rows, number, number_within};
+use csv_records::{Rows, number, number_within};
 use te_model::Pair;
 
 /// The demand of a pair in a step.
@@ -18,7 +19,7 @@ pub struct Entry {
 
 /// What the row says that was read last, or the first of the faults of its fields.
 pub fn read_entry(rows: &Rows<'_>, nodes: &Nodes, row: u64) -> Result<Entry, MatrixFault>
-    requires { length nodes.now ≤ 64 }
+    requires { length nodes.now ≤ FORMAT_2.nodes }
     ensures entry { IfOk result (λ e. entry_of nodes.now row rows.now.current ≡ Ok e) }
     ensures nodes { IfOk result (λ e. (e.pair.src < length nodes.now) × (e.pair.dst < length nodes.now)) }
     ensures refused { IfErr result (λ f. entry_of nodes.now row rows.now.current ≡ Err f) }

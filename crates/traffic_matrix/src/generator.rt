@@ -3,13 +3,14 @@
 ghost use Rattle.std.specs.Prelude.{◌≡◌, ◌<◌, ◌≤◌, ◌+◌, ◌*◌, ◌^◌, All, IfOk, OnOk, IsTrue, map, length, slice_index};
 ghost use Rattle.std.specs.List.{range_with_len};
 ghost use Rattle.te_model.specs.Network.{is_well_formed, node_count};
+ghost use Rattle.te_model.specs.declared.limits.TheConstants.{FORMAT_2};
 ghost use Rattle.traffic_matrix.specs.Gravity.{every_pair, size_at, products, gravity_of};
 ghost use Rattle.traffic_matrix.specs.Limits.{IsSeries};
 ghost use Rattle.traffic_matrix.specs.Pairs.{IsWithin};
 
 use crate::series::Series;
-use draws::{draw, generator_of};
 use rand_chacha::ChaCha8Rng;
+use random_words::{draw, generator_of};
 use std::alloc::Global;
 use te_model::{Items, Matrix, Memory, Network, Pair, Pairs};
 
@@ -42,7 +43,7 @@ pub fn gravity(alloc: Global, net: &Network, seed: u64, steps: u32) -> Result<Se
 
 // All pairs of two nodes, ascending.
 fn every_pair(alloc: Global, nodes: usize) -> Result<Vec<Pair>, Memory>
-    requires { nodes ≤ 64 }
+    requires { nodes ≤ FORMAT_2.nodes }
     ensures pairs { IfOk result (λ v. v.items ≡ every_pair nodes) }
     ensures within { IfOk result (λ v. All (IsWithin nodes) v.items) }
 {

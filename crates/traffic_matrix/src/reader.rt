@@ -11,8 +11,8 @@ use crate::entry::read_entry;
 use crate::fault::MatrixFault;
 use crate::nodes::Nodes;
 use crate::series::Series;
+use csv_records::Rows;
 use std::alloc::Global;
-use tables::Rows;
 use te_model::Network;
 
 /// Reads a series of matrices of a network: the header `step,source,target,demand`, and then a row for each demand,

@@ -1,6 +1,7 @@
 //! A table of demands by step and pair of nodes.
 
 ghost use Rattle.std.specs.Prelude.{◌≡◌, ◌*◌, ◌≤◌, vec_len};
+ghost use Rattle.te_model.specs.declared.limits.TheConstants.{FORMAT_2};
 
 use std::alloc::Global;
 use te_model::{Memory, Pair};
@@ -15,7 +16,7 @@ pub struct Table {
     steps: usize,
     cells: Vec<Option<u64>>,
     declared: Vec<bool>,
-    ghost few_nodes: { nodes ≤ 64 },
+    ghost few_nodes: { nodes ≤ FORMAT_2.nodes },
     ghost few_steps: { steps ≤ 1024 },
     ghost size: { vec_len cells ≡ steps * (nodes * nodes) },
     ghost pairs: { vec_len declared ≡ nodes * nodes },
@@ -23,13 +24,14 @@ pub struct Table {
 
 impl Table {
     ghost use Rattle.std.specs.Prelude.{◌≡◌, ◌+◌, ◌*◌, ◌<◌, ◌≤◌, OnOk, IfOk, false, max, vec_len};
+    ghost use Rattle.te_model.specs.declared.limits.TheConstants.{FORMAT_2};
     ghost use Rattle.te_model.specs.declared.route.Pair.{Pair};
     ghost use Rattle.traffic_matrix.specs.Pairs.{IsWithin, place};
     ghost use Rattle.traffic_matrix.specs.Table.{cell, demand_at, declared_at, IsGrown, IsPut};
 
     /// No step yet, between this many nodes.
     pub fn new(alloc: Global, nodes: usize) -> Result<Table, Memory>
-        requires { nodes ≤ 64 }
+        requires { nodes ≤ FORMAT_2.nodes }
         ensures nodes { IfOk result (λ t. t.nodes ≡ nodes) }
         ensures steps { IfOk result (λ t. t.steps ≡ 0) }
         ensures declared { IfOk result (λ t. (pair : Pair) → IsWithin nodes pair → declared_at t pair ≡ false) }

@@ -2,7 +2,8 @@
 
 ghost use Rattle.std.specs.Prelude.{◌≡◌, ◌≤◌, ◌++◌, All, Ok, IfOk, OnOk, IsTrue, length};
 ghost use Rattle.te_model.specs.Network.{is_well_formed, node_count};
-ghost use Rattle.traffic_matrix.specs.Limits.{IsPair, IsSeries};
+ghost use Rattle.te_model.specs.Pairs.{IsPairAmong};
+ghost use Rattle.traffic_matrix.specs.Limits.{IsSeries};
 ghost use Rattle.traffic_matrix.specs.Rows.{series_in};
 ghost use Rattle.traffic_matrix.specs.Text.{row_line, step_lines, text_of};
 
@@ -36,7 +37,7 @@ fn print_step(
     step: usize,
     demands: &[u64],
 ) -> Result<(), Memory>
-    requires pairs { All (IsPair (length names.now)) pairs.now }
+    requires pairs { All (IsPairAmong (length names.now)) pairs.now }
     requires demands { length demands.now ≡ length pairs.now }
     ensures { OnOk result (text.new.items ≡ text.old.items ++ step_lines names.now pairs.now step demands.now) }
 {

@@ -1,8 +1,8 @@
 use Rattle.std.proofs.Common.{◌≡◌, ◌≢◌, ◌∙◌, sym, arith, [], Err, length}
 use Rattle.std.proofs.lemmas.List.Elements.{All-append, All-cons}
 use Rattle.te_model.specs.Network.{link_count}
-use Rattle.tables.specs.Rows.{records_of}
-use Rattle.tables.proofs.RowFacts.{rows-end, rows-fault, rows-more, no-record, no-header, after-header, passed}
+use Rattle.csv_records.specs.Rows.{records_of}
+use Rattle.csv_records.proofs.RowFacts.{rows-end, rows-fault, rows-more, no-record, no-header, after-header, passed}
 use Rattle.failure.specs.declared.fault.FailureFault.{FailureFault}
 use Rattle.failure.specs.declared.fault.FailureFault.TheVariants as fault
 use Rattle.failure.specs.File.{failures_of, with_row, is_header, IsOutage}

@@ -1,6 +1,6 @@
 use Rattle.std.proofs.Common.{◌≡◌, ◌+◌, All, length, vec_len}
 use Rattle.te_model.specs.Network.{link_count}
-use Rattle.tables.specs.Rows.{fold_rows}
+use Rattle.csv_records.specs.Rows.{fold_rows}
 use Rattle.failure.specs.File.{failures_of, with_row, IsOutage}
 use Rattle.failure.proofs.reader.read.Given as goal
 

@@ -1,6 +1,6 @@
 use Rattle.std.proofs.Common.{arith}
-use Rattle.tables.specs.Field.{is_number, digits_from}
-use Rattle.tables.proofs.FieldFacts.{number-some, number-none}
+use Rattle.csv_records.specs.Field.{is_number, digits_from}
+use Rattle.csv_records.proofs.FieldFacts.{number-some, number-none}
 use Rattle.failure.proofs.RowLemmas.{other-fields, three-fields, bad-from, bad-to, bad-link, numbers, no-link, wrong-order, too-late, in-range}
 use Rattle.failure.proofs.reader.read_outage.Goals as goal
 use Rattle.failure.proofs.reader.read_outage.Goals.{then-from-to-via-then-from-to, then-from-to-via-else-from-to+then-to-from}

@@ -1,6 +1,6 @@
 use Rattle.std.proofs.Common.{sym}
-use Rattle.tables.specs.Field.{is_number_within, digits_from}
-use Rattle.tables.proofs.FieldFacts.{number-some, number-none}
+use Rattle.csv_records.specs.Field.{is_number_within, digits_from}
+use Rattle.csv_records.proofs.FieldFacts.{number-some, number-none}
 use Rattle.topology.proofs.EntryLemmas.{no-four, four-fields, bad-source, bad-target, bad-capacity, bad-cost, same-names, good}
 use Rattle.topology.proofs.entry.read_entry.Goals as goal
 

@@ -1,7 +1,7 @@
 use Rattle.std.proofs.Common.{◌≡◌, ◌≢◌, ◌∙◌, ap, sym, refl, true, arith, Ok, Err, nat_lt, vec_len}
 use Rattle.std.proofs.lemmas.Grind.{common_steps}
-use Rattle.tables.specs.Rows.{and_then, records_of}
-use Rattle.tables.proofs.RowFacts.{rows-end, rows-fault, rows-more, no-record, no-header, after-header, passed}
+use Rattle.csv_records.specs.Rows.{and_then, records_of}
+use Rattle.csv_records.proofs.RowFacts.{rows-end, rows-fault, rows-more, no-record, no-header, after-header, passed}
 use Rattle.topology.specs.Topology.{topology_of, with_row, is_header, no_links, closed}
 use Rattle.topology.specs.declared.fault.TopologyFault.{TopologyFault}
 use Rattle.topology.specs.declared.fault.TopologyFault.TheVariants as fault

@@ -1,5 +1,6 @@
 use Rattle.std.proofs.Common.{◌≡◌, ◌≤◌, ◌+◌, length}
-use Rattle.tables.specs.Rows.{and_then, fold_rows}
+use Rattle.te_model.specs.declared.limits.TheConstants.{MAX_LINKS, MAX_NODES}
+use Rattle.csv_records.specs.Rows.{and_then, fold_rows}
 use Rattle.topology.specs.Topology.{topology_of, with_row, closed}
 use Rattle.topology.proofs.reader.read.Given as goal
 
@@ -7,7 +8,7 @@ use Rattle.topology.proofs.reader.read.Given as goal
 abbrev pub invariant-loop-links : goal.invariant-loop-links
 invariant-loop-links l =
     (topology_of l.bytes ≡ and_then closed (fold_rows with_row (record { names = l.nodes; links = l.links.items }) l.row l.rows.rest))
-    × (l.row ≡ length l.links.items + 1) × (length l.nodes ≤ 64) × (length l.links.items ≤ 512)
+    × (l.row ≡ length l.links.items + 1) × (length l.nodes ≤ MAX_NODES) × (length l.links.items ≤ MAX_LINKS)
 
 abbrev pub decreases-loop-links : goal.decreases-loop-links
 decreases-loop-links l = length l.rows.rest

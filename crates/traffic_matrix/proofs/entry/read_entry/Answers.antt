@@ -1,6 +1,6 @@
 use Rattle.std.proofs.Common.{◌^◌, sym}
-use Rattle.tables.specs.Field.{is_number, is_number_within, digits_from}
-use Rattle.tables.proofs.FieldFacts.{number-some, number-none}
+use Rattle.csv_records.specs.Field.{is_number, is_number_within, digits_from}
+use Rattle.csv_records.proofs.FieldFacts.{number-some, number-none}
 use Rattle.traffic_matrix.specs.Rows.{number_named}
 use Rattle.traffic_matrix.proofs.RowLemmas.{other-fields, four-fields, no-source, no-target, bad-step, bad-demand, good}
 use Rattle.traffic_matrix.proofs.entry.read_entry.Goals as goal

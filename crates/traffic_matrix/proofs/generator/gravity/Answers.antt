@@ -1,12 +1,13 @@
 use Rattle.std.proofs.Common.{◌≡◌, ◌∙◌, refl, sym, ap, subst, length, List, ℕ, map, arith}
 use Rattle.std.specs.List.{range_with_len}
 use Rattle.std.proofs.lemmas.List.FromFn.{map-range_with_len_more, length-map-range_with_len}
+use Rattle.random_words.proofs.Moving.{generator_round}
 use Rattle.te_model.specs.declared.demand.Matrix.{Matrix}
 use Rattle.te_model.specs.Network.{node_count}
 use Rattle.traffic_matrix.specs.declared.series.Series.{Series}
 use Rattle.traffic_matrix.specs.Gravity.{every_pair, size_at, sizes_in, products, gravity_matrix, gravity_of}
 use Rattle.traffic_matrix.specs.Limits.{IsSeries}
-use Rattle.traffic_matrix.proofs.GravityLemmas.{step-words, gravity-in-range, series-is, within-count}
+use Rattle.traffic_matrix.proofs.GravityLemmas.{gravity-in-range, series-is, within-count}
 use Rattle.traffic_matrix.proofs.generator.gravity.Goals as goal
 
 pub products-requires-clause-pairs : goal.products-requires-clause-pairs
@@ -25,7 +26,7 @@ loop-step-preserved c =
     c.in_ok-products.ensures ∙ rw (c.as_slice.ensures.value, c.in_ok-pairs.ensures.pairs, c.as_slice-in-loop-step.ensures.value, c.in_ok-sizes.ensures.sizes, i.rng) refl in
     let matrix : c.in_ok-products.field-0 ≡ gravity_matrix n c.args.seed k = ap (λ (d : List ℕ). let m : Matrix = record { demand = d } in m) made in
     record {
-      rng = step-words c.args.seed n k c.loop-step.rng c.draw_sizes.new.rng i.rng c.in_ok-sizes.ensures.state;
+      rng = generator_round c.args.seed 1 n k c.loop-step.rng c.draw_sizes.new.rng i.rng c.in_ok-sizes.ensures.state;
       matrices = c.in_ok-push.ensures.items ∙ rw (i.matrices, matrix) (sym (map-range_with_len_more (gravity_matrix n c.args.seed) 0 k k (omega arith)));
     }
 

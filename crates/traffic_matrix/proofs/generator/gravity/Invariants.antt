@@ -1,6 +1,6 @@
 use Rattle.std.proofs.Common.{◌≡◌, ◌*◌, map}
 use Rattle.std.specs.List.{range_with_len}
-use Rattle.draws.specs.Words.{generator}
+use Rattle.random_words.specs.Words.{generator}
 use Rattle.traffic_matrix.specs.Gravity.{gravity_matrix}
 use Rattle.traffic_matrix.proofs.generator.gravity.Given as goal
 

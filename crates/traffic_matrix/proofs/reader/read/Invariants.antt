@@ -1,6 +1,6 @@
 use Rattle.std.proofs.Common.{◌≡◌, ◌≤◌, ◌+◌, length}
 use Rattle.te_model.specs.Network.{node_count}
-use Rattle.tables.specs.Rows.{records_of}
+use Rattle.csv_records.specs.Rows.{records_of}
 use Rattle.traffic_matrix.specs.Rows.{entries_in}
 use Rattle.traffic_matrix.proofs.DemandLemmas.{Standing}
 use Rattle.traffic_matrix.proofs.reader.read.Given as goal

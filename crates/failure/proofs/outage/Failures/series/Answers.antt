@@ -4,9 +4,9 @@ use Rattle.std.specs.List.{range_with_len}
 use Rattle.std.proofs.lemmas.List.FromFn.{map-range_with_len_more}
 use Rattle.te_model.specs.declared.network.Link.{Link}
 use Rattle.te_model.specs.Network.{link_count}
+use Rattle.te_model.proofs.Lists.{written_whole}
 use Rattle.failure.specs.declared.outage.Outage.{Outage}
 use Rattle.failure.specs.Series.{AreEnds, AreEndsByStep, marks_of}
-use Rattle.failure.proofs.Marking.{written_whole}
 use Rattle.failure.proofs.Sweeping.{ends_begin, ends_more, marks_ended, row_lent}
 use Rattle.failure.proofs.outage.Failures.series.Goals as goal
 

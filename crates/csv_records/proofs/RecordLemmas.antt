@@ -7,8 +7,8 @@ use Rattle.csv.specs.declared.parser.State.{State}
 use Rattle.csv.specs.declared.parser.State.TheVariants as st
 use Rattle.csv.specs.declared.parser.Action.{Action}
 use Rattle.csv.specs.declared.parser.Action.TheVariants as act
-use Rattle.tables.specs.Rest.{all_from}
-use Rattle.tables.specs.Rows.{records_of}
+use Rattle.csv_records.specs.Rest.{all_from}
+use Rattle.csv_records.specs.Rows.{records_of}
 
 -- a step that ends a record leads to a state in which the text may end
 abbrev Fine : State × Action → Type 0

@@ -1,6 +1,6 @@
 -- The steps of a table's fold, and a fact that each step keeps.
 use Rattle.std.proofs.Common.{ℕ, ◌+◌, ◌≡◌, refl, sym, subst, List, [], ◌∷◌, Bool, true, false, Result, Ok, Err, IfErr, IsErrAnd, if◌then◌else◌}
-use Rattle.tables.specs.Rows.{and_then, fold_rows, fold_table}
+use Rattle.csv_records.specs.Rows.{and_then, fold_rows, fold_table}
 
 module _ {S E : Type 0} (step : S → ℕ → List (List ℕ) → Result S E) where
   pub rows-end : (state : S) (row : ℕ) (rows : List (List (List ℕ))) → rows ≡ [] → fold_rows step state row rows ≡ Ok state

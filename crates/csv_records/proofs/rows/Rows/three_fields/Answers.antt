@@ -1,6 +1,6 @@
 use Rattle.std.proofs.Common.{◌∙◌, sym, arith}
-use Rattle.tables.proofs.FieldFacts.{absent, three, none-of}
-use Rattle.tables.proofs.rows.Rows.three_fields.Goals as goal
+use Rattle.csv_records.proofs.FieldFacts.{absent, three, none-of}
+use Rattle.csv_records.proofs.rows.Rows.three_fields.Goals as goal
 
 pub returns-in_err-first-clause-none : goal.returns-in_err-first-clause-none
 returns-in_err-first-clause-none c = none-of _ _ (absent c.args.self.now.current 0 3 (omega arith) (sym (rw c.in_err-first.was at c.field.ensures)))

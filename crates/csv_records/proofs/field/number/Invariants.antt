@@ -1,7 +1,7 @@
 use Rattle.std.proofs.Common.{◌≡◌, ◌<◌, ◌^◌, drop}
 use Rattle.std.specs.List.{list_all}
-use Rattle.tables.specs.Field.{digits_from, is_digit}
-use Rattle.tables.proofs.field.number.Given as goal
+use Rattle.csv_records.specs.Field.{digits_from, is_digit}
+use Rattle.csv_records.proofs.field.number.Given as goal
 
 -- the digits that are left go on from the number
 abbrev pub invariant-loop-byte : goal.invariant-loop-byte

@@ -1,7 +1,7 @@
 //! What a field spells.
 
 ghost use Rattle.std.specs.Prelude.{◌≡◌, Some, None, if◌then◌else◌};
-ghost use Rattle.tables.specs.Field.{is_number, is_number_within, digits_from};
+ghost use Rattle.csv_records.specs.Field.{is_number, is_number_within, digits_from};
 
 /// The number that a field spells, where it is 1 to 10 digits; leading zeros are accepted.
 pub fn number(field: &[u8]) -> Option<u64>

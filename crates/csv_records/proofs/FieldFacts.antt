@@ -1,10 +1,10 @@
 -- The fields of a record.
 use Rattle.std.proofs.Common.{ℕ, ◌<◌, ◌≡◌, ◌≢◌, List, [], ◌∷◌, length, Option, Some, None, IfNone, arith, Bool, true, false, refl}
 use Rattle.std.specs.Prelude.{◌&&◌, ◌≤◌, nat_le, if◌then◌else◌}
-use Rattle.std.proofs.lemmas.Bool.Decides.{nat_tests}
+use Rattle.std.proofs.lemmas.Bool.{and_parts, leb-true}
 use Rattle.csv.specs.Records.{field_at}
 use Rattle.csv.proofs.RecordFacts.{field-there}
-use Rattle.tables.specs.Field.{digits_from, is_number, is_number_within}
+use Rattle.csv_records.specs.Field.{digits_from, is_number, is_number_within}
 
 pub none-of : {T : Type 0} (r : Option T) (P : Type 0) → P → IfNone r P
 none-of None P p = p
@@ -33,17 +33,12 @@ four (p ∷ q ∷ r ∷ []) a b c d n e f g h = absurd (omega arith)
 four (p ∷ q ∷ r ∷ s ∷ []) a b c d n e f g h = cc
 four (p ∷ q ∷ r ∷ s ∷ t ∷ more) a b c d n e f g h = absurd (omega arith)
 
-last_two : (a b c : Bool) → (a && b && c) ≡ true → (b ≡ true) × (c ≡ true)
-last_two true true true h = (refl, refl)
-last_two true true false h = cc h
-last_two true false c h = cc h
-last_two false b c h = cc h
-
 -- a number within bounds lies between them
 pub within-bounds : (low high : ℕ) (field : List ℕ) → is_number_within low high field ≡ true → (low ≤ digits_from 0 field) × (digits_from 0 field ≤ high)
 within-bounds low high field h =
-    let (a, b) = last_two (is_number field) (nat_le low (digits_from 0 field)) (nat_le (digits_from 0 field) high) h in
-    (grind (arith, nat_tests), grind (arith, nat_tests))
+    let (front, below) = and_parts (is_number field && nat_le low (digits_from 0 field)) (nat_le (digits_from 0 field) high) h in
+    let (number, above) = and_parts (is_number field) (nat_le low (digits_from 0 field)) front in
+    (leb-true low (digits_from 0 field) above, leb-true (digits_from 0 field) high below)
 
 -- what `number_within` says of its test
 pub number-some : (b : Bool) (n v : ℕ) → Some v ≡ (if b then Some n else None) → (b ≡ true) × (v ≡ n)

@@ -2,7 +2,7 @@
 
 ghost use Rattle.std.specs.Prelude.{◌≡◌, ◌+◌, ◌<◌, ◌^◌};
 ghost use Rattle.rand_chacha.specs.ChaCha.{word_at};
-ghost use Rattle.draws.specs.Words.{generator};
+ghost use Rattle.random_words.specs.Words.{generator};
 
 use rand_chacha::ChaCha8Rng;
 use rand_core::SeedableRng;

@@ -3,9 +3,9 @@
 ghost use Rattle.std.specs.Prelude.{◌≡◌, ◌≢◌, ◌∷◌, [], length, true, false, IfErr, IfOk, IfNone, IfSome, option_map};
 ghost use Rattle.csv.specs.Records.{field_at};
 ghost use Rattle.csv.specs.Reading.{error_kind};
-ghost use Rattle.tables.specs.Errors.{IsShortOrUnread};
-ghost use Rattle.tables.specs.Rows.{records_of};
-ghost use Rattle.tables.specs.Table.{Table};
+ghost use Rattle.csv_records.specs.Errors.{IsShortOrUnread};
+ghost use Rattle.csv_records.specs.Rows.{records_of};
+ghost use Rattle.csv_records.specs.Table.{Table};
 
 use csv::{ByteRecord, Reader, ReaderBuilder};
 use std::alloc::Global;
@@ -21,13 +21,13 @@ pub struct Rows<'a> {
 }
 
 impl<'a> Model for Rows<'a> {
-    ghost use Rattle.tables.specs.Table.{Table};
+    ghost use Rattle.csv_records.specs.Table.{Table};
 
     ghost Value = { Table };
 
     ghost use Rattle.std.specs.Prelude.{◌≡◌, [], false, if◌then◌else◌};
     ghost use Rattle.csv.specs.Records.{fields_of};
-    ghost use Rattle.tables.specs.Rest.{rest_of, IsSound};
+    ghost use Rattle.csv_records.specs.Rest.{rest_of, IsSound};
 
     ghost view = { λ a. record { current = fields_of a.fields; rest = if a.ended then [] else rest_of a.reader } };
 

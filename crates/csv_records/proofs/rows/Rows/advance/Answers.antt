@@ -1,8 +1,8 @@
 use Rattle.std.proofs.Common.{◌≡◌, ◌∷◌, false}
 use Rattle.csv.specs.Records.{fields_of}
-use Rattle.tables.specs.Rest.{IsSound, rest_of}
-use Rattle.tables.proofs.ReaderLemmas.{read-more, read-end, is-ready}
-use Rattle.tables.proofs.rows.Rows.advance.Goals as goal
+use Rattle.csv_records.specs.Rest.{IsSound, rest_of}
+use Rattle.csv_records.proofs.ReaderLemmas.{read-more, read-end, is-ready}
+use Rattle.csv_records.proofs.rows.Rows.advance.Goals as goal
 
 -- what a read that found a record did
 more : (c : goal.In-Ok-true) → c.self.inside.ended ≡ false → IsSound c.read_byte_record.new.self × (rest_of c.self.inside.reader ≡ fields_of c.read_byte_record.new.row ∷ rest_of c.read_byte_record.new.self)

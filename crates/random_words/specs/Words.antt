@@ -1,5 +1,5 @@
 -- The words that a seed gives for a purpose: those of the ChaCha stream cipher of 8 rounds (Bernstein 2008).
-use Rattle.std.specs.Prelude.{ℕ, List, ◌∷◌, ◌++◌, replicate}
+use Rattle.std.specs.Prelude.{ℕ, ◌+◌, List, ◌∷◌, ◌++◌, replicate}
 use Rattle.std.specs.Int.{w64, to_le_bytes}
 use Rattle.rand_chacha.specs.ChaCha.{ChaCha, word_at, key_of}
 
@@ -14,3 +14,7 @@ word seed purpose n = word_at 4 (key_of (seed_bytes seed purpose)) 0 n
 -- the generator of a seed and a purpose once n words were taken
 abbrev pub generator : ℕ → ℕ → ℕ → ChaCha
 generator seed purpose n = record { key = key_of (seed_bytes seed purpose); stream = 0; word_pos = n }
+
+-- the word that a generator gives after its next k words
+abbrev pub word_on : ChaCha → ℕ → ℕ
+word_on rng k = word_at 4 rng.key rng.stream (rng.word_pos + k)
