@@ -1,13 +1,14 @@
 -- A walk without its loops is a path.
 use Rattle.std.proofs.Common.{◌⊎◌, inl, inr, ◌≡◌, ℕ, zero, suc, ◌<◌, ◌≤◌, Bool, true, false, not, ◌&&◌, ◌||◌, List, [], ◌∷◌, ◌++◌, length, drop, arith, refl, ap, sym, ◌∙◌, subst, slice_index, ◌==◌, nat_lt, if◌then◌else◌, All}
 use Rattle.std.specs.List.{list_any}
-use Rattle.std.proofs.lemmas.Bool.{and_from, and_parts, or_cases, eqb-true, eq-eqb, ltb-true}
+use Rattle.std.proofs.lemmas.Bool.{and_from, and_parts, or_cases, eqb-true, eq-eqb, ltb-true, or_parts}
 use Rattle.std.proofs.lemmas.List.{append-nil, append_assoc}
 use Rattle.std.proofs.lemmas.List.Elements.{All-nil, All-cons, All-tail}
 use Rattle.te_model.specs.declared.network.Network.{Network}
 use Rattle.te_model.specs.Network.{link_count, tail_of, head_of}
 use Rattle.te_model.specs.Path.{has_number, is_distinct, chains, nodes_visited, is_path}
-use Rattle.routing.specs.Loops.{after_last, IsCut}
+use Rattle.te_model.proofs.Chains.{first_link}
+use Rattle.routing.specs.Loops.{after_last, end_of, IsCut}
 
 -- whether a link of the walk leads to node s
 abbrev pub leads_to : Network → ℕ → List ℕ → Bool
@@ -39,10 +40,6 @@ after_found net s (h ∷ hs) (suc i) below at none =
     found (x ∷ xs) zero below at = ap (λ b. b || leads_to net s xs) (eq-eqb (head_of net x) s at)
     found (x ∷ xs) (suc j) below at = or_right (head_of net x == s) (leads_to net s xs) (found xs j (omega arith) at)
 
-or_none : (a b : Bool) → (a || b) ≡ false → (a ≡ false) × (b ≡ false)
-or_none true b e = cc
-or_none false b e = (refl, e)
-
 -- what follows the last visit visits s no more
 after_leads_to : (net : Network) (s : ℕ) (walk : List ℕ) → leads_to net s (after_last net s walk) ≡ false
 after_leads_to net s [] = refl
@@ -56,7 +53,7 @@ after_leads_to net s (h ∷ hs) = go (leads_to net s (h ∷ hs)) (after_leads_to
 -- what a walk does not lead to, no part of it leads to
 after_kept : (net : Network) (s u : ℕ) (walk : List ℕ) → leads_to net s walk ≡ false → leads_to net s (after_last net u walk) ≡ false
 after_kept net s u [] none = none
-after_kept net s u (h ∷ hs) none = go (leads_to net u (h ∷ hs)) (after_kept net s u hs (or_none (head_of net h == s) (leads_to net s hs) none).1)
+after_kept net s u (h ∷ hs) none = go (leads_to net u (h ∷ hs)) (after_kept net s u hs (or_parts (head_of net h == s) (leads_to net s hs) none).1)
   where
     go : (b : Bool) → leads_to net s (after_last net u hs) ≡ false → leads_to net s (if b then after_last net u hs else h ∷ hs) ≡ false
     go true later = later
@@ -90,7 +87,7 @@ cut_avoids : (net : Network) (s v : ℕ) (walk cut : List ℕ) → IsCut net v w
 cut_avoids net s v walk [] is none apart = ap (λ b. b || false) apart
 cut_avoids net s v walk (h ∷ cut) (rest, at, more) none apart =
     let kept : leads_to net s (h ∷ rest) ≡ false = subst (λ w. leads_to net s w ≡ false) at (after_kept net s v walk none) in
-    let parts = or_none (head_of net h == s) (leads_to net s rest) kept in
+    let parts = or_parts (head_of net h == s) (leads_to net s rest) kept in
     let later = cut_avoids net s (head_of net h) rest cut more parts.1 parts.0 in
     ap (λ b. b || has_number (nodes_visited net (head_of net h) cut) s) apart ∙ later
 
@@ -105,7 +102,7 @@ cut_is_path net s t walk (h ∷ cut) chain (rest, at, more) =
     let path = cut_is_path net (head_of net h) t rest cut outer.1 more in
     let parts = and_parts (chains net (head_of net h) t cut) (is_distinct (nodes_visited net (head_of net h) cut)) path in
     let kept : leads_to net s (h ∷ rest) ≡ false = subst (λ w. leads_to net s w ≡ false) at (after_leads_to net s walk) in
-    let none = or_none (head_of net h == s) (leads_to net s rest) kept in
+    let none = or_parts (head_of net h == s) (leads_to net s rest) kept in
     let apart : has_number (nodes_visited net (head_of net h) cut) s ≡ false = cut_avoids net s (head_of net h) rest cut more none.1 none.0 in
     and_from (chains net s t (h ∷ cut)) (is_distinct (nodes_visited net s (h ∷ cut)))
     (and_from (nat_lt h (link_count net) && tail_of net h == s) (chains net (head_of net h) t cut) outer.0 parts.0)
@@ -122,14 +119,6 @@ cut_goes_on net s walk cut on = go (after_last net s walk) refl on
     go : (rest : List ℕ) → after_last net s walk ≡ rest → GoesOn net rest cut → IsCut net s walk cut
     go [] e is = subst (IsCut net s walk) (sym is) e
     go (h ∷ hs) e (more, is, cut') = subst (IsCut net s walk) (sym is) (hs, e, cut')
-
--- the links of a walk are links of the network
-pub chained_links : (net : Network) (s t : ℕ) (walk : List ℕ) → chains net s t walk ≡ true → All (λ h. h < link_count net) walk
-chained_links net s t [] chain = All-nil (λ h. h < link_count net)
-chained_links net s t (h ∷ hs) chain =
-    let outer = and_parts (nat_lt h (link_count net) && tail_of net h == s) (chains net (head_of net h) t hs) chain in
-    let inner = and_parts (nat_lt h (link_count net)) (tail_of net h == s) outer.0 in
-    All-cons (λ h. h < link_count net) h hs (ltb-true h (link_count net) inner.0) (chained_links net (head_of net h) t hs outer.1)
 
 after_links : (net : Network) (s : ℕ) (walk : List ℕ) → All (λ h. h < link_count net) walk → All (λ h. h < link_count net) (after_last net s walk)
 after_links net s [] all = all
@@ -168,3 +157,23 @@ cut_more net s walk cut h hs far = record {
 
 pub cut_end : (net : Network) (s : ℕ) (walk cut : List ℕ) → CutSoFar net s walk cut [] → IsCut net s walk cut
 cut_end net s walk cut far = subst (IsCut net s walk) (append-nil cut) (far.extends [] refl)
+
+-- a walk has one form without its loops
+pub cut_only : (net : Network) (s : ℕ) (walk cut cut' : List ℕ) → IsCut net s walk cut → IsCut net s walk cut' → cut ≡ cut'
+cut_only net s walk [] [] one two = refl
+cut_only net s walk [] (k ∷ cut') one (rest, at, more) = cc
+cut_only net s walk (h ∷ cut) [] (rest, at, more) two = cc
+cut_only net s walk (h ∷ cut) (k ∷ cut') (rest, at, more) (rest', at', more') =
+    let both : ◌≡◌ {A = List ℕ} (h ∷ rest) (k ∷ rest') = sym at ∙ at' in
+    let first : h ≡ k = cc in
+    let later : rest ≡ rest' = cc in
+    let on = subst (λ l. IsCut net (head_of net k) l cut) later (subst (λ j. IsCut net (head_of net j) rest cut) first more) in
+    ap (λ j. j ∷ cut) first ∙ ap (λ l. k ∷ l) (cut_only net (head_of net k) rest' cut cut' on more')
+
+-- a walk ends where its links lead
+pub chains_end : (net : Network) (s t : ℕ) (walk : List ℕ) → chains net s t walk ≡ true → end_of net s walk ≡ t
+chains_end net s t [] chain = eqb-true s t chain
+chains_end net s t (h ∷ hs) chain = chains_end net (head_of net h) t hs (first_link net s t h hs chain).rest
+
+pub chains_to_end : (net : Network) (s t : ℕ) (walk : List ℕ) → chains net s t walk ≡ true → chains net s (end_of net s walk) walk ≡ true
+chains_to_end net s t walk chain = subst (λ v. chains net s v walk ≡ true) (sym (chains_end net s t walk chain)) chain

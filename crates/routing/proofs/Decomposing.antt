@@ -12,7 +12,7 @@ use Rattle.te_model.specs.declared.route.PathShare.{PathShare}
 use Rattle.te_model.specs.declared.units.TheConstants.{SHARE_UNIT}
 use Rattle.te_model.specs.Counting.{sum_below, count_below}
 use Rattle.te_model.specs.Network.{node_count, link_count, tail_of, head_of}
-use Rattle.te_model.specs.Path.{has_number, is_path, weight_on}
+use Rattle.te_model.specs.Path.{has_number, is_path, weight_on, amount_on}
 use Rattle.te_model.specs.PathRouting.{IsPathSplit}
 use Rattle.te_model.specs.Flow.{IsFlow}
 use Rattle.te_model.specs.Laws.{LinksJoinNodes}
@@ -20,11 +20,12 @@ use Rattle.te_model.specs.Validity.{list_below, paths_ascend}
 use Rattle.te_model.proofs.Counts.{count_below-lt, count_below-bound}
 use Rattle.te_model.proofs.FlowLaw.{flow_law}
 use Rattle.te_model.proofs.Shares.{path_flow, weights_flow, flow_same}
-use Rattle.te_model.proofs.Sums.{sum_below-same, sum_below-le, sum_below-add}
+use Rattle.te_model.proofs.Sums.{sum_below-same, sum_below-le, sum_below-add, sum_below-term}
 use Rattle.te_model.proofs.Tests.{all_to_tests}
-use Rattle.routing.specs.Decomposition.{IsNumbering, IsAcyclicFlow, IsLowestPath, IsTakenOff, IsDecomposition, taken_on}
+use Rattle.routing.specs.Decomposition.{IsNumbering, IsAcyclicFlow, IsLowestPath, IsTakenOff, IsDecomposition}
 use Rattle.routing.specs.Split.{total_weight}
-use Rattle.routing.proofs.LowestPaths.{lowest_chains, lowest_distinct, lowest_flows, lowest_is_path, lowest_rises_more, if_apart, if_true, sum_below-term}
+use Rattle.te_model.proofs.Conditionals.{if_true, if_other}
+use Rattle.routing.proofs.LowestPaths.{lowest_chains, lowest_distinct, lowest_flows, lowest_is_path, lowest_rises_more}
 
 -- less flow has the same numbering
 less_numbering : (net : Network) (flow left number : ℕ → ℕ) → ((h : ℕ) → h < link_count net → left h ≤ flow h) → IsNumbering net flow number →
@@ -94,7 +95,7 @@ node_apart net flow left off end' v apart =
 
 -- a path's flow
 taken_flow : (net : Network) (flow number : ℕ → ℕ) (s t w : ℕ) (path : List ℕ) → IsNumbering net flow number → IsLowestPath net flow s t path →
-    IsFlow net (taken_on path w) w s t
+    IsFlow net (amount_on path w) w s t
 taken_flow net flow number s t w path numbers is =
     path_flow net w s t path (lowest_chains net flow s t path is) (lowest_distinct net flow number s t path numbers is)
 
@@ -105,7 +106,7 @@ taken-le net flow left amount s t p ends s_in t_in apart is off =
     let number = is.acyclic.0 in
     let numbers = is.acyclic.1 in
     let w = p.weight in
-    let takes = taken_on p.links w in
+    let takes = amount_on p.links w in
     let tails = λ (h : ℕ) (below : h < link_count net). (ends h below).0 in
     let heads = λ (h : ℕ) (below : h < link_count net). (ends h below).1 in
     let law = flow_law net flow amount s t number tails heads s_in t_in is.balance in
@@ -122,7 +123,7 @@ pub left_flow : (net : Network) (flow left : ℕ → ℕ) (amount s t : ℕ) (p 
     IsAcyclicFlow net flow amount s t → IsTakenOff net s t flow p left → IsAcyclicFlow net left (amount - p.weight) s t
 left_flow net flow left amount s t p fits is off = record {
   balance = λ v inside.
-      let takes = taken_on p.links p.weight in
+      let takes = amount_on p.links p.weight in
       let off_flow = taken_flow net flow is.acyclic.0 s t p.weight p.links is.acyclic.1 off.path in
       let out = node_apart net flow left takes (tail_of net) v off.rest in
       let into = node_apart net flow left takes (head_of net) v off.rest in
@@ -156,13 +157,6 @@ decomposed net s t flow amount left count paths ends s_in t_in far none =
     subst (IsDecomposition net s t flow) (append-nil paths)
     (far.extends [] (no_amount net left s t ends s_in t_in (subst (λ a. IsAcyclicFlow net left a s t) none far.is)))
 
--- a whole list written into a vector
-pub written_whole : {X : Type 0} (len : ℕ) (new old : List X) → length new ≡ length old → len ≡ length old →
-    take len (new ++ drop (length new) old) ≡ new
-written_whole len new old same is_len =
-    let e : len ≡ length new = is_len ∙ sym same in
-    rw e (take-append_seam new (drop (length new) old))
-
 -- the paths are paths of the network
 sound_paths : (net : Network) (s t : ℕ) (flow number : ℕ → ℕ) (paths : List PathShare) → IsNumbering net flow number → IsDecomposition net s t flow paths →
     All (λ p. IsTrue (is_path net s t p.links)) paths
@@ -177,7 +171,7 @@ used_up : (net : Network) (s t : ℕ) (flow left : ℕ → ℕ) (p : PathShare) 
 used_up net s t flow left p off =
     let (h, used, all) = off.weight.reached in
     let on = lowest_flows net flow s t h p.links off.path used in
-    let takes : taken_on p.links p.weight h ≡ p.weight = if_true (has_number p.links h) p.weight used in
+    let takes : amount_on p.links p.weight h ≡ p.weight = if_true (has_number p.links h) p.weight used in
     (h, used, on.0, on.1, all, omega (arith, off.rest h on.0, all, takes))
 
 pub taken-some : (net : Network) (s t : ℕ) (flow left : ℕ → ℕ) (p : PathShare) → IsTakenOff net s t flow p left → 1 ≤ p.weight
@@ -209,8 +203,8 @@ one_amount net flow a b s t one two inside apart =
       two s inside,
       if_true (s == s) a (eq-eqb s s refl),
       if_true (s == s) b (eq-eqb s s refl),
-      if_apart t s a (λ e. apart (sym e)),
-      if_apart t s b (λ e. apart (sym e)),
+      if_other t s a (λ e. apart (sym e)),
+      if_other t s b (λ e. apart (sym e)),
     )
 
 -- each path uses a link up

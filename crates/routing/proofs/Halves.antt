@@ -6,17 +6,17 @@ use Rattle.te_model.specs.declared.route.PathShare.{PathShare}
 use Rattle.te_model.specs.Path.{is_path}
 use Rattle.te_model.specs.PathRouting.{IsPathRouting, IsPathSplit}
 use Rattle.te_model.specs.Validity.{paths_ascend}
-use Rattle.routing.specs.Samples.{fork, halved, halves, weighted}
+use Rattle.routing.specs.Samples.{fork, halved, halves, weighted_path}
 
 both : (P : PathShare → Type 0) (p q : PathShare) → P p → P q → All P (p ∷ q ∷ [])
 both P p q one two = All-cons P p (q ∷ []) one (All-cons P q [] two (All-nil P))
 
 split : (src : ℕ) (first second : List ℕ) → is_path fork src 2 first ≡ true → is_path fork src 2 second ≡ true →
-    paths_ascend (weighted first 500000 ∷ weighted second 500000 ∷ []) ≡ true → IsPathSplit fork (halved src first second)
+    paths_ascend (weighted_path first 500000 ∷ weighted_path second 500000 ∷ []) ≡ true → IsPathSplit fork (halved src first second)
 split src first second one two ascend = record {
-  paths = both (λ s. IsTrue (is_path fork src 2 s.links)) (weighted first 500000) (weighted second 500000) one two;
+  paths = both (λ s. IsTrue (is_path fork src 2 s.links)) (weighted_path first 500000) (weighted_path second 500000) one two;
   distinct = ascend;
-  weights = both (λ s. 1 ≤ s.weight) (weighted first 500000) (weighted second 500000) (omega arith) (omega arith);
+  weights = both (λ s. 1 ≤ s.weight) (weighted_path first 500000) (weighted_path second 500000) (omega arith) (omega arith);
   whole = refl;
 }
 

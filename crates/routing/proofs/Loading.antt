@@ -9,9 +9,8 @@ use Rattle.te_model.specs.declared.route.PathShare.{PathShare}
 use Rattle.te_model.specs.declared.route.PairRoutes.{PairRoutes}
 use Rattle.te_model.specs.declared.units.TheConstants.{SHARE_UNIT}
 use Rattle.te_model.specs.Flow.{load}
-use Rattle.te_model.specs.Path.{has_number, routes_at, share, weight_on}
+use Rattle.te_model.specs.Path.{has_number, routes_at, share, weight_on, amount_on}
 use Rattle.te_model.proofs.Sums.{mul-pick}
-use Rattle.routing.specs.Decomposition.{taken_on}
 use Rattle.routing.specs.Merge.{no_path}
 use Rattle.routing.specs.Split.{are_splits, total_weight}
 use Rattle.routing.proofs.Splits.{share-le, weight_on-le}
@@ -24,17 +23,10 @@ none_marked marks none = All-from_get_or (λ m. m ≡ false) marks false (λ e b
     go e below true is = absurd (none e below is)
     go e below false is = is
 
--- a list that was lent whole comes back whole
-pub written_whole : {X : Type 0} (len : ℕ) (new old : List X) → length new ≡ length old → len ≡ length old →
-    take len (new ++ drop (length new) old) ≡ new
-written_whole len new old same is_len =
-    let e : len ≡ length new = is_len ∙ sym same in
-    rw e (take-append_seam new (drop (length new) old))
-
 -- one path more of the pair
 pub path_more : (paths : List PathShare) (demand e i : ℕ) → i < length paths →
     demand * weight_on (take (i + 1) paths) e
-    ≡ demand * weight_on (take i paths) e + taken_on (get_or paths i no_path).links (demand * (get_or paths i no_path).weight) e
+    ≡ demand * weight_on (take i paths) e + amount_on (get_or paths i no_path).links (demand * (get_or paths i no_path).weight) e
 path_more paths demand e i below =
     let s = get_or paths i no_path in
     let more = sum_by_more (λ (s : PathShare). if has_number s.links e then s.weight else 0) paths i no_path below in

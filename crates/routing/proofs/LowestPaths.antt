@@ -11,34 +11,9 @@ use Rattle.te_model.specs.Path.{has_number, is_distinct, chains, nodes_visited, 
 use Rattle.te_model.specs.Flow.{IsFlow, outflow, inflow, amount_at}
 use Rattle.te_model.specs.Laws.{LinksJoinNodes}
 use Rattle.te_model.proofs.SoundLinks.{sound_links}
+use Rattle.te_model.proofs.Conditionals.{if_other, if_some, if_true}
+use Rattle.te_model.proofs.Sums.{sum_below-some, sum_below-term}
 use Rattle.routing.specs.Decomposition.{IsNumbering, IsAcyclicFlow, HasFlowOut, IsLowestLink, IsLowestPath}
-
-pub links_join : (net : Network) → is_well_formed net ≡ true → LinksJoinNodes net
-links_join net formed h below = let is = sound_links net formed h below in (grind (arith, nat_tests), grind (arith, nat_tests))
-
--- a sum that is not 0 has a term that is not 0
-sum_below-some : (n : ℕ) (f : ℕ → ℕ) → 0 < sum_below n f → (k : ℕ) × (k < n) × (0 < f k)
-sum_below-some zero f some = absurd (omega arith)
-sum_below-some (suc n) f some = elim (cases_lt 0 (f n)) [
-  | inl here ↦ (n, omega arith, here)
-  | inr none ↦ let (k, below, more) = sum_below-some n f (omega arith) in (k, omega arith, more)
-]
-
--- a term is at most the sum
-pub sum_below-term : (n k : ℕ) (f : ℕ → ℕ) → k < n → f k ≤ sum_below n f
-sum_below-term zero k f below = absurd (omega arith)
-sum_below-term (suc n) k f below = elim (cases_lt k n) [
-  | inl lt ↦ omega (arith, sum_below-term n k f lt)
-  | inr ge ↦ let e : n ≡ k = omega arith in let same = ap f e in omega (arith, same)
-]
-
-if_some : (b : Bool) (x : ℕ) → 0 < (if b then x else 0) → (b ≡ true) × (0 < x)
-if_some true x some = (refl, some)
-if_some false x some = absurd (omega arith)
-
-pub if_true : (b : Bool) (x : ℕ) → b ≡ true → (if b then x else 0) ≡ x
-if_true true x e = refl
-if_true false x e = cc
 
 pub has_out : (net : Network) (flow : ℕ → ℕ) (v : ℕ) → 0 < outflow net flow v → HasFlowOut net flow v
 has_out net flow v some =
@@ -58,26 +33,19 @@ some_in net flow v h inside to =
     let at = if_true (head_of net h == v) (flow h) (eq-eqb (head_of net h) v to) in
     omega (arith, term, at)
 
-pub if_apart : (u v x : ℕ) → (u ≡ v → ⊥) → (if u == v then x else 0) ≡ 0
-if_apart u v x apart = go (u == v) refl
-  where
-    go : (b : Bool) → (u == v) ≡ b → (if b then x else 0) ≡ 0
-    go true e = absurd (apart (eqb-true u v e))
-    go false e = refl
-
 -- the amount leaves the source
 pub source_out : (net : Network) (flow : ℕ → ℕ) (amount s t : ℕ) → IsFlow net flow amount s t → s < node_count net → (s ≡ t → ⊥) →
     amount ≤ outflow net flow s
 source_out net flow amount s t is inside apart =
     let here : amount_at s amount s ≡ amount = if_true (s == s) amount (eq-eqb s s refl) in
-    let none : amount_at t amount s ≡ 0 = if_apart t s amount (λ e. apart (sym e)) in
+    let none : amount_at t amount s ≡ 0 = if_other t s amount (λ e. apart (sym e)) in
     omega (arith, is s inside, here, none)
 
 -- what comes to a node goes on
 goes_on : (net : Network) (flow : ℕ → ℕ) (amount s t h : ℕ) → IsFlow net flow amount s t → h < link_count net → 0 < flow h →
     head_of net h < node_count net → (head_of net h ≡ t → ⊥) → HasFlowOut net flow (head_of net h)
 goes_on net flow amount s t h is inside some in' apart =
-    let none : amount_at t amount (head_of net h) ≡ 0 = if_apart t (head_of net h) amount (λ e. apart (sym e)) in
+    let none : amount_at t amount (head_of net h) ≡ 0 = if_other t (head_of net h) amount (λ e. apart (sym e)) in
     has_out net flow (head_of net h) (omega (arith, is (head_of net h) in', none, some_in net flow (head_of net h) h inside refl))
 
 -- a path as far as the node

@@ -11,6 +11,7 @@ use Rattle.te_model.specs.declared.route.PairRoutes.{PairRoutes}
 use Rattle.te_model.specs.Counting.{sum_below}
 use Rattle.te_model.specs.Path.{share}
 use Rattle.te_model.proofs.Sums.{sum_below-add, sum_below-pick, sum_below-same, sum_below-zero}
+use Rattle.te_model.proofs.Conditionals.{if_equal, if_other}
 use Rattle.routing.specs.declared.shares.PairShare.{PairShare}
 use Rattle.routing.specs.Shares.{pairs_of, share_in, AreSharesOn, IsShareList}
 use Rattle.routing.proofs.Sharing.{no_share}
@@ -32,12 +33,6 @@ rises list up i j lt below =
     let second : get_or (pairs_of list) j 0 ≡ pair_at list j = get_or-map (λ (s : PairShare). s.pair) list j no_share 0 below in
     omega (arith, first, second, AllPairs-from_increasing (pairs_of list) up i j 0 lt (omega (arith, below, length-map list (λ (s : PairShare). s.pair))))
 
-other_zero : (p q x : ℕ) → (p ≡ q → ⊥) → (if p == q then x else 0) ≡ 0
-other_zero p q x apart = ap (λ b. if b then x else 0) (ne_eqb p q apart)
-
-same_value : (p q x : ℕ) → p ≡ q → (if p == q then x else 0) ≡ x
-same_value p q x same = ap (λ b. if b then x else 0) (eq-eqb p q same)
-
 value_first : (value : PairShare → ℕ) (s : PairShare) (list : List PairShare) (q : ℕ) →
     value_in value (s ∷ list) q ≡ (if s.pair == q then value s else 0) + value_in value list q
 value_first value s list q = sum_by-cons (λ s. if s.pair == q then value s else 0) s list
@@ -48,7 +43,7 @@ none_in value (s ∷ list) q none =
     omega (
       arith,
       value_first value s list q,
-      other_zero s.pair q (value s) (none 0 (omega arith)),
+      if_other s.pair q (value s) (none 0 (omega arith)),
       none_in value list q (λ k below. none (suc k) (omega arith)),
     )
 
@@ -57,13 +52,13 @@ own_in : (value : PairShare → ℕ) (list : List PairShare) (k : ℕ) → Rises
 own_in value [] k up below = absurd (omega arith)
 own_in value (s ∷ list) zero up below =
     let later = none_in value list s.pair (λ k inside same. absurd (omega (arith, up 0 (suc k) (omega arith) (omega (arith, inside)), same))) in
-    omega (arith, value_first value s list s.pair, same_value s.pair s.pair (value s) refl, later)
+    omega (arith, value_first value s list s.pair, if_equal s.pair s.pair (value s) refl, later)
 own_in value (s ∷ list) (suc k) up below =
     let after = up 0 (suc k) (omega arith) below in
     omega (
       arith,
       value_first value s list (pair_at list k),
-      other_zero s.pair (pair_at list k) (value s) (λ same. absurd (omega (arith, after, same))),
+      if_other s.pair (pair_at list k) (value s) (λ same. absurd (omega (arith, after, same))),
       own_in value list k (λ i j lt inside. up (suc i) (suc j) (omega (arith, lt)) (omega (arith, inside))) (omega arith),
     )
 
@@ -73,7 +68,7 @@ listed [] q some = absurd (omega arith)
 listed (s ∷ list) q some = elim (cases_eq s.pair q) [
   | inl same ↦ (0, s, omega arith, refl, same)
   | inr apart ↦
-      let (k, x, below, at, is) = listed list q (omega (arith, some, value_first (λ s. s.share) s list q, other_zero s.pair q s.share apart)) in
+      let (k, x, below, at, is) = listed list q (omega (arith, some, value_first (λ s. s.share) s list q, if_other s.pair q s.share apart)) in
       (suc k, x, omega (arith, below), at, is)
 ]
 

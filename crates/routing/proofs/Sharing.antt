@@ -12,15 +12,15 @@ use Rattle.te_model.specs.declared.network.Network.{Network}
 use Rattle.te_model.specs.declared.route.PathShare.{PathShare}
 use Rattle.te_model.specs.declared.route.PairRoutes.{PairRoutes}
 use Rattle.te_model.specs.Network.{link_count}
-use Rattle.te_model.specs.Path.{has_number, is_path, no_routes, routes_at, share, weight_on}
+use Rattle.te_model.specs.Path.{has_number, is_path, no_routes, routes_at, share, weight_on, amount_on}
 use Rattle.te_model.specs.PathRouting.{IsPathRouting, IsPathSplit}
 use Rattle.te_model.proofs.SimplePaths.{path_links, path_links_once}
 use Rattle.te_model.proofs.Tests.{get_or_past}
 use Rattle.routing.specs.declared.shares.PairShare.{PairShare}
-use Rattle.routing.specs.Decomposition.{taken_on}
 use Rattle.routing.specs.Merge.{no_path}
 use Rattle.routing.specs.Shares.{pairs_of, share_in, shares_on, AreLinksOnce, IsAddition, IsShareList}
-use Rattle.routing.proofs.TakingOff.{not_taken, taken-more}
+use Rattle.te_model.proofs.Amounts.{amount_on-next, amount_on-more}
+use Rattle.te_model.proofs.Conditionals.{if_zero}
 
 abbrev pub no_share : PairShare
 no_share = record { pair = 0; share = 0 }
@@ -70,10 +70,6 @@ order_weaker n list order = record {
   some = order.some;
 }
 
-if_zero : (b : Bool) (x : ℕ) → x ≡ 0 → (if b then x else 0) ≡ 0
-if_zero true x none = none
-if_zero false x none = refl
-
 -- a path more on one link
 pub addition_one : (table : List (List PairShare)) (h : ℕ) (row : List PairShare) (p more : ℕ) → h < length table →
     ((q : ℕ) → share_in row q ≡ share_in (shares_on table h) q + (if p == q then more else 0)) → IsAddition table (set table h row) p (λ e. if h == e then more else 0)
@@ -115,23 +111,23 @@ addition_more old middle new p f g sum first second is = record {
 
 -- one link more of a path
 pub link_more : (old table : List (List PairShare)) (links : List ℕ) (row : List PairShare) (p more i : ℕ) → AreLinksOnce (length old) links → i < length links →
-    IsAddition old table p (taken_on (take i links) more) →
+    IsAddition old table p (amount_on (take i links) more) →
     ((q : ℕ) → share_in row q ≡ share_in (shares_on table (slice_index links i)) q + (if p == q then more else 0)) →
-    IsAddition old (set table (slice_index links i) row) p (taken_on (take (i + 1) links) more)
+    IsAddition old (set table (slice_index links i) row) p (amount_on (take (i + 1) links) more)
 link_more old table links row p more i once below so sums =
     let h = slice_index links i in
     let inside : h < length old = All-get_or (λ h. h < length old) links i 0 below once.1 in
-    addition_more old table (set table h row) p (taken_on (take i links) more) (λ e. if h == e then more else 0) (taken_on (take (i + 1) links) more) so
+    addition_more old table (set table h row) p (amount_on (take i links) more) (λ e. if h == e then more else 0) (amount_on (take (i + 1) links) more) so
     (addition_one table h row p more (omega (arith, inside, so.count)) sums)
-    (λ e. subst (λ k. taken_on (take k links) more e ≡ taken_on (take i links) more e + (if h == e then more else 0)) (sym (add-one i))
-    (taken-more links more e i once.0 below))
+    (λ e. subst (λ k. amount_on (take k links) more e ≡ amount_on (take i links) more e + (if h == e then more else 0)) (sym (add-one i))
+    (amount_on-more links more e i once.0 below))
 
 -- one path more of a pair
 pub path_added : (old table new : List (List PairShare)) (paths : List PathShare) (p i : ℕ) → i < length paths →
-    IsAddition old table p (weight_on (take i paths)) → IsAddition table new p (taken_on (get_or paths i no_path).links (get_or paths i no_path).weight) →
+    IsAddition old table p (weight_on (take i paths)) → IsAddition table new p (amount_on (get_or paths i no_path).links (get_or paths i no_path).weight) →
     IsAddition old new p (weight_on (take (i + 1) paths))
 path_added old table new paths p i below so is =
-    addition_more old table new p (weight_on (take i paths)) (taken_on (get_or paths i no_path).links (get_or paths i no_path).weight) (weight_on (take (i + 1) paths)) so is
+    addition_more old table new p (weight_on (take i paths)) (amount_on (get_or paths i no_path).links (get_or paths i no_path).weight) (weight_on (take (i + 1) paths)) so is
     (λ e. sum_by_more (λ s. if has_number s.links e then s.weight else 0) paths i no_path below)
 
 -- no link stands in a path twice
@@ -193,12 +189,12 @@ share_none routes p e below =
 
 -- what a path has not added yet to its next link
 pub not_added : (old table : List (List PairShare)) (links : List ℕ) (p more i : ℕ) → AreLinksOnce (length old) links → i < length links →
-    IsAddition old table p (taken_on (take i links) more) →
+    IsAddition old table p (amount_on (take i links) more) →
     share_in (shares_on table (slice_index links i)) p ≡ share_in (shares_on old (slice_index links i)) p
 not_added old table links p more i once below so =
     let h = slice_index links i in
     let inside : h < length old = All-get_or (λ h. h < length old) links i 0 below once.1 in
-    let none : (if p == p then taken_on (take i links) more h else 0) ≡ 0 = if_zero (p == p) (taken_on (take i links) more h) (not_taken links more i once.0 below) in
+    let none : (if p == p then amount_on (take i links) more h else 0) ≡ 0 = if_zero (p == p) (amount_on (take i links) more h) (amount_on-next links more i once.0 below) in
     omega (arith, so.each h p inside, none)
 
 -- what its own pair gets

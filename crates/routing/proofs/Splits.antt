@@ -1,8 +1,8 @@
 -- What the splits of a routing give.
-use Rattle.std.proofs.Common.{◌≡◌, ℕ, ◌<◌, ◌≤◌, Bool, true, false, ◌&&◌, List, length, arith, subst, if◌then◌else◌}
+use Rattle.std.proofs.Common.{◌≡◌, ℕ, ◌<◌, ◌≤◌, Bool, true, false, ◌&&◌, List, length, arith, subst, if◌then◌else◌, All}
 use Rattle.std.specs.Prelude.{nat_le, ◌==◌, IsTrue}
 use Rattle.std.specs.List.{list_all}
-use Rattle.std.proofs.lemmas.Bool.{and_parts, and_from, eqb-true, eq-eqb, le-leb}
+use Rattle.std.proofs.lemmas.Bool.{and_parts, and_from, eqb-true, eq-eqb, le-leb, leb-true}
 use Rattle.std.proofs.lemmas.List.Elements.{All-get_or}
 use Rattle.std.proofs.lemmas.List.Sums.{sum_by-le-sum_by}
 use Rattle.te_model.specs.declared.network.Network.{Network}
@@ -24,6 +24,16 @@ whole_weight routes p splits below =
     let split = All-get_or (λ r. is_split r ≡ true) routes p no_routes below all in
     eqb-true (total_weight r.paths) SHARE_UNIT
     (and_parts (paths_ascend r.paths && list_all (λ s. nat_le 1 s.weight) r.paths) (total_weight r.paths == SHARE_UNIT) split).1
+
+-- the paths of a split have weights of at least 1
+pub positive_weights : (routes : List PairRoutes) (p : ℕ) → are_splits routes ≡ true → p < length routes → All (λ s. 1 ≤ s.weight) (routes_at routes p).paths
+positive_weights routes p splits below =
+    let r = routes_at routes p in
+    let all = all_from_tests is_split (λ r. is_split r ≡ true) (λ r e. e) routes splits in
+    let split = All-get_or (λ r. is_split r ≡ true) routes p no_routes below all in
+    let first = (and_parts (paths_ascend r.paths && list_all (λ s. nat_le 1 s.weight) r.paths) (total_weight r.paths == SHARE_UNIT) split).0 in
+    all_from_tests (λ s. nat_le 1 s.weight) (λ s. 1 ≤ s.weight) (λ s e. leb-true 1 s.weight e) r.paths
+    (and_parts (paths_ascend r.paths) (list_all (λ s. nat_le 1 s.weight) r.paths) first).1
 
 pub weight_on-le : (paths : List PathShare) (e : ℕ) → weight_on paths e ≤ total_weight paths
 weight_on-le paths e =

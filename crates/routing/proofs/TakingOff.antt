@@ -5,73 +5,10 @@ use Rattle.std.proofs.lemmas.Bool.{and_from, and_parts, cases_lt, eq-eqb, eqb-tr
 use Rattle.std.proofs.lemmas.List.Elements.{All-cons, All-nil}
 use Rattle.te_model.specs.declared.network.Network.{Network}
 use Rattle.te_model.specs.Network.{link_count, tail_of, head_of}
-use Rattle.te_model.specs.Path.{has_number, is_distinct}
-use Rattle.routing.specs.Decomposition.{IsNumbering, IsAcyclicFlow, IsLeastOn, IsLowestPath, IsTakenOff, taken_on}
+use Rattle.te_model.specs.Path.{has_number, is_distinct, amount_on}
+use Rattle.te_model.proofs.Amounts.{all_of_numbers, amount_on-more, amount_on-next, has_at, has_number_at}
+use Rattle.routing.specs.Decomposition.{IsNumbering, IsAcyclicFlow, IsLeastOn, IsLowestPath, IsTakenOff}
 use Rattle.routing.proofs.LowestPaths.{lowest_flows}
-
--- where a number of the list stands
-pub has_at : (xs : List ℕ) (x : ℕ) → has_number xs x ≡ true → (k : ℕ) × (k < length xs) × (slice_index xs k ≡ x)
-has_at [] x has = absurd (false≢true has)
-has_at (y ∷ ys) x has = elim (or_cases (y == x) (has_number ys x) has) [
-  | inl here ↦ (0, omega arith, eqb-true y x here)
-  | inr later ↦ let (k, below, at) = has_at ys x later in (suc k, omega arith, at)
-]
-
--- each place of the list has one of its numbers
-pub has_number_at : (xs : List ℕ) (k : ℕ) → k < length xs → has_number xs (slice_index xs k) ≡ true
-has_number_at [] k below = absurd (omega arith)
-has_number_at (x ∷ xs) zero below = or_left (x == x) (has_number xs x) (eq-eqb x x refl)
-has_number_at (x ∷ xs) (suc k) below = or_right (x == slice_index xs k) (has_number xs (slice_index xs k)) (has_number_at xs k (omega arith))
-
--- what holds of each number of the list
-pub all_of_numbers : (P : ℕ → Type 0) (xs : List ℕ) → ((x : ℕ) → has_number xs x ≡ true → P x) → All P xs
-all_of_numbers P [] each = All-nil P
-all_of_numbers P (x ∷ xs) each =
-    All-cons P x xs (each x (or_left (x == x) (has_number xs x) (eq-eqb x x refl)))
-    (all_of_numbers P xs (λ y has. each y (or_right (x == y) (has_number xs y) has)))
-
--- one link more takes the weight off that link, which the links before it are not
-pub taken-more : (xs : List ℕ) (w h i : ℕ) → is_distinct xs ≡ true → i < length xs →
-    taken_on (take (suc i) xs) w h ≡ taken_on (take i xs) w h + (if slice_index xs i == h then w else 0)
-taken-more [] w h i distinct below = absurd (omega arith)
-taken-more (x ∷ xs) w h zero distinct below = go (x == h)
-  where
-    go : (b : Bool) → (if b || false then w else 0) ≡ 0 + (if b then w else 0)
-    go true = omega arith
-    go false = refl
-taken-more (x ∷ xs) w h (suc i) distinct below = go (x == h) refl (taken-more xs w h i parts.1 (omega arith))
-  where
-    parts : (not (has_number xs x) ≡ true) × (is_distinct xs ≡ true)
-    parts = and_parts (not (has_number xs x)) (is_distinct xs) distinct
-
-    apart : (b : Bool) → x ≡ h → (slice_index xs i == h) ≡ b → (if b then w else 0) ≡ 0
-    apart true same e =
-        let again : has_number xs x ≡ true = subst (λ y. has_number xs y ≡ true) (eqb-true (slice_index xs i) h e ∙ sym same) (has_number_at xs i (omega arith)) in
-        absurd (false≢true (sym (ap not again) ∙ parts.0))
-    apart false same e = refl
-
-    go : (b : Bool) → (x == h) ≡ b →
-        taken_on (take (suc i) xs) w h ≡ taken_on (take i xs) w h + (if slice_index xs i == h then w else 0) →
-        (if b || has_number (take (suc i) xs) h then w else 0) ≡ (if b || has_number (take i xs) h then w else 0) + (if slice_index xs i == h then w else 0)
-    go true e later = omega (arith, apart (slice_index xs i == h) (eqb-true x h e) refl)
-    go false e later = later
-
-if_le : (b : Bool) (w : ℕ) → (if b then w else 0) ≤ w
-if_le true w = omega arith
-if_le false w = omega arith
-
-if_same : (k w : ℕ) → (if k == k then w else 0) ≡ w
-if_same k w = ap (λ (b : Bool). if b then w else 0) (eq-eqb k k refl)
-
--- nothing is taken yet off the next link
-pub not_taken : (xs : List ℕ) (w i : ℕ) → is_distinct xs ≡ true → i < length xs → taken_on (take i xs) w (slice_index xs i) ≡ 0
-not_taken xs w i distinct below =
-    omega (
-      arith,
-      taken-more xs w (slice_index xs i) i distinct below,
-      if_le (has_number (take (suc i) xs) (slice_index xs i)) w,
-      if_same (slice_index xs i) w,
-    )
 
 -- the links of a path are numbered upwards by their tails
 tails_above : (net : Network) (flow number : ℕ → ℕ) (v t k : ℕ) (path : List ℕ) → IsNumbering net flow number → IsLowestPath net flow v t path →
@@ -99,16 +36,16 @@ lowest_links net flow number v t (h ∷ hs) numbers (apart, link, rest) =
     once false e = refl
 
 -- the weight is taken off one link more
-pub take_step : (old flow path : List ℕ) (w i h : ℕ) → slice_index old h ≡ slice_index flow h + taken_on (take i path) w h →
+pub take_step : (old flow path : List ℕ) (w i h : ℕ) → slice_index old h ≡ slice_index flow h + amount_on (take i path) w h →
     is_distinct path ≡ true → i < length path → slice_index path i < length flow → w ≤ slice_index flow (slice_index path i) →
-    slice_index old h ≡ slice_index (slice_set flow (slice_index path i) (slice_index flow (slice_index path i) - w)) h + taken_on (take (i + 1) path) w h
+    slice_index old h ≡ slice_index (slice_set flow (slice_index path i) (slice_index flow (slice_index path i) - w)) h + amount_on (take (i + 1) path) w h
 take_step old flow path w i h before distinct below inside enough = go (slice_index path i == h) refl
   where
-    more : taken_on (take (i + 1) path) w h ≡ taken_on (take i path) w h + (if slice_index path i == h then w else 0)
-    more = let e : i + 1 ≡ suc i = omega arith in ap (λ n. taken_on (take n path) w h) e ∙ taken-more path w h i distinct below
+    more : amount_on (take (i + 1) path) w h ≡ amount_on (take i path) w h + (if slice_index path i == h then w else 0)
+    more = let e : i + 1 ≡ suc i = omega arith in ap (λ n. amount_on (take n path) w h) e ∙ amount_on-more path w h i distinct below
 
     go : (b : Bool) → (slice_index path i == h) ≡ b →
-        slice_index old h ≡ slice_index (slice_set flow (slice_index path i) (slice_index flow (slice_index path i) - w)) h + taken_on (take (i + 1) path) w h
+        slice_index old h ≡ slice_index (slice_set flow (slice_index path i) (slice_index flow (slice_index path i) - w)) h + amount_on (take (i + 1) path) w h
     go true e =
         let same : slice_index path i ≡ h = eqb-true (slice_index path i) h e in
         let here : slice_index (slice_set flow (slice_index path i) (slice_index flow (slice_index path i) - w)) h ≡ slice_index flow (slice_index path i) - w =
@@ -127,9 +64,9 @@ take_step old flow path w i h before distinct below inside enough = go (slice_in
         omega (arith, before, more, kept, takes)
 
 -- the next link has the weight still
-pub enough_left : (old flow path : List ℕ) (w i : ℕ) → slice_index old (slice_index path i) ≡ slice_index flow (slice_index path i) + taken_on (take i path) w (slice_index path i) →
+pub enough_left : (old flow path : List ℕ) (w i : ℕ) → slice_index old (slice_index path i) ≡ slice_index flow (slice_index path i) + amount_on (take i path) w (slice_index path i) →
     is_distinct path ≡ true → i < length path → w ≤ slice_index old (slice_index path i) → w ≤ slice_index flow (slice_index path i)
-enough_left old flow path w i before distinct below enough = omega (arith, before, not_taken path w i distinct below, enough)
+enough_left old flow path w i before distinct below enough = omega (arith, before, amount_on-next path w i distinct below, enough)
 
 -- what the lowest path gives to those who read its links
 pub lowest_some : (net : Network) (flow : ℕ → ℕ) (s t : ℕ) (path : List ℕ) → IsLowestPath net flow s t path → (s ≡ t → ⊥) → 0 < length path
@@ -147,12 +84,12 @@ lowest_once net flow amount s t path is path_is = lowest_links net flow is.acycl
 
 -- a path is taken off
 pub taken_off : (net : Network) (flow left : ℕ → ℕ) (s t weight : ℕ) (path links : List ℕ) → path ≡ links → IsLowestPath net flow s t path →
-    IsLeastOn flow path weight → ((h : ℕ) → flow h ≡ left h + taken_on path weight h) →
+    IsLeastOn flow path weight → ((h : ℕ) → flow h ≡ left h + amount_on path weight h) →
     IsTakenOff net s t flow (record { links = links; weight = weight }) left
 taken_off net flow left s t weight path links same is least rest = record {
   path = subst (IsLowestPath net flow s t) same is;
   weight = subst (λ p. IsLeastOn flow p weight) same least;
-  rest = λ h inside. subst (λ p. flow h ≡ left h + taken_on p weight h) same (rest h);
+  rest = λ h inside. subst (λ p. flow h ≡ left h + amount_on p weight h) same (rest h);
 }
 
 -- the least flow on the links, from that at their places

@@ -1,9 +1,9 @@
 -- Flows taken apart into weighted paths (flow decomposition; Ford and Fulkerson, 1962).
-use Rattle.std.specs.Prelude.{◌≡◌, ℕ, ◌+◌, ◌<◌, ◌≤◌, List, [], ◌∷◌, IsTrue, if◌then◌else◌}
+use Rattle.std.specs.Prelude.{◌≡◌, ℕ, ◌+◌, ◌<◌, ◌≤◌, List, [], ◌∷◌, IsTrue}
 use Rattle.te_model.specs.declared.network.Network.{Network}
 use Rattle.te_model.specs.declared.route.PathShare.{PathShare}
 use Rattle.te_model.specs.Network.{node_count, link_count, tail_of, head_of}
-use Rattle.te_model.specs.Path.{has_number}
+use Rattle.te_model.specs.Path.{amount_on, has_number}
 use Rattle.te_model.specs.Flow.{IsFlow}
 
 -- numbers of the nodes, below their count, that rise along each link with flow (a topological numbering)
@@ -37,15 +37,11 @@ pub record IsLeastOn (flow : ℕ → ℕ) (path : List ℕ) (weight : ℕ) : Typ
   pub least : (h : ℕ) → IsTrue (has_number path h) → weight ≤ flow h
   pub reached : (h : ℕ) × IsTrue (has_number path h) × (flow h ≡ weight)
 
--- what a path of this weight takes off the flow
-abbrev pub taken_on : List ℕ → ℕ → ℕ → ℕ
-taken_on path weight h = if has_number path h then weight else 0
-
 -- the path that the lowest links give, with the least flow on it, and the flow that is left
 pub record IsTakenOff (net : Network) (s t : ℕ) (flow : ℕ → ℕ) (p : PathShare) (left : ℕ → ℕ) : Type 0 where
   pub path : IsLowestPath net flow s t p.links
   pub weight : IsLeastOn flow p.links p.weight
-  pub rest : (h : ℕ) → h < link_count net → flow h ≡ left h + taken_on p.links p.weight h
+  pub rest : (h : ℕ) → h < link_count net → flow h ≡ left h + amount_on p.links p.weight h
 
 -- path by path, until no flow is left
 abbrev pub IsDecomposition : Network → ℕ → ℕ → (ℕ → ℕ) → List PathShare → Type 0

@@ -3,6 +3,7 @@ pub mod Routes
 pub mod Utilisation
 pub mod Merge
 pub mod Normal
+pub mod Even
 pub mod Loops
 pub mod Decomposition
 pub mod Shares

@@ -7,8 +7,12 @@ use Rattle.te_model.specs.Validity.{paths_ascend}
 abbrev pub no_path : PathShare
 no_path = record { links = []; weight = 0 }
 
+-- the path at a place
+abbrev pub path_at : List PathShare → ℕ → PathShare
+path_at paths k = slice_index_or paths k no_path
+
 abbrev pub links_at : List PathShare → ℕ → List ℕ
-links_at paths k = (slice_index_or paths k no_path).links
+links_at paths k = (path_at paths k).links
 
 -- one of the paths has these links
 abbrev pub HasLinks : List PathShare → List ℕ → Type 0

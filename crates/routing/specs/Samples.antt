@@ -15,14 +15,14 @@ three_nodes = record {
   links = link 0 1 ∷ link 0 2 ∷ link 2 1 ∷ link 2 0 ∷ [];
 }
 
-abbrev pub weighted : List ℕ → ℕ → PathShare
-weighted links weight = record { links = links; weight = weight }
+abbrev pub weighted_path : List ℕ → ℕ → PathShare
+weighted_path links weight = record { links = links; weight = weight }
 
 -- three quarters of the demand from s to t on the straight link, and the rest over x
 abbrev pub two_ways : List PairRoutes
 two_ways = record {
   pair = record { src = 0; dst = 1 };
-  paths = weighted (0 ∷ []) 750000 ∷ weighted (1 ∷ 2 ∷ []) 250000 ∷ [];
+  paths = weighted_path (0 ∷ []) 750000 ∷ weighted_path (1 ∷ 2 ∷ []) 250000 ∷ [];
 } ∷ []
 
 -- the nodes s, t, x, y and z, with links from s to each of x, y and z, and from each of these to t
@@ -47,7 +47,7 @@ fork = record {
 abbrev pub halved : ℕ → List ℕ → List ℕ → PairRoutes
 halved src first second = record {
   pair = record { src = src; dst = 2 };
-  paths = weighted first 500000 ∷ weighted second 500000 ∷ [];
+  paths = weighted_path first 500000 ∷ weighted_path second 500000 ∷ [];
 }
 
 -- from a to b and from m to b, each in halves over the two links from m to b

@@ -2,9 +2,9 @@
 ghost use Rattle.std.specs.Prelude.{◌≡◌, ◌≢◌, ◌+◌, ◌<◌, ◌≤◌, ◌^◌, ℕ, All, IfOk, IsTrue, length, slice_index};
 ghost use Rattle.te_model.specs.declared.units.TheConstants.{SHARE_UNIT};
 ghost use Rattle.te_model.specs.Network.{is_well_formed, link_count, node_count};
-ghost use Rattle.te_model.specs.Path.{is_distinct, weight_on};
+ghost use Rattle.te_model.specs.Path.{is_distinct, weight_on, amount_on};
 ghost use Rattle.te_model.specs.PathRouting.{IsPathSplit};
-ghost use Rattle.routing.specs.Decomposition.{HasFlowOut, IsAcyclicFlow, IsDecomposition, IsLeastOn, IsLowestLink, IsLowestPath, IsTakenOff, taken_on};
+ghost use Rattle.routing.specs.Decomposition.{HasFlowOut, IsAcyclicFlow, IsDecomposition, IsLeastOn, IsLowestLink, IsLowestPath, IsTakenOff};
 
 use std::alloc::Global;
 use te_model::{Items, Memory, Network, Pair, PathShare, SHARE_UNIT};
@@ -67,7 +67,7 @@ fn take_off(flow: &mut [u64], path: &[u32], weight: u64)
     requires links { All (λ h. h < length flow.old) path.now }
     requires distinct { IsTrue (is_distinct path.now) }
     requires enough { All (λ h. weight ≤ slice_index flow.old h) path.now }
-    ensures { (h : ℕ) → slice_index flow.old h ≡ slice_index flow.new h + taken_on path.now weight h }
+    ensures { (h : ℕ) → slice_index flow.old h ≡ slice_index flow.new h + amount_on path.now weight h }
 {
     for h in path {
         flow[*h as usize] -= weight;

@@ -3,12 +3,14 @@
 //! - `Routing`: its shares, its loads (of one link, or of all in one pass) and greatest utilisation.
 //! - `Shares`: for each link the pairs that have a share on it.
 //! - `merge`: equal paths taken together. `normalize`: weights scaled to the unit.
+//! - `even_mix`: the unit in even parts over paths, equal ones taken together.
 //! - `cut_loops`: a walk without its loops.
 //! - `decompose`: a flow taken apart into weighted paths.
 #![tactic(auto)]
 
 mod copy;
 mod decomposition;
+mod even;
 mod law;
 mod loads;
 mod loops;
@@ -19,6 +21,7 @@ mod routes;
 mod shares;
 
 pub use decomposition::decompose;
+pub use even::even_mix;
 pub use law::{shares_are_flows, sums_over_shares};
 pub use loops::cut_loops;
 pub use merging::merge;

@@ -1,12 +1,12 @@
 //! What a routing puts on all links, in one pass over its paths.
 ghost use Rattle.std.specs.Prelude.{◌≡◌, ◌+◌, ◌*◌, ◌^◌, ◌<◌, ◌≤◌, ℕ, All, IfOk, IsTrue, false, length, slice_index, slice_index_or};
 ghost use Rattle.te_model.specs.Network.{capacity_of, is_well_formed, link_count};
-ghost use Rattle.te_model.specs.Path.{has_number, weight_on};
+ghost use Rattle.te_model.specs.Path.{has_number, weight_on, amount_on};
 ghost use Rattle.te_model.specs.declared.units.TheConstants.{RATIO_UNIT, SHARE_UNIT};
-ghost use Rattle.routing.specs.Decomposition.{taken_on};
 ghost use Rattle.routing.specs.Routes.{AreDemands, AreLoads};
 ghost use Rattle.routing.specs.Split.{are_splits, total_weight};
-ghost use Rattle.routing.specs.Utilisation.{greatest_below, quotient_up};
+ghost use Rattle.te_model.specs.Division.{quotient_up};
+ghost use Rattle.te_model.specs.Counting.{greatest_below};
 
 use crate::routes::utilisation;
 use std::alloc::Global;
@@ -18,7 +18,7 @@ fn add_along(loads: &mut [u128], marks: &mut [bool], path: &[u32], amount: u128)
     requires count { length marks.old ≡ length loads.old }
     requires unmarked { All (λ m. m ≡ false) marks.old }
     requires room { All (λ x. x + amount < 2 ^ 128) loads.old }
-    ensures loads { (e : ℕ) → e < length loads.old → slice_index loads.new e ≡ slice_index loads.old e + taken_on path.now amount e }
+    ensures loads { (e : ℕ) → e < length loads.old → slice_index loads.new e ≡ slice_index loads.old e + amount_on path.now amount e }
     ensures marks { (e : ℕ) → e < length marks.old → slice_index_or marks.new e false ≡ has_number path.now e }
 {
     for link in path {

@@ -4,7 +4,7 @@ ghost use Rattle.te_model.specs.Network.{is_well_formed};
 ghost use Rattle.te_model.specs.Path.{weight_on};
 ghost use Rattle.te_model.specs.declared.units.TheConstants.{RATIO_UNIT, SHARE_UNIT};
 ghost use Rattle.routing.specs.Split.{are_splits, total_weight};
-ghost use Rattle.routing.specs.Utilisation.{quotient_up};
+ghost use Rattle.te_model.specs.Division.{quotient_up};
 
 use crate::copy::copy_of;
 use crate::loads::{greatest_under, loads_of};

@@ -1,9 +1,8 @@
 //! The pairs that have a share on a link, for each link, found in one pass over a routing.
 ghost use Rattle.std.specs.Prelude.{◌≡◌, ◌+◌, ◌^◌, ◌<◌, ◌≤◌, ◌==◌, [], ℕ, All, IfOk, OnOk, length, if◌then◌else◌, vec_len};
-ghost use Rattle.te_model.specs.Path.{weight_on};
+ghost use Rattle.te_model.specs.Path.{weight_on, amount_on};
 ghost use Rattle.te_model.specs.PathRouting.{IsPathRouting};
 ghost use Rattle.te_model.specs.declared.units.TheConstants.{SHARE_UNIT};
-ghost use Rattle.routing.specs.Decomposition.{taken_on};
 ghost use Rattle.routing.specs.Shares.{share_in, shares_on, AreLinksOnce, AreShares, IsAddition, IsShareList};
 ghost use Rattle.routing.specs.Split.{total_weight};
 
@@ -62,7 +61,7 @@ fn add_path(table: &mut [LinkShares], links: &[u32], pair: u32, share: u64) -> R
     requires some { 0 < share }
     requires room { (e : ℕ) → e < length table.old → share_in (shares_on table.old e) pair + share < 2 ^ 64 }
     ensures order { OnOk result (All (IsShareList (pair + 1)) table.new) }
-    ensures sums { OnOk result (IsAddition table.old table.new pair (taken_on links.now share)) }
+    ensures sums { OnOk result (IsAddition table.old table.new pair (amount_on links.now share)) }
 {
     for link in links {
         table[*link as usize].add(pair, share)?;

@@ -1,10 +1,10 @@
 ghost use Rattle.std.specs.Prelude.{◌≡◌, ◌∷◌, [], IfOk, length};
-ghost use Rattle.routing.specs.Samples.{fork, halves, link, three_middles, three_nodes, two_ways, weighted};
+ghost use Rattle.routing.specs.Samples.{fork, halves, link, three_middles, three_nodes, two_ways, weighted_path};
 
 use super::*;
 use std::alloc::{AllocError, Global};
 use std::test::Fail;
-use te_model::{Items, Link, Matrix, Memory, Name, Network, Pair, PairRoutes, PathShare};
+use te_model::{Items, Link, Matrix, Memory, Name, Network, Pair, PairRoutes, Path, PathShare};
 
 fn link(tail: u32, head: u32) -> Link
     ensures { result ≡ link tail head }
@@ -180,7 +180,7 @@ fn fork(alloc: Global) -> Result<Network, AllocError>
 
 /// Two paths with half of the demand each.
 fn half_each(alloc: Global, first: Vec<u32>, second: Vec<u32>) -> Result<Vec<PathShare>, AllocError>
-    ensures { IfOk result (λ p. p.items ≡ weighted first.items 500000 ∷ weighted second.items 500000 ∷ []) }
+    ensures { IfOk result (λ p. p.items ≡ weighted_path first.items 500000 ∷ weighted_path second.items 500000 ∷ []) }
 {
     let paths = vec![in alloc;
         PathShare {
@@ -286,6 +286,34 @@ fn pairs_with_a_share(rt: HostRuntime) -> Result<(), Fail> {
             assert!(rt; shares.on(1) == [of(0, 500_000), of(1, 500_000)].as_slice());
             assert!(rt; shares.on(2) == [of(0, 500_000), of(1, 500_000)].as_slice());
             assert!(rt; shares.on(3).is_empty());
+        }
+        Err(_) => assert!(rt; false),
+    }
+    Ok(())
+}
+
+fn path(alloc: Global, links: &[u32]) -> Result<Path, AllocError> {
+    let links = Vec::from_slice(alloc, links)?;
+    Ok(Path {
+        links: Items::new(links),
+    })
+}
+
+#[test]
+fn units_left_go_to_the_first_paths(rt: HostRuntime) -> Result<(), Fail> {
+    let alloc = rt.alloc();
+    let paths = vec![in alloc;
+        path(alloc, [1].as_slice())?,
+        path(alloc, [0].as_slice())?,
+        path(alloc, [1].as_slice())?,
+    ]?;
+    match even_mix(alloc, paths) {
+        Ok(merged) => {
+            assert_eq!(rt; merged.len(), 2);
+            assert!(rt; merged[0].links.as_slice() == [0].as_slice());
+            assert_eq!(rt; merged[0].weight, 333_333);
+            assert!(rt; merged[1].links.as_slice() == [1].as_slice());
+            assert_eq!(rt; merged[1].weight, 666_667);
         }
         Err(_) => assert!(rt; false),
     }

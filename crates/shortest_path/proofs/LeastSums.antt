@@ -5,18 +5,18 @@ use Rattle.std.proofs.lemmas.List.{get_or-replicate}
 use Rattle.te_model.specs.declared.network.Network.{Network}
 use Rattle.te_model.specs.Network.{link_count}
 use Rattle.te_model.specs.Path.{chains, is_path, is_distinct, nodes_visited}
-use Rattle.shortest_path.specs.declared.row.Arc.{Arc}
-use Rattle.shortest_path.specs.declared.graph.Direction.TheVariants.{Forward, Backward}
+use Rattle.shortest_path.specs.Graph.{Arc}
+use Rattle.shortest_path.specs.declared.rows.Direction.TheVariants.{Forward, Backward}
 use Rattle.shortest_path.specs.Graph.{IsSettled, AtMost, distance_at}
 use Rattle.shortest_path.specs.Paths.{IsLeastPath, sum_along, IsDistance, AreDistances}
-use Rattle.shortest_path.specs.Links.{Walk, IsGraphOf}
+use Rattle.shortest_path.specs.Links.{every_link, Walk, IsGraphOf}
 use Rattle.shortest_path.proofs.Relaxing.{is-at_most}
 use Rattle.shortest_path.proofs.Walks.{AllOpen, walk_of_chains, chains_of_walk, walk_of_trail, walk_of_back_trail, distance_below, back_distance_below}
 use Rattle.shortest_path.specs.Least.{IsLeastWalk, AreLeastSums}
 use Rattle.shortest_path.proofs.Tight.{least_walk_apart}
 use Rattle.shortest_path.proofs.Loops.{without_loops}
 
-pub all_open : (net : Network) → AllOpen net (replicate (link_count net) true)
+pub all_open : (net : Network) → AllOpen net (every_link net)
 all_open net h below = get_or-replicate (link_count net) h true false below
 
 -- a walk without loops is a path
@@ -75,6 +75,29 @@ sums_of_settled net lengths marks graph t distances so settled count = record {
   reached = λ v d is. let (n, trail) = settled.reached v d is in walk_of_back_trail net lengths marks graph t n v d so trail;
   below = back_distance_below net lengths marks graph t distances so settled;
 }
+
+-- the least sum over all links is the distance
+pub distance_of_sums : (net : Network) (lengths : List ℕ) (t : ℕ) (sums : List (Option ℕ)) → AreLeastSums net lengths (every_link net) t sums →
+    (v : ℕ) → IsDistance net lengths v t (distance_at sums v)
+distance_of_sums net lengths t sums are v = go (distance_at sums v) refl
+  where
+    least : (d : ℕ) → distance_at sums v ≡ Some d → (links : List ℕ) → chains net v t links ≡ true → d ≤ sum_along lengths links
+    least d is links chain = is-at_most (distance_at sums v) (sum_along lengths links) d is
+        (are.below v links (walk_of_chains net (every_link net) v t links (all_open net) chain))
+
+    go : (o : Option ℕ) → distance_at sums v ≡ o → IsDistance net lengths v t o
+    go None is = λ links chain.
+        subst (λ o. AtMost o (sum_along lengths links)) is (are.below v links (walk_of_chains net (every_link net) v t links (all_open net) chain))
+    go (Some d) is =
+        let (links, walk, sum) = are.reached v d is in
+        let (p, walk_p, apart, less) = without_loops net lengths (every_link net) 0 v t links (λ h below. omega arith) walk in
+        let low : d ≤ sum_along lengths p = least d is p (chains_of_walk net (every_link net) v t p walk_p) in
+        let high : sum_along lengths p ≤ d = elim less [
+          | inl e ↦ omega (arith, ap (sum_along lengths) e, sum)
+          | inr lt ↦ omega (arith, lt, sum)
+        ]
+        in
+        ((p, path_of_walk net (every_link net) v t p walk_p apart, omega (arith, low, high)), least d is)
 
 -- where links chain, some path leads there too
 pub path_of_chains : (net : Network) (s t : ℕ) (links : List ℕ) → chains net s t links ≡ true → (p : List ℕ) × (is_path net s t p ≡ true)

@@ -1,10 +1,10 @@
 -- What a well-formed network has.
-use Rattle.std.proofs.Common.{◌≡◌, ◌≤◌, true, arith, refl}
-use Rattle.std.proofs.lemmas.Bool.Decides.{nat_tests}
+use Rattle.std.proofs.Common.{◌≡◌, ◌≤◌, true, refl}
 use Rattle.std.proofs.lemmas.List.{length-map}
 use Rattle.std.proofs.lemmas.List.Elements.{All-map, All-from_get_or}
 use Rattle.te_model.specs.declared.network.Network.{Network}
-use Rattle.te_model.proofs.SoundLinks.{sound_links, costs_small}
+use Rattle.te_model.proofs.SoundLinks.{costs_small}
+use Rattle.te_model.proofs.WellFormed.{few_links, few_nodes, links_join}
 use Rattle.te_model.specs.Network.{is_well_formed, no_link}
 use Rattle.te_model.specs.declared.network.Link.{Link}
 use Rattle.shortest_path.specs.Costs.{HasCosts, costs_of}
@@ -12,10 +12,10 @@ use Rattle.shortest_path.specs.Links.{IsSound}
 
 pub sound : (net : Network) → is_well_formed net ≡ true → IsSound net
 sound net formed = record {
-  few = grind (arith, nat_tests);
-  few_links = grind (arith, nat_tests);
-  tails = λ h below. let is = sound_links net formed h below in grind (arith, nat_tests);
-  heads = λ h below. let is = sound_links net formed h below in grind (arith, nat_tests);
+  few = few_nodes net formed;
+  few_links = few_links net formed;
+  tails = λ h below. (links_join net formed h below).0;
+  heads = λ h below. (links_join net formed h below).1;
 }
 
 -- the costs of a well-formed network

@@ -13,7 +13,7 @@ use Rattle.shortest_path.specs.Least.{AreLeastSums, IsLeastWalk, is_sum, is_tigh
 use Rattle.shortest_path.proofs.Relaxing.{at_most-some, is-at_most}
 use Rattle.shortest_path.proofs.Loops.{without_loops}
 
-is_sum_at : (o p : Option ℕ) (x y l : ℕ) → o ≡ Some x → p ≡ Some y → x ≡ l + y → is_sum o p l ≡ true
+pub is_sum_at : (o p : Option ℕ) (x y l : ℕ) → o ≡ Some x → p ≡ Some y → x ≡ l + y → is_sum o p l ≡ true
 is_sum_at None p x y l is_o is_p sum = cc
 is_sum_at (Some a) None x y l is_o is_p sum = cc
 is_sum_at (Some a) (Some b) x y l is_o is_p sum =
@@ -21,7 +21,7 @@ is_sum_at (Some a) (Some b) x y l is_o is_p sum =
     let eb : b ≡ y = cc in
     eq-eqb a (l + b) (omega arith)
 
-is_sum_parts : (o p : Option ℕ) (l : ℕ) → is_sum o p l ≡ true → (y : ℕ) × (p ≡ Some y) × (o ≡ Some (l + y))
+pub is_sum_parts : (o p : Option ℕ) (l : ℕ) → is_sum o p l ≡ true → (y : ℕ) × (p ≡ Some y) × (o ≡ Some (l + y))
 is_sum_parts None p l is = cc
 is_sum_parts (Some a) None l is = cc
 is_sum_parts (Some a) (Some b) l is = (b, refl, ap Some (eqb-true a (l + b) is))

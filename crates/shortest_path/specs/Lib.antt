@@ -3,4 +3,8 @@ pub mod Paths
 pub mod Costs
 pub mod Links
 pub mod Least
+pub mod Rows
+pub mod Ways
 pub mod Samples
+pub mod Pairs
+pub mod Laws

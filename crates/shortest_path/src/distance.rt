@@ -1,10 +1,10 @@
 //! Least sums of lengths from one node, and the potentials that they make.
-ghost use Rattle.std.specs.Prelude.{◌≡◌, ◌^◌, ◌<◌, ◌≤◌, IfOk, IsTrue, All, length};
+ghost use Rattle.std.specs.Prelude.{◌≡◌, ◌^◌, ◌<◌, ◌≤◌, IfOk, IsTrue, All, length, map, unwrap_or};
 ghost use Rattle.te_model.specs.Network.{is_well_formed, node_count, link_count};
 ghost use Rattle.shortest_path.specs.Paths.{AreDistances, ArePotentials, greatest};
 
-use crate::graph::{Direction, graph_of};
-use crate::settle::settle;
+use crate::rows::Direction;
+use crate::searches::Searches;
 use std::alloc::Global;
 use te_model::{Memory, Network};
 
@@ -24,9 +24,9 @@ pub fn distances(
     requires src { src < node_count net.now }
     ensures { IfOk result (λ d. AreDistances net.now lengths.now src d.items) }
 {
-    let every = vec![in alloc; true; net.links.as_slice().len()]?;
-    let graph = graph_of(alloc, net, lengths, &every, Direction::Forward)?;
-    let distances = settle(alloc, &graph, src as usize)?;
+    let mut searches = Searches::new(alloc, net, Direction::Forward)?;
+    let mut distances = vec![in alloc; None; net.names.as_slice().len()]?;
+    searches.distances(net, lengths, src, &mut distances);
     Ok(distances)
 }
 
@@ -39,6 +39,17 @@ fn greatest_of(distances: &[Option<u64>]) -> u64
         most = most.max(distance.unwrap_or(0));
     }
     most
+}
+
+/// The distances, with the greatest of them in place of those that are not known.
+///
+/// `Memory` comes where memory is wanting.
+pub fn potentials_by(alloc: Global, distances: &[Option<u64>]) -> Result<Vec<u64>, Memory>
+    ensures { IfOk result (λ p. p.items ≡ map (λ d. unwrap_or d (greatest distances.now)) distances.now) }
+{
+    let most = greatest_of(distances);
+    let potentials = distances.iter().map(|d| d.unwrap_or(most)).collect(alloc)?;
+    Ok(potentials)
 }
 
 /// The distances from `src`, with the greatest of them for the nodes out of reach. So the potential
@@ -58,7 +69,5 @@ pub fn potentials(
     ensures { IfOk result (λ p. ArePotentials net.now lengths.now src p.items) }
 {
     let distances = distances(alloc, net, lengths, src)?;
-    let most = greatest_of(&distances);
-    let potentials = distances.iter().map(|d| d.unwrap_or(most)).collect(alloc)?;
-    Ok(potentials)
+    potentials_by(alloc, &distances)
 }

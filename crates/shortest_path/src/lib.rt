@@ -3,21 +3,32 @@
 //! - `distances` and `potentials`: the least sums from one node.
 //! - `least_path`: the least path between two nodes by the sum of lengths, then by the list of links.
 //! - `costs`: the costs of the links as lengths.
+//! - `length_along`, `is_sum`: sums of lengths along given links.
 //! - `toward`, `follow` and `least_walk`: the same where only some links are open.
+//! - `Searches`: many searches in one network. `Ways`: the least ways by cost from each node to one.
 #![tactic(auto)]
 
 mod cost;
 mod distance;
-mod graph;
+mod law;
+mod length;
 mod path;
 mod row;
+mod rows;
+mod searches;
 mod settle;
 mod walk;
+mod ways;
 
 pub use cost::costs;
-pub use distance::{distances, potentials};
+pub use distance::{distances, potentials, potentials_by};
+pub use law::{distances_are_one, distances_double, distances_stay, least_paths_are_one};
+pub use length::{is_sum, length_along};
 pub use path::least_path;
-pub use walk::{follow, least_walk, toward};
+pub use rows::Direction;
+pub use searches::Searches;
+pub use walk::{first_links, follow, least_walk, toward};
+pub use ways::{Ways, way_from, ways_to};
 
 #[cfg(test)]
 mod tests;

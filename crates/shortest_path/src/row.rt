@@ -1,54 +1,46 @@
-//! The arcs that leave one node.
+//! The links that start at one node.
 use std::alloc::Global;
 use std::marker::Model;
 use te_model::Memory;
 
-/// The end of an arc, and its length.
-#[derive(Clone, Copy, Debug, PartialEq, Eq)]
-pub struct Arc {
-    pub to: u32,
-    pub length: u64,
-}
-
-/// The arcs that leave one node.
+/// The links that start at one node, by number.
 #[derive(Drop)]
 pub struct Row {
-    arcs: Vec<Arc>,
+    links: Vec<u32>,
 }
 
 impl Model for Row {
-    ghost use Rattle.std.specs.Prelude.{List};
-    ghost use Rattle.shortest_path.specs.declared.row.Arc.{Arc};
+    ghost use Rattle.std.specs.Prelude.{List, ℕ};
 
-    ghost Value = { List Arc };
+    ghost Value = { List ℕ };
 
-    ghost view = { λ r. r.arcs.items };
+    ghost view = { λ r. r.links.items };
 }
 
 impl Row {
     ghost use Rattle.std.specs.Prelude.{◌≡◌, [], ◌∷◌, ◌++◌, ◌^◌, ◌≤◌, IfOk, OnOk};
 
-    /// No arcs, with room for as many as `room` says.
+    /// No links, with room for as many as `room` says.
     pub fn with_room(alloc: Global, room: usize) -> Result<Row, Memory>
         requires { room ≤ 2 ^ 32 }
         ensures { IfOk result (λ r. r ≡ []) }
     {
-        let arcs = Vec::with_capacity(alloc, room)?;
-        Ok(Row { arcs })
+        let links = Vec::with_capacity(alloc, room)?;
+        Ok(Row { links })
     }
 
-    /// Lends the arcs.
-    pub fn as_slice(&self) -> &[Arc]
+    /// Lends the links.
+    pub fn as_slice(&self) -> &[u32]
         ensures { result.now ≡ self.now }
     {
-        self.arcs.as_slice()
+        self.links.as_slice()
     }
 
-    /// Adds an arc.
-    pub fn push(&mut self, arc: Arc) -> Result<(), Memory>
-        ensures { OnOk result (self.new ≡ self.old ++ arc ∷ []) }
+    /// Adds a link.
+    pub fn push(&mut self, link: u32) -> Result<(), Memory>
+        ensures { OnOk result (self.new ≡ self.old ++ link ∷ []) }
     {
-        self.arcs.push(arc)?;
+        self.links.push(link)?;
         Ok(())
     }
 }

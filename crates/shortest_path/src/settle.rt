@@ -1,12 +1,15 @@
 //! The distances of all nodes from one, nearest nodes first.
-ghost use Rattle.std.specs.Prelude.{◌⊎◌, All, [], ◌≡◌, ℕ, ◌+◌, ◌*◌, ◌^◌, ◌<◌, ◌≤◌, length, slice_index_or, true, false, Some, None, IfOk, IfSome, IfNone, MatchBool, ⊤};
+ghost use Rattle.std.specs.Prelude.{◌⊎◌, All, EachIndex, ◌≡◌, ℕ, ◌+◌, ◌*◌, ◌^◌, ◌<◌, ◌≤◌, length, slice_index_or, true, false, Some, None, MatchBool};
 ghost use Rattle.std.specs.Option.{MatchOption};
-ghost use Rattle.std.specs.List.{Contains};
-ghost use Rattle.shortest_path.specs.Graph.{IsNearestBelow, IsSettled, IsSmallGraph, IsRelaxed, NoFarther, AtMost, distance_at};
+ghost use Rattle.te_model.specs.declared.limits.TheConstants.{FORMAT_2};
+ghost use Rattle.te_model.specs.Network.{link_count, node_count};
+ghost use Rattle.shortest_path.specs.Graph.{IsNearestBelow, IsSettled, IsRelaxed, AtMost, distance_at};
+ghost use Rattle.shortest_path.specs.Links.{IsSound};
+ghost use Rattle.shortest_path.specs.Rows.{AreRows, arcs_of, graph_of};
 
-use crate::row::{Arc, Row};
-use std::alloc::Global;
-use te_model::Memory;
+use crate::row::Row;
+use crate::rows::{Direction, ends};
+use te_model::Network;
 
 /// The nearer of two nodes with distances, the first where they are equally near.
 fn nearer(best: Option<(usize, u64)>, v: usize, d: u64) -> Option<(usize, u64)>
@@ -44,35 +47,89 @@ fn is_above(distance: Option<u64>, reach: u64) -> bool
     }
 }
 
-/// Lowers the distances of the arcs' ends to those over a node at the distance `from`.
-fn relax(distances: &mut [Option<u64>], row: &[Arc], from: u64)
-    requires heads { All (λ a. a.to < length distances.old) row.now }
-    requires lengths { All (λ a. a.length ≤ 2 ^ 28) row.now }
-    requires near { from ≤ 64 * 2 ^ 28 }
-    ensures { IsRelaxed row.now from distances.old distances.new }
+/// What a search looks at: the links by the nodes where they start, and what direction that is in.
+#[derive(Drop)]
+pub struct Arcs {
+    pub direction: Direction,
+    pub rows: Vec<Row>,
+}
+
+/// Lowers the distances of the open links' ends to those over a node at the distance `from`.
+fn relax(
+    net: &Network,
+    direction: Direction,
+    lengths: &[u64],
+    open: &[bool],
+    row: &[u32],
+    from: u64,
+    distances: &mut [Option<u64>],
+)
+    requires sound { IsSound net.now }
+    requires links { All (λ h. h < link_count net.now) row.now }
+    requires lengths { length lengths.now ≡ link_count net.now }
+    requires marks { length «open».now ≡ link_count net.now }
+    requires limit { All (λ l. l ≤ 2 ^ 28) lengths.now }
+    requires near { from ≤ FORMAT_2.nodes * 2 ^ 28 }
+    requires nodes { length distances.old ≡ node_count net.now }
+    ensures { IsRelaxed (arcs_of net.now lengths.now «open».now direction row.now) from distances.old distances.new }
 {
-    for arc in row {
-        let to = arc.to as usize;
-        let reach = from + arc.length;
-        if is_above(distances[to], reach) {
-            distances[to] = Some(reach);
+    let links = net.links.as_slice();
+    for link in row {
+        let h = *link as usize;
+        if open[h] {
+            let (_, to) = ends(direction, links[h]);
+            let reach = from + lengths[h];
+            if is_above(distances[to as usize], reach) {
+                distances[to as usize] = Some(reach);
+            }
         }
     }
 }
 
-/// The distances of all nodes from `start`.
-pub fn settle(alloc: Global, graph: &[Row], start: usize) -> Result<Vec<Option<u64>>, Memory>
-    requires graph { IsSmallGraph graph.now (length graph.now) (2 ^ 28) }
-    requires nodes { length graph.now ≤ 64 }
-    requires start { start < length graph.now }
-    ensures { IfOk result (λ d. IsSettled graph.now start d.items × (length d.items ≡ length graph.now)) }
+/// Makes every distance unknown.
+fn forget(distances: &mut [Option<u64>])
+    ensures { EachIndex distances.new (λ v. distance_at distances.new v ≡ None) }
 {
-    let mut distances: Vec<Option<u64>> = vec![in alloc; None; graph.len()]?;
-    let mut done = vec![in alloc; false; graph.len()]?;
-    distances[start] = Some(0);
-    while let Some((node, reach)) = nearest(&distances, &done) {
-        done[node] = true;
-        relax(&mut distances, graph[node].as_slice(), reach);
+    for distance in distances.iter_mut() {
+        *distance = None;
     }
-    Ok(distances)
+}
+
+/// Takes every mark away.
+fn clear(done: &mut [bool])
+    ensures { EachIndex done.new (λ v. slice_index_or done.new v true ≡ false) }
+{
+    for mark in done.iter_mut() {
+        *mark = false;
+    }
+}
+
+/// Writes the distances of all nodes from `start` over the open links. `done` is room for a mark of each node.
+pub fn settle(
+    net: &Network,
+    arcs: &Arcs,
+    lengths: &[u64],
+    open: &[bool],
+    start: u32,
+    distances: &mut [Option<u64>],
+    done: &mut [bool],
+)
+    requires sound { IsSound net.now }
+    requires rows { AreRows net.now arcs.now.direction (link_count net.now) arcs.now.rows.items }
+    requires lengths { length lengths.now ≡ link_count net.now }
+    requires marks { length «open».now ≡ link_count net.now }
+    requires limit { All (λ l. l ≤ 2 ^ 28) lengths.now }
+    requires start { start < node_count net.now }
+    requires nodes { length distances.old ≡ node_count net.now }
+    requires room { length done.old ≡ node_count net.now }
+    ensures { IsSettled (graph_of net.now lengths.now «open».now arcs.now.direction arcs.now.rows.items) start distances.new }
+{
+    forget(distances);
+    clear(done);
+    distances[start as usize] = Some(0);
+    while let Some((node, reach)) = nearest(distances, done) {
+        done[node] = true;
+        let row = arcs.rows[node].as_slice();
+        relax(net, arcs.direction, lengths, open, row, reach, distances);
+    }
 }

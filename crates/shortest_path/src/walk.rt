@@ -1,11 +1,12 @@
 //! The least walk between two nodes over the open links of a network.
-ghost use Rattle.std.specs.Prelude.{◌≡◌, ◌^◌, ◌<◌, ◌≤◌, IfOk, All, length};
+ghost use Rattle.std.specs.Prelude.{◌≡◌, ℕ, ◌^◌, ◌<◌, ◌≤◌, ◌&&◌, Bool, IfOk, All, List, MatchOption, None, Some, length};
 ghost use Rattle.te_model.specs.Network.{link_count, node_count};
 ghost use Rattle.shortest_path.specs.Links.{IsSound};
-ghost use Rattle.shortest_path.specs.Least.{links_of, AreLeastSums, IsLeastWalk, IsFirstTight, is_sum};
+ghost use Rattle.shortest_path.specs.Least.{links_of, AreFirstLinks, AreLeastSums, IsLeastWalk, LeadsTo, is_sum};
 
-use crate::graph::{Direction, graph_of};
-use crate::settle::settle;
+use crate::length::is_sum;
+use crate::rows::Direction;
+use crate::searches::Searches;
 use std::alloc::Global;
 use te_model::{Items, Memory, Network, Path};
 
@@ -26,51 +27,76 @@ pub fn toward(
     requires dst { dst < node_count net.now }
     ensures { IfOk result (λ d. AreLeastSums net.now lengths.now «open».now dst d.items) }
 {
-    let graph = graph_of(alloc, net, lengths, open, Direction::Backward)?;
-    let distances = settle(alloc, &graph, dst as usize)?;
-    Ok(distances)
+    let mut searches = Searches::new(alloc, net, Direction::Backward)?;
+    let mut sums = vec![in alloc; None; net.names.as_slice().len()]?;
+    searches.toward(net, lengths, open, dst, &mut sums);
+    Ok(sums)
 }
 
-/// Whether the first distance is the second and the length.
-fn is_sum(from: Option<u64>, to: Option<u64>, length: u64) -> bool
-    ensures { result ≡ is_sum from to length }
+/// Whether the link is open, and the first distance is the second and the link's length.
+fn is_tight(open: bool, from: Option<u64>, to: Option<u64>, length: u64) -> bool
+    ensures { result ≡ («open» && is_sum from to length) }
 {
-    match (from, to) {
-        (Some(x), Some(y)) => y <= x && x - y == length,
-        _ => false,
-    }
+    open && is_sum(from, to, length)
 }
 
-/// The first open link with which a least walk from the node begins.
-fn first_tight(
+/// For each node the first open link with which a least walk from it begins, or `None` where none does.
+///
+/// `open` and `lengths` have one entry for each link, and `sums` are those that `toward` gives. `Memory` comes where memory is wanting.
+pub fn first_links(
+    alloc: Global,
     net: &Network,
     lengths: &[u64],
     open: &[bool],
-    distances: &[Option<u64>],
-    node: u32,
-) -> Option<u32>
+    sums: &[Option<u64>],
+) -> Result<Vec<Option<u32>>, Memory>
     requires sound { IsSound net.now }
     requires lengths { length lengths.now ≡ link_count net.now }
     requires marks { length «open».now ≡ link_count net.now }
-    requires distances { length distances.now ≡ node_count net.now }
-    requires node { node < node_count net.now }
-    ensures { IsFirstTight net.now lengths.now «open».now distances.now node result }
+    requires sums { length sums.now ≡ node_count net.now }
+    ensures { IfOk result (λ f. AreFirstLinks net.now lengths.now «open».now sums.now (link_count net.now) f.items) }
 {
     let links = net.links.as_slice();
+    let mut firsts: Vec<Option<u32>> = vec![in alloc; None; sums.len()]?;
     for h in 0..links.len() {
-        let link = links[h];
-        if open[h]
-            && link.tail == node
-            && is_sum(
-                distances[node as usize],
-                distances[link.head as usize],
-                lengths[h],
-            )
-        {
-            return Some(h as u32);
+        let (tail, head) = (links[h].tail as usize, links[h].head as usize);
+        if firsts[tail].is_none() && is_tight(open[h], sums[tail], sums[head], lengths[h]) {
+            firsts[tail] = Some(h as u32);
         }
     }
-    None
+    Ok(firsts)
+}
+
+/// The least walk from `src` to `dst` along the first links, or `None` where there is no walk.
+pub fn walk_along(
+    alloc: Global,
+    net: &Network,
+    sums: &[Option<u64>],
+    firsts: &[Option<u32>],
+    src: u32,
+    dst: u32,
+) -> Result<Option<Vec<u32>>, Memory>
+    requires sound { IsSound net.now }
+    requires leads { (lengths : List ℕ) × (marks : List Bool) × LeadsTo net.now lengths marks dst sums.now firsts.now }
+    requires src { src < node_count net.now }
+    ensures { (lengths : List ℕ) → (marks : List Bool) → LeadsTo net.now lengths marks dst sums.now firsts.now → IfOk result (λ w. MatchOption w (IsLeastWalk net.now lengths marks src dst None) (λ v. IsLeastWalk net.now lengths marks src dst (Some v.items))) }
+{
+    if sums[src as usize].is_none() {
+        return Ok(None);
+    }
+    let links = net.links.as_slice();
+    let mut walk: Vec<u32> = Vec::new(alloc);
+    let mut node = src;
+    while node != dst {
+        match firsts[node as usize] {
+            Some(h) => {
+                walk.push(h)?;
+                node = links[h as usize].head;
+            }
+            None => return Ok(None),
+        }
+    }
+    Ok(Some(walk))
 }
 
 /// The least walk from `src` to `dst` over the open links by the sum of lengths, then by the list of
@@ -93,23 +119,13 @@ pub fn follow(
     requires dst { dst < node_count net.now }
     ensures { IfOk result (λ p. IsLeastWalk net.now lengths.now «open».now src dst (links_of p)) }
 {
-    if distances[src as usize].is_none() {
-        return Ok(None);
+    let firsts = first_links(alloc, net, lengths, open, distances)?;
+    match walk_along(alloc, net, distances, &firsts, src, dst)? {
+        Some(walk) => Ok(Some(Path {
+            links: Items::new(walk),
+        })),
+        None => Ok(None),
     }
-    let mut links: Vec<u32> = Vec::new(alloc);
-    let mut node = src;
-    while node != dst {
-        match first_tight(net, lengths, open, distances, node) {
-            Some(h) => {
-                links.push(h)?;
-                node = net.links.as_slice()[h as usize].head;
-            }
-            None => return Ok(None),
-        }
-    }
-    Ok(Some(Path {
-        links: Items::new(links),
-    }))
 }
 
 /// The least walk from `src` to `dst` over the open links by the sum of lengths, then by the list of

@@ -1,8 +1,9 @@
 use Rattle.std.proofs.Common.{◌≡◌, ◌++◌, ◌∷◌, [], ◌-◌, ℕ, List, length, slice_index, arith, ap, sym, ◌∙◌, subst, rules}
 use Rattle.te_model.specs.declared.units.TheConstants.{SHARE_UNIT}
 use Rattle.routing.specs.Decomposition.{IsAcyclicFlow, IsTakenOff}
-use Rattle.routing.proofs.LowestPaths.{links_join}
-use Rattle.routing.proofs.Decomposing.{DecomposedSoFar, decomposed_more, decomposed, taken-le, taken-some, written_whole, decomposition_shares, decomposition_splits, decomposition_few}
+use Rattle.te_model.proofs.WellFormed.{links_join}
+use Rattle.te_model.proofs.Lists.{written_whole}
+use Rattle.routing.proofs.Decomposing.{DecomposedSoFar, decomposed_more, decomposed, taken-le, taken-some, decomposition_shares, decomposition_splits, decomposition_few}
 use Rattle.routing.proofs.decomposition.decompose.Goals as goal
 
 pub loop-amount-init : goal.loop-amount-init

@@ -2,7 +2,8 @@ use Rattle.std.proofs.Common.{◌≡◌, ◌++◌, ◌∷◌, [], List, get_or, 
 use Rattle.te_model.specs.declared.network.Link.{Link}
 use Rattle.te_model.specs.Network.{head_of, no_link}
 use Rattle.routing.specs.Decomposition.{IsLowestPath}
-use Rattle.routing.proofs.LowestPaths.{FollowedSoFar, followed_none, followed_more, links_join}
+use Rattle.te_model.proofs.WellFormed.{links_join}
+use Rattle.routing.proofs.LowestPaths.{FollowedSoFar, followed_none, followed_more}
 use Rattle.routing.proofs.decomposition.lowest_path.Goals as goal
 
 pub loop-node-init : goal.loop-node-init

@@ -1,7 +1,8 @@
 use Rattle.std.proofs.Common.{◌≡◌, ◌<◌, ◌≤◌, ℕ, List, true, slice_index, length, sym, ◌∙◌, subst, All}
 use Rattle.te_model.specs.Path.{is_distinct}
 use Rattle.routing.specs.Decomposition.{IsLowestPath}
-use Rattle.routing.proofs.TakingOff.{all_of_numbers, lowest_some, lowest_inside, lowest_once, taken_off}
+use Rattle.te_model.proofs.Amounts.{all_of_numbers}
+use Rattle.routing.proofs.TakingOff.{lowest_some, lowest_inside, lowest_once, taken_off}
 use Rattle.routing.proofs.decomposition.take_path.Goals as goal
 
 pub least_on-weight-requires-clause-some : goal.least_on-weight-requires-clause-some

@@ -2,7 +2,7 @@ use Rattle.std.proofs.Common.{◌≡◌, ◌<◌, ◌^◌, ◌+◌, ◌*◌, ℕ
 use Rattle.std.proofs.lemmas.List.{get_or_read}
 use Rattle.std.proofs.lemmas.List.Elements.{All-from_get_or, All-get_or}
 use Rattle.te_model.specs.declared.route.PathShare.{PathShare}
-use Rattle.routing.specs.Decomposition.{taken_on}
+use Rattle.te_model.specs.Path.{amount_on}
 use Rattle.routing.specs.Merge.{no_path}
 use Rattle.routing.proofs.Loading.{path_fits, path_more}
 use Rattle.routing.proofs.loads.add_demand.Goals as goal
@@ -37,9 +37,9 @@ loop-path-preserved c = record {
       ap (λ x. x * c.from-in-loop-path.result) c.from.ensures ∙ ap (λ x. demand * x) (c.from-in-loop-path.ensures ∙ ap (λ (s : PathShare). s.weight) read)
       in
       let links : c.as_slice-links.result.now ≡ (get_or paths i no_path).links = c.as_slice-links.ensures ∙ ap (λ (s : PathShare). s.links) read in
-      let puts : taken_on c.as_slice-links.result.now (c.from.result * c.from-in-loop-path.result) e
-      ≡ taken_on (get_or paths i no_path).links (demand * (get_or paths i no_path).weight) e =
-      ap (λ (l : List ℕ). taken_on l (c.from.result * c.from-in-loop-path.result) e) links ∙ ap (λ x. taken_on (get_or paths i no_path).links x e) amount
+      let puts : amount_on c.as_slice-links.result.now (c.from.result * c.from-in-loop-path.result) e
+      ≡ amount_on (get_or paths i no_path).links (demand * (get_or paths i no_path).weight) e =
+      ap (λ (l : List ℕ). amount_on l (c.from.result * c.from-in-loop-path.result) e) links ∙ ap (λ x. amount_on (get_or paths i no_path).links x e) amount
       in
       omega (
         arith,

@@ -7,7 +7,8 @@ use Rattle.te_model.specs.declared.route.PairRoutes.{PairRoutes}
 use Rattle.te_model.specs.Network.{link_count}
 use Rattle.te_model.specs.Path.{no_routes, routes_at, weight_on}
 use Rattle.routing.specs.Split.{total_weight}
-use Rattle.routing.proofs.Loading.{pair_fits, pair_more, written_whole}
+use Rattle.te_model.proofs.Lists.{written_whole}
+use Rattle.routing.proofs.Loading.{pair_fits, pair_more}
 use Rattle.routing.proofs.Splits.{whole_weight}
 use Rattle.routing.proofs.loads.loads_of.Goals as goal
 

@@ -3,17 +3,18 @@ use Rattle.std.proofs.lemmas.Grind.{common_steps}
 use Rattle.te_model.specs.declared.network.Link.{Link}
 use Rattle.te_model.specs.Network.{head_of, no_link}
 use Rattle.routing.specs.Loops.{after_last, end_of}
-use Rattle.routing.proofs.Cutting.{CutSoFar, chained_links, cut_begin, cut_more, cut_end, after-le, cut_is_path}
+use Rattle.te_model.proofs.Chains.{walk_links}
+use Rattle.routing.proofs.Cutting.{CutSoFar, cut_begin, cut_more, cut_end, after-le, cut_is_path}
 use Rattle.routing.proofs.loops.cut_loops.Goals as goal
 
 pub after_last-rest-requires : goal.after_last-rest-requires
-after_last-rest-requires c = chained_links c.args.net.now c.args.src (end_of c.args.net.now c.args.src c.args.walk.now) c.args.walk.now c.requires
+after_last-rest-requires c = walk_links c.args.net.now c.args.src (end_of c.args.net.now c.args.src c.args.walk.now) c.args.walk.now c.requires
 
 pub loop-h-init : goal.loop-h-init
 loop-h-init c =
     let net = c.args.net.now in
     let walk = c.args.walk.now in
-    let links = chained_links net c.args.src (end_of net c.args.src walk) walk c.requires in
+    let links = walk_links net c.args.src (end_of net c.args.src walk) walk c.requires in
     subst (λ (r : List ℕ). CutSoFar net c.args.src walk c.new-cut.result.items r) (sym c.after_last-rest.ensures)
     (subst (λ (k : List ℕ). CutSoFar net c.args.src walk k (after_last net c.args.src walk)) (sym c.new-cut.ensures.items)
     (cut_begin net c.args.src walk links))

@@ -2,7 +2,7 @@ use Rattle.std.proofs.Common.{◌≡◌, ◌+◌, ◌<◌, List, [], arith, ap, 
 use Rattle.std.proofs.lemmas.List.{get_or_read}
 use Rattle.std.proofs.lemmas.List.Elements.{All-get_or, All-set}
 use Rattle.routing.specs.declared.shares.PairShare.{PairShare}
-use Rattle.routing.specs.Decomposition.{taken_on}
+use Rattle.te_model.specs.Path.{amount_on}
 use Rattle.routing.specs.Shares.{share_in, shares_on, IsShareList}
 use Rattle.routing.proofs.Sharing.{link_more, no_addition, not_added}
 use Rattle.routing.proofs.shares.add_path.Goals as goal
@@ -24,7 +24,7 @@ lent c =
 pub loop-link-init : goal.loop-link-init
 loop-link-init c = record {
   order = c.requires.order;
-  sums = no_addition c.args.table.now c.args.pair (taken_on [] c.args.share) (λ e. refl);
+  sums = no_addition c.args.table.now c.args.pair (amount_on [] c.args.share) (λ e. refl);
 }
 
 pub add-requires-clause-order : goal.add-requires-clause-order

@@ -5,7 +5,9 @@ use Rattle.te_model.specs.declared.units.TheConstants.{RATIO_UNIT, SHARE_UNIT}
 use Rattle.te_model.specs.Network.{capacity_of, no_link, link_count}
 use Rattle.te_model.proofs.SoundLinks.{sound_links}
 use Rattle.routing.specs.Routes.{load_on}
-use Rattle.routing.specs.Utilisation.{greatest_below, parts_on, quotient_up}
+use Rattle.te_model.specs.Division.{quotient_up}
+use Rattle.te_model.specs.Counting.{greatest_below}
+use Rattle.routing.specs.Utilisation.{parts_on}
 use Rattle.routing.proofs.routes.Routing.parts.Goals as goal
 
 pub utilisation-requires-clause-capacity : goal.utilisation-requires-clause-capacity

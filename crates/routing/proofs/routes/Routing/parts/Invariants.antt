@@ -1,5 +1,6 @@
 use Rattle.std.proofs.Common.{◌≡◌}
-use Rattle.routing.specs.Utilisation.{greatest_below, parts_on}
+use Rattle.te_model.specs.Counting.{greatest_below}
+use Rattle.routing.specs.Utilisation.{parts_on}
 use Rattle.routing.proofs.routes.Routing.parts.Given as goal
 
 abbrev pub invariant-loop-h : goal.invariant-loop-h

@@ -7,7 +7,7 @@ use Rattle.te_model.specs.Network.{link_count}
 use Rattle.te_model.specs.Path.{no_routes, routes_at, share, weight_on}
 use Rattle.routing.specs.declared.shares.PairShare.{PairShare}
 use Rattle.routing.specs.Shares.{shares_on, AreLinksOnce, IsAddition, IsShareList}
-use Rattle.routing.proofs.Loading.{written_whole}
+use Rattle.te_model.proofs.Lists.{written_whole}
 use Rattle.routing.proofs.Shared.{shares_done}
 use Rattle.routing.proofs.Sharing.{order_weaker, paths_once, share_more}
 use Rattle.routing.proofs.shares.Shares.new.Goals as goal

@@ -1,5 +1,0 @@
-use Rattle.std.proofs.Common.{◌≡◌, vec_len, All, []}
-use Rattle.shortest_path.proofs.graph.empty_rows.Given as goal
-
-abbrev pub invariant-loop : goal.invariant-loop
-invariant-loop l = (vec_len l.graph ≡ l.counter) × All (λ r. r ≡ []) l.graph.items

@@ -1,0 +1,31 @@
+use Rattle.std.proofs.Common.{◌≡◌, true, length, replicate, arith, ap, sym, ◌∙◌, subst}
+use Rattle.std.proofs.lemmas.List.{length-map}
+use Rattle.te_model.specs.Network.{node_count}
+use Rattle.shortest_path.specs.declared.rows.Direction.TheVariants.{Forward}
+use Rattle.shortest_path.specs.Graph.{IsSettled}
+use Rattle.shortest_path.specs.Links.{every_link}
+use Rattle.shortest_path.specs.Rows.{IsSearchGraph, arcs_of, graph_of}
+use Rattle.shortest_path.proofs.Building.{graph_of_rows}
+use Rattle.shortest_path.proofs.LeastSums.{all_open, distances_of_settled}
+use Rattle.shortest_path.proofs.Walks.{AllOpen}
+use Rattle.shortest_path.proofs.searches.Searches.distances.Goals as goal
+
+pub returns-clause-distances : goal.returns-clause-distances
+returns-clause-distances c =
+    let net = c.args.net.now in
+    let lengths = c.args.lengths.now in
+    let marks = c.as_slice-open.result.now in
+    let arcs = c.self.inside.arcs in
+    let rows = arcs.rows.items in
+    let distances = c.settle.new.distances in
+    let is : IsSearchGraph net Forward (record { direction = arcs.direction; rows = rows; links = length c.self.inside.every.items }) =
+    subst (IsSearchGraph net Forward) (sym c.self.view_is) c.requires.along
+    in
+    let every : marks ≡ every_link net = c.as_slice-open.ensures.value ∙ (c.self.invariant.0 ∙ ap (λ n. replicate n true) is.links) in
+    let open_all : AllOpen net marks = subst (AllOpen net) (sym every) (all_open net) in
+    let settled : IsSettled (graph_of net lengths marks Forward rows) c.args.src distances =
+    subst (λ d. IsSettled (graph_of net lengths marks d rows) c.args.src distances) is.direction c.settle.ensures
+    in
+    let size = length-map rows (arcs_of net lengths marks Forward) in
+    distances_of_settled net lengths marks (graph_of net lengths marks Forward rows) c.args.src distances open_all
+    (graph_of_rows net lengths marks Forward rows is.rows) settled (omega (arith, size, is.rows.count, c.requires.room))
