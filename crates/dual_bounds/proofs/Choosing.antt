@@ -1,5 +1,5 @@
 -- The choice of the best bracket, one after another.
-use Rattle.std.proofs.Common.{◌≡◌, ℕ, ◌+◌, ◌*◌, ◌/◌, ◌<◌, ◌≤◌, Bool, true, false, List, [], ◌∷◌, ◌++◌, length, take, get_or, arith, refl, ap, sym, subst, ◌∙◌, nat_lt}
+use Rattle.std.proofs.Common.{◌≡◌, ℕ, ◌+◌, ◌*◌, ◌/◌, ◌<◌, ◌≤◌, Bool, true, false, List, [], ◌∷◌, ◌++◌, length, take, get_or, arith, refl, ap, sym, subst, ◌∙◌, nat_lt, le_of_lt}
 use Rattle.std.specs.Prelude.{All, max, if◌then◌else◌}
 use Rattle.std.specs.List.{Contains}
 use Rattle.std.proofs.lemmas.Bool.{ltb-true, ltb-false}
@@ -10,7 +10,8 @@ use Rattle.te_model.specs.declared.certificate.Row.{Row}
 use Rattle.te_model.specs.declared.bracket.Bracket.{Bracket}
 use Rattle.te_model.specs.declared.units.TheConstants.{RATIO_UNIT}
 use Rattle.scheme.specs.Low.{HasLow}
-use Rattle.dual_bounds.specs.Dual.{unit_lengths, volume, demand_by, IsBoundOf}
+use Rattle.te_model.specs.Inequalities.{capacity_by}
+use Rattle.dual_bounds.specs.Dual.{unit_lengths, demand_by, IsBoundOf}
 use Rattle.dual_bounds.specs.Choice.{low_under, low_of, IsBestOf, IsNotAbove}
 use Rattle.dual_bounds.proofs.Sizes.{demand_same, greater_quotient, above_through}
 
@@ -27,15 +28,12 @@ pub record IsChoice (net : Network) (n : ℕ) (demand : List ℕ) (most : ℕ) (
   pub low : HasLow b
   pub hops : ℕ → ℕ
   pub hops_are : makes (unit_lengths net) hops
-  pub above : b.low_den * demand_by n demand hops ≤ b.low_num * max 1 (volume net (unit_lengths net))
+  pub above : b.low_den * demand_by n demand hops ≤ b.low_num * max 1 (capacity_by net (unit_lengths net))
   pub chosen : Contains came b.lengths
   pub greatest : All (IsNotAbove net n demand makes b) came
 
 up_to_same : (a b : ℕ) → a ≡ b → a ≤ b
 up_to_same a b same = omega (arith, same)
-
-le_from_lt : (a b : ℕ) → a < b → a ≤ b
-le_from_lt a b lt = omega (arith, lt)
 
 up_to_through : (a b c : ℕ) → a ≤ b → b ≤ c → a ≤ c
 up_to_through a b c first second = omega (arith, first, second)
@@ -44,7 +42,7 @@ up_to_through a b c first second = omega (arith, first, second)
 low_is : (net : Network) (n : ℕ) (demand : List ℕ) (most : ℕ) (makes : List ℕ → (ℕ → ℕ) → Type 0) (b : Bracket) (distance : ℕ → ℕ) → IsUnique n makes →
     IsBoundOf net n demand most makes b → makes b.lengths distance → low_under net n demand b.lengths distance ≡ low_of b
 low_is net n demand most makes b distance unique of made =
-    let den = max 1 (volume net b.lengths) in
+    let den = max 1 (capacity_by net b.lengths) in
     let num : demand_by n demand distance ≡ b.low_num =
     demand_same n demand distance of.distance (unique b.lengths distance of.distance made of.made) ∙ sym of.bound.low_num_is
     in
@@ -61,9 +59,9 @@ choice_first net n demand most makes keeps b unique unit of rows low =
       hops = of.distance;
       hops_are = subst (λ (l : List ℕ). makes l of.distance) unit of.made;
       above =
-          let den : b.low_den ≡ max 1 (volume net (unit_lengths net)) = of.bound.low_den_is ∙ ap (λ (l : List ℕ). max 1 (volume net l)) unit in
+          let den : b.low_den ≡ max 1 (capacity_by net (unit_lengths net)) = of.bound.low_den_is ∙ ap (λ (l : List ℕ). max 1 (capacity_by net l)) unit in
           let left : b.low_den * demand_by n demand of.distance ≡ b.low_den * b.low_num = ap (λ x. b.low_den * x) (sym of.bound.low_num_is) in
-          let right : b.low_num * max 1 (volume net (unit_lengths net)) ≡ b.low_num * b.low_den = ap (λ x. b.low_num * x) (sym den) in
+          let right : b.low_num * max 1 (capacity_by net (unit_lengths net)) ≡ b.low_num * b.low_den = ap (λ x. b.low_num * x) (sym den) in
           omega (arith, left, right);
       chosen = (0, omega arith, sym unit);
       greatest = All-cons (IsNotAbove net n demand makes b) (unit_lengths net) []
@@ -88,12 +86,12 @@ choice_push net n demand most makes keeps came best other unique choice of rows 
           low = low;
           hops = choice.hops;
           hops_are = choice.hops_are;
-          above = above_through best.low_num best.low_den other.low_num other.low_den (demand_by n demand choice.hops) (max 1 (volume net (unit_lengths net)))
+          above = above_through best.low_num best.low_den other.low_num other.low_den (demand_by n demand choice.hops) (max 1 (capacity_by net (unit_lengths net)))
               choice.low.0 choice.above over;
           chosen = Contains-push came other.lengths;
           greatest = All-push (IsNotAbove net n demand makes other) came other.lengths
               (All-weaker (IsNotAbove net n demand makes best) (IsNotAbove net n demand makes other)
-              (λ lengths up distance made. up_to_through (low_under net n demand lengths distance) (low_of best) (low_of other) (up distance made) (le_from_lt (low_of best) (low_of other) greater))
+              (λ lengths up distance made. up_to_through (low_under net n demand lengths distance) (low_of best) (low_of other) (up distance made) (le_of_lt greater))
               came choice.greatest)
               (λ distance made. up_to_same (low_under net n demand other.lengths distance) (low_of other) (low_is net n demand most makes other distance unique of made));
         }

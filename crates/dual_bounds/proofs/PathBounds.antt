@@ -23,14 +23,15 @@ use Rattle.te_model.proofs.Tests.{all_to_tests}
 use Rattle.routing.specs.Merge.{no_path}
 use Rattle.routing.specs.Routes.{AreDemands}
 use Rattle.routing.specs.Utilisation.{parts}
-use Rattle.routing.proofs.LowestPaths.{links_join}
+use Rattle.te_model.proofs.WellFormed.{links_join}
 use Rattle.scheme.specs.Low.{HasLow}
 use Rattle.shortest_path.specs.Paths.{sum_along}
-use Rattle.ratio_certificate.proofs.Lengths.{path_short}
+use Rattle.shortest_path.proofs.PathLengths.{path_short}
 use Rattle.dual_bounds.specs.Dual.{unit_lengths, total_capacity, demand_by, IsBoundBy, IsBoundOf}
 use Rattle.dual_bounds.specs.GivenPaths.{paths_of, AreFewLinks, AreShortest, IsShortest, IsBracketOnPaths}
 use Rattle.dual_bounds.proofs.Choosing.{IsUnique, IsChoice}
-use Rattle.dual_bounds.proofs.Sizes.{nodes_few, demand_small, no_length, no_demand, above_unit}
+use Rattle.te_model.proofs.WellFormed.{few_nodes}
+use Rattle.dual_bounds.proofs.Sizes.{demand_small, no_length, no_demand, above_unit}
 
 -- a bracket on given paths has no rows
 abbrev pub keeps_none : List ℕ → List Row → Type 0
@@ -46,7 +47,7 @@ path_few net s t (h ∷ hs) formed path =
     let from : tail_of net h ≡ s = eqb-true (tail_of net h) s inner.1 in
     let start : s < node_count net = omega (arith, from, (links_join net formed h (ltb-true h (link_count net) inner.0)).0) in
     let short = path_short net s t (h ∷ hs) (links_join net formed) start path in
-    record { inside = path_links net s t (h ∷ hs) path; few = omega (arith, short, nodes_few net formed) }
+    record { inside = path_links net s t (h ∷ hs) path; few = omega (arith, short, few_nodes net formed) }
 
 -- the paths of a path split are few links each
 pub split_few : (net : Network) (r : PairRoutes) → is_well_formed net ≡ true → IsPathSplit net r → All (λ s. AreFewLinks (link_count net) s.links) r.paths

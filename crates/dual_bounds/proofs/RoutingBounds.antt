@@ -13,11 +13,11 @@ use Rattle.te_model.specs.PathRouting.{IsPathRouting}
 use Rattle.te_model.proofs.Lower.{potentials_bound}
 use Rattle.routing.specs.Routes.{AreDemands}
 use Rattle.routing.specs.Utilisation.{parts}
-use Rattle.routing.proofs.LowestPaths.{links_join}
+use Rattle.te_model.proofs.WellFormed.{links_join}
 use Rattle.scheme.specs.Low.{HasLow}
 use Rattle.shortest_path.specs.Paths.{IsDistance}
-use Rattle.ratio_certificate.specs.Tables.{AreValues}
-use Rattle.ratio_certificate.proofs.Distances.{distance_unique}
+use Rattle.shortest_path.specs.Pairs.{AreValues}
+use Rattle.shortest_path.proofs.Unique.{distance_unique}
 use Rattle.dual_bounds.specs.Dual.{unit_lengths, demand_by, IsBoundBy, IsBoundOf}
 use Rattle.dual_bounds.specs.Rows.{AreDistancesUnder, sources_of, entry_of, distance_by, AreSourceRows, IsBracket}
 use Rattle.dual_bounds.proofs.Choosing.{IsUnique, IsChoice}

@@ -10,18 +10,12 @@ use Rattle.std.proofs.lemmas.List.Elements.{All-get_or}
 use Rattle.te_model.specs.declared.network.Network.{Network}
 use Rattle.te_model.specs.Counting.{sum_below}
 use Rattle.te_model.specs.Network.{is_well_formed, node_count, link_count, capacity_of}
-use Rattle.te_model.proofs.Sums.{sum_below-same, sum_below-zero}
+use Rattle.te_model.proofs.Sums.{sum_below-bound, sum_below-same, sum_below-zero}
 use Rattle.routing.specs.Routes.{AreDemands}
 use Rattle.shortest_path.specs.Paths.{sum_along}
-use Rattle.ratio_certificate.proofs.Owed.{capacities_positive}
-use Rattle.dual_bounds.specs.Dual.{unit_lengths, volume, total_capacity, demand_by}
-
-pub nodes_few : (net : Network) → is_well_formed net ≡ true → node_count net ≤ 64
-nodes_few net formed = grind (arith, nat_tests)
-
-sum_below-bound : (n b : ℕ) (f : ℕ → ℕ) → ((k : ℕ) → k < n → f k ≤ b) → sum_below n f ≤ n * b
-sum_below-bound zero b f each = omega arith
-sum_below-bound (suc n) b f each = omega (arith, sum_below-bound n b f (λ k below. each k (omega arith)), each n (omega arith))
+use Rattle.te_model.proofs.WellFormed.{capacities_positive}
+use Rattle.te_model.specs.Inequalities.{capacity_by}
+use Rattle.dual_bounds.specs.Dual.{unit_lengths, total_capacity, demand_by}
 
 -- by demands of at most 2^32 and distances of at most 2^36
 pub demand_small : (n : ℕ) (demand : List ℕ) (distance : ℕ → ℕ) → n < 2 ^ 32 → AreDemands n demand → ((p : ℕ) → p < n → distance p ≤ 2 ^ 36) →
@@ -37,9 +31,9 @@ pub demand_same : (n : ℕ) (demand : List ℕ) (d e : ℕ → ℕ) → ((p : �
 demand_same n demand d e same =
     sum_below-same n (λ p. slice_index demand p * d p) (λ p. slice_index demand p * e p) (λ p below. ap (λ x. slice_index demand p * x) (same p below))
 
--- under lengths of 1 the volume is the capacity
-pub unit_volume : (net : Network) → volume net (unit_lengths net) ≡ total_capacity net
-unit_volume net =
+-- under lengths of 1 the sum is the capacity
+pub unit_capacity : (net : Network) → capacity_by net (unit_lengths net) ≡ total_capacity net
+unit_capacity net =
     sum_below-same (link_count net) (λ h. capacity_of net h * slice_index (unit_lengths net) h) (capacity_of net) (λ h below.
     let one : slice_index (unit_lengths net) h ≡ 1 = get_or-replicate (link_count net) h 1 0 below in
     ap (λ x. capacity_of net h * x) one ∙ omega arith)
@@ -90,13 +84,13 @@ above_through a b c d u v some first second =
     le_of_mul-le-mul_left scaled (omega arith)
 
 -- the bound is not below that of lengths of 1: either there is capacity, or there is no link and every distance is 0
-pub above_unit : (net : Network) (num den units : ℕ) → is_well_formed net ≡ true → den * units ≤ num * max 1 (volume net (unit_lengths net)) →
+pub above_unit : (net : Network) (num den units : ℕ) → is_well_formed net ≡ true → den * units ≤ num * max 1 (capacity_by net (unit_lengths net)) →
     (link_count net ≡ 0 → units ≡ 0) → den * units ≤ num * total_capacity net
 above_unit net num den units formed above idle =
     elim (cases_lt 0 (total_capacity net)) [
       | inl some ↦
-          let whole : max 1 (volume net (unit_lengths net)) ≡ total_capacity net = ap (λ x. max 1 x) (unit_volume net) ∙ omega arith in
-          let same : num * max 1 (volume net (unit_lengths net)) ≡ num * total_capacity net = ap (λ x. num * x) whole in
+          let whole : max 1 (capacity_by net (unit_lengths net)) ≡ total_capacity net = ap (λ x. max 1 x) (unit_capacity net) ∙ omega arith in
+          let same : num * max 1 (capacity_by net (unit_lengths net)) ≡ num * total_capacity net = ap (λ x. num * x) whole in
           omega (arith, above, same)
       | inr none ↦
           let zero' : den * units ≡ 0 = ap (λ x. den * x) (idle (no_links net formed (omega arith))) ∙ omega arith in

@@ -16,12 +16,12 @@ use Rattle.te_model.specs.Network.{is_well_formed, node_count, link_count, tail_
 use Rattle.te_model.specs.Path.{source_of, destination_of, routes_at, no_routes}
 use Rattle.te_model.specs.PathRouting.{IsPathSplit, IsPathRouting}
 use Rattle.shortest_path.specs.Paths.{ArePotentials}
-use Rattle.routing.proofs.LowestPaths.{links_join}
-use Rattle.ratio_certificate.specs.Tables.{ArePairDistances}
-use Rattle.ratio_certificate.proofs.Distances.{distance_known, path_of_pair}
-use Rattle.ratio_certificate.proofs.Lengths.{potentials_small}
+use Rattle.te_model.proofs.WellFormed.{links_join}
+use Rattle.shortest_path.specs.Pairs.{ArePairDistances}
+use Rattle.shortest_path.proofs.PairDistances.{distance_known, path_of_pair}
+use Rattle.shortest_path.proofs.PathLengths.{potentials_small}
 use Rattle.dual_bounds.specs.Rows.{sends_from, sources_of, entry_of, distance_by, AreSourceRows}
-use Rattle.dual_bounds.proofs.Sizes.{nodes_few}
+use Rattle.te_model.proofs.WellFormed.{few_nodes}
 
 any_source : (i : ℕ) (rows : List Row) → list_any (λ r. r.source == i) rows ≡ list_any (λ s. s == i) (map (λ r. r.source) rows)
 any_source i [] = refl
@@ -161,7 +161,7 @@ row_small net lengths i potentials formed small inside are v =
     let bound : slice_index potentials v ≤ node_count net * 268435456 =
     potentials_small net lengths 268435456 i potentials (links_join net formed) inside small are v
     in
-    omega (arith, bound, nodes_few net formed)
+    omega (arith, bound, few_nodes net formed)
 
 pub distance_small : (net : Network) (routes : List PairRoutes) (lengths : List ℕ) (rows : List Row) (p : ℕ) → is_well_formed net ≡ true → PairsJoinNodes net routes →
     All (λ l. l ≤ 2 ^ 28) lengths → AreSourceRows net lengths (sources_of net routes) rows → p < length routes → distance_by rows routes p ≤ 2 ^ 36

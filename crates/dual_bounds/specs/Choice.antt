@@ -4,11 +4,12 @@ use Rattle.std.specs.List.{Contains}
 use Rattle.te_model.specs.declared.network.Network.{Network}
 use Rattle.te_model.specs.declared.bracket.Bracket.{Bracket}
 use Rattle.te_model.specs.declared.units.TheConstants.{RATIO_UNIT}
-use Rattle.dual_bounds.specs.Dual.{unit_lengths, volume, demand_by}
+use Rattle.te_model.specs.Inequalities.{capacity_by}
+use Rattle.dual_bounds.specs.Dual.{unit_lengths, demand_by}
 
 -- the bound that distances of n pairs under lengths give, in millionths, rounded down
 abbrev pub low_under : Network → ℕ → List ℕ → List ℕ → (ℕ → ℕ) → ℕ
-low_under net n demand lengths distance = demand_by n demand distance * RATIO_UNIT / max 1 (volume net lengths)
+low_under net n demand lengths distance = demand_by n demand distance * RATIO_UNIT / max 1 (capacity_by net lengths)
 
 -- the bound of a bracket, in the same way
 abbrev pub low_of : Bracket → ℕ

@@ -5,16 +5,13 @@ use Rattle.te_model.specs.declared.network.Network.{Network}
 use Rattle.te_model.specs.declared.route.PairRoutes.{PairRoutes}
 use Rattle.te_model.specs.declared.bracket.Bracket.{Bracket}
 use Rattle.te_model.specs.Counting.{sum_below}
+use Rattle.te_model.specs.Inequalities.{capacity_by}
 use Rattle.te_model.specs.Network.{link_count, capacity_of}
 use Rattle.routing.specs.Utilisation.{parts}
 
 -- a length of 1 for each link
 abbrev pub unit_lengths : Network → List ℕ
 unit_lengths net = replicate (link_count net) 1
-
--- the sum of the capacities by the lengths
-abbrev pub volume : Network → List ℕ → ℕ
-volume net lengths = sum_below (link_count net) (λ h. capacity_of net h * slice_index lengths h)
 
 -- the sum of the capacities
 abbrev pub total_capacity : Network → ℕ
@@ -29,7 +26,7 @@ pub record IsBoundBy (net : Network) (n : ℕ) (demand : List ℕ) (most : ℕ) 
   pub count : length b.lengths ≡ link_count net
   pub small : All (λ l. l ≤ 2 ^ 28) b.lengths
   pub low_num_is : b.low_num ≡ demand_by n demand distance
-  pub low_den_is : b.low_den ≡ max 1 (volume net b.lengths)
+  pub low_den_is : b.low_den ≡ max 1 (capacity_by net b.lengths)
   pub parts_are : b.parts ≡ most
 
 -- the same by some distances that the lengths make: `makes` says which these are

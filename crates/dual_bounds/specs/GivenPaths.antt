@@ -4,14 +4,15 @@ use Rattle.te_model.specs.declared.network.Network.{Network}
 use Rattle.te_model.specs.declared.route.PathShare.{PathShare}
 use Rattle.te_model.specs.declared.route.PairRoutes.{PairRoutes}
 use Rattle.te_model.specs.declared.bracket.Bracket.{Bracket}
+use Rattle.te_model.specs.declared.limits.TheConstants.{FORMAT_2}
 use Rattle.te_model.specs.Path.{routes_at}
 use Rattle.shortest_path.specs.Paths.{sum_along}
 use Rattle.dual_bounds.specs.Dual.{unit_lengths, IsDualBound}
 
--- fewer than 64 of m links, as those of a path of a network
+-- some of m links, as few as those of a path of a network
 pub record AreFewLinks (m : ℕ) (links : List ℕ) : Type 0 where
   pub inside : All (λ h. h < m) links
-  pub few : length links < 64
+  pub few : length links < FORMAT_2.nodes
 
 -- the least sum of lengths along one of the paths
 pub record IsShortest (lengths : List ℕ) (paths : List PathShare) (d : ℕ) : Type 0 where

@@ -9,7 +9,7 @@ use Rattle.te_model.specs.Network.{node_count}
 use Rattle.te_model.specs.Path.{source_of, destination_of}
 use Rattle.te_model.specs.Certificate.{row_of}
 use Rattle.shortest_path.specs.Paths.{ArePotentials}
-use Rattle.ratio_certificate.specs.Tables.{ArePairDistances}
+use Rattle.shortest_path.specs.Pairs.{ArePairDistances}
 use Rattle.dual_bounds.specs.Dual.{unit_lengths, IsDualBound}
 
 -- the least sum of lengths from its source to its destination, for each pair

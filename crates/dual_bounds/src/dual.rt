@@ -2,24 +2,9 @@
 ghost use Rattle.std.specs.Prelude.{◌≡◌, ◌^◌, ◌<◌, ◌≤◌, All, IsTrue, length, slice_index};
 ghost use Rattle.te_model.specs.Network.{is_well_formed, link_count};
 ghost use Rattle.routing.specs.Routes.{AreDemands};
-ghost use Rattle.dual_bounds.specs.Dual.{demand_by, volume, IsBoundBy};
+ghost use Rattle.dual_bounds.specs.Dual.{demand_by, IsBoundBy};
 
-use te_model::{Bracket, Items, Network, Row};
-
-/// The sum of the capacities by the lengths.
-fn volume(net: &Network, lengths: &[u64]) -> u128
-    requires network { IsTrue (is_well_formed net.now) }
-    requires lengths { length lengths.now ≡ link_count net.now }
-    requires limit { All (λ l. l ≤ 2 ^ 28) lengths.now }
-    ensures { result ≡ volume net.now lengths.now }
-{
-    let links = net.links.as_slice();
-    let mut total: u128 = 0;
-    for h in 0..links.len() {
-        total += u128::from(links[h].capacity) * u128::from(lengths[h]);
-    }
-    total
-}
+use te_model::{Bracket, Items, Network, Row, capacity_by};
 
 /// The sum of the demands of the pairs by their distances.
 fn demand_by(demand: &[u64], distances: &[u64]) -> u128
@@ -53,7 +38,7 @@ pub fn bracket_by(
     ensures rows { result.rows ≡ rows.items }
 {
     let low_num = demand_by(demand, distances);
-    let low_den = volume(net, &lengths).max(1);
+    let low_den = capacity_by(net, &lengths).max(1);
     Bracket {
         low_num,
         low_den,

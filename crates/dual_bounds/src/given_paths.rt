@@ -13,20 +13,17 @@ ghost use Rattle.dual_bounds.specs.GivenPaths.{paths_of, AreFewLinks, AreShortes
 use crate::choice::better;
 use crate::dual::bracket_by;
 use routing::Routing;
+use shortest_path::length_along;
 use std::alloc::Global;
 use te_model::{Bracket, Items, Matrix, Memory, Network, PairRoutes, PathShare};
 
-/// The sum of the lengths of the links.
-fn length_along(lengths: &[u64], links: &[u32]) -> u64
+/// The sum of the lengths along the path.
+fn length_of(lengths: &[u64], path: &PathShare) -> u64
     requires limit { All (λ l. l ≤ 2 ^ 28) lengths.now }
-    requires links { AreFewLinks (length lengths.now) links.now }
-    ensures { result ≡ sum_along lengths.now links.now }
+    requires links { AreFewLinks (length lengths.now) path.now.links }
+    ensures { result ≡ sum_along lengths.now path.now.links }
 {
-    let mut total: u64 = 0;
-    for link in links {
-        total += lengths[*link as usize];
-    }
-    total
+    length_along(lengths, path.links.as_slice()) as u64
 }
 
 /// The least sum of lengths along one of the paths, of which there is at least one.
@@ -36,9 +33,9 @@ fn shortest(lengths: &[u64], paths: &[PathShare]) -> u64
     requires links { All (λ s. AreFewLinks (length lengths.now) s.links) paths.now }
     ensures { IsShortest lengths.now paths.now result }
 {
-    let mut least = length_along(lengths, paths[0].links.as_slice());
+    let mut least = length_of(lengths, &paths[0]);
     for path in paths {
-        least = least.min(length_along(lengths, path.links.as_slice()));
+        least = least.min(length_of(lengths, path));
     }
     least
 }

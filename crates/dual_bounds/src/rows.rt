@@ -1,7 +1,7 @@
 //! Rows of distances from the sources of pairs.
 ghost use Rattle.std.specs.Prelude.{◌≡◌, ◌^◌, ◌<◌, ◌≤◌, All, IfOk, IsTrue, length};
 ghost use Rattle.te_model.specs.Network.{is_well_formed, link_count, node_count};
-ghost use Rattle.ratio_certificate.specs.Tables.{AreValues};
+ghost use Rattle.shortest_path.specs.Pairs.{AreValues};
 ghost use Rattle.dual_bounds.specs.Rows.{sends_from, sources_of, entry_of, distance_by, AreSourceRows};
 
 use shortest_path::potentials;

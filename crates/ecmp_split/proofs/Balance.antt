@@ -9,8 +9,8 @@ use Rattle.te_model.specs.Network.{node_count, link_count, tail_of, head_of, cos
 use Rattle.te_model.specs.Flow.{IsFlow, outflow, inflow, amount_at}
 use Rattle.te_model.specs.Laws.{LinksJoinNodes}
 use Rattle.te_model.proofs.Counts.{count_below-lt, count_below-bound}
+use Rattle.te_model.proofs.Conditionals.{if_other, if_true}
 use Rattle.routing.specs.Decomposition.{IsAcyclicFlow, IsNumbering}
-use Rattle.routing.proofs.LowestPaths.{if_apart, if_true}
 use Rattle.shortest_path.specs.Graph.{distance_at}
 use Rattle.ecmp_split.specs.Equal.{AreCostsTo, is_next, next_part, arriving}
 use Rattle.ecmp_split.proofs.CostsTo.{next_parts, some_next, cost_at_end, no_next_from, no_next_to}
@@ -49,7 +49,7 @@ leaves net sums flow s t is v inside other = go (distance_at sums v) refl
     go None at =
         let out : outflow net flow v ≡ 0 = end_none net flow (tail_of net) v (λ h below from. no_flow net sums flow s t is h below (no_next_from net sums h v at from)) in
         let into : inflow net flow v ≡ 0 = end_none net flow (head_of net) v (λ h below to. no_flow net sums flow s t is h below (no_next_to net sums h v at to)) in
-        let source : amount_at s SHARE_UNIT v ≡ 0 = if_apart s v SHARE_UNIT (λ e. let same = ap (distance_at sums) e in absurd (cc (same, at, is.known.1))) in
+        let source : amount_at s SHARE_UNIT v ≡ 0 = if_other s v SHARE_UNIT (λ e. let same = ap (distance_at sums) e in absurd (cc (same, at, is.known.1))) in
         omega (arith, out, into, source)
 
 -- nothing leaves the destination
@@ -76,7 +76,7 @@ balanced net sums flow s t is v inside = elim (cases_eq v t) [
       let target = if_true (t == v) SHARE_UNIT (eq-eqb t v (sym e)) in
       omega (arith, whole, at, out, stays net sums flow s t is, target)
   | inr other ↦
-      let target = if_apart t v SHARE_UNIT (λ e. other (sym e)) in
+      let target = if_other t v SHARE_UNIT (λ e. other (sym e)) in
       omega (arith, leaves net sums flow s t is v inside other, target)
 ]
 

@@ -8,42 +8,21 @@ use Rattle.te_model.specs.declared.network.Network.{Network}
 use Rattle.te_model.specs.Network.{node_count, link_count, tail_of, head_of, cost_of, no_link}
 use Rattle.te_model.specs.Path.{chains, is_distinct, nodes_visited}
 use Rattle.te_model.specs.Laws.{LinksJoinNodes}
-use Rattle.routing.proofs.LowestPaths.{sum_below-term, if_true}
+use Rattle.te_model.proofs.Conditionals.{if_true}
+use Rattle.te_model.proofs.Sums.{sum_below-term}
 use Rattle.shortest_path.specs.Costs.{costs_of}
-use Rattle.shortest_path.specs.Graph.{AtMost, distance_at}
+use Rattle.shortest_path.specs.Graph.{distance_at}
 use Rattle.shortest_path.specs.Least.{AreLeastSums, is_sum}
 use Rattle.shortest_path.specs.Paths.{IsDistance, HasPath, sum_along}
-use Rattle.shortest_path.proofs.LeastSums.{all_open, path_of_walk}
-use Rattle.shortest_path.proofs.Loops.{without_loops}
-use Rattle.shortest_path.proofs.Relaxing.{is-at_most}
-use Rattle.shortest_path.proofs.Walks.{chains_of_walk, walk_of_chains}
+use Rattle.shortest_path.specs.Links.{every_link}
+use Rattle.shortest_path.proofs.LeastSums.{distance_of_sums}
+use Rattle.shortest_path.proofs.Filling.{zero_at_start}
+use Rattle.shortest_path.proofs.Tight.{is_sum_parts}
 use Rattle.ecmp_split.specs.Equal.{AreCostsTo, is_next, is_next_of, next_count}
 
 -- the least sums over all links
-pub costs_of_sums : (net : Network) (t : ℕ) (sums : List (Option ℕ)) → AreLeastSums net (costs_of net) (replicate (link_count net) true) t sums →
-    AreCostsTo net t sums
-costs_of_sums net t sums are = record { count = are.count; each = λ v inside. go v (distance_at sums v) refl }
-  where
-    least : (v d : ℕ) → distance_at sums v ≡ Some d → (links : List ℕ) → chains net v t links ≡ true → d ≤ sum_along (costs_of net) links
-    least v d at links chain =
-        is-at_most (distance_at sums v) (sum_along (costs_of net) links) d at
-        (are.below v links (walk_of_chains net (replicate (link_count net) true) v t links (all_open net) chain))
-
-    go : (v : ℕ) (o : Option ℕ) → distance_at sums v ≡ o → IsDistance net (costs_of net) v t o
-    go v None at = λ links chain.
-        subst (λ o. AtMost o (sum_along (costs_of net) links)) at
-        (are.below v links (walk_of_chains net (replicate (link_count net) true) v t links (all_open net) chain))
-    go v (Some d) at =
-        let marks = replicate (link_count net) true in
-        let (links, walk, sum) = are.reached v d at in
-        let (p, walk_p, apart, less) = without_loops net (costs_of net) marks 0 v t links (λ h below. omega arith) walk in
-        let low : d ≤ sum_along (costs_of net) p = least v d at p (chains_of_walk net marks v t p walk_p) in
-        let high : sum_along (costs_of net) p ≤ d = elim less [
-          | inl e ↦ omega (arith, ap (sum_along (costs_of net)) e, sum)
-          | inr lt ↦ omega (arith, lt, sum)
-        ]
-        in
-        ((p, path_of_walk net marks v t p walk_p apart, omega (arith, low, high)), least v d at)
+pub costs_of_sums : (net : Network) (t : ℕ) (sums : List (Option ℕ)) → AreLeastSums net (costs_of net) (every_link net) t sums → AreCostsTo net t sums
+costs_of_sums net t sums are = record { count = are.count; each = λ v inside. distance_of_sums net (costs_of net) t sums are v }
 
 -- no path leads from a node without a cost, and one from a node with a cost
 pub no_cost_no_path : (net : Network) (s t : ℕ) (sums : List (Option ℕ)) → AreCostsTo net t sums → s < node_count net → distance_at sums s ≡ None →
@@ -62,16 +41,7 @@ cost_has_path net s t x sums are inside apart at =
 
 -- the destination costs nothing
 pub cost_at_end : (net : Network) (t : ℕ) (sums : List (Option ℕ)) → AreCostsTo net t sums → t < node_count net → distance_at sums t ≡ Some 0
-cost_at_end net t sums are inside = go (distance_at sums t) (are.each t inside)
-  where
-    go : (o : Option ℕ) → IsDistance net (costs_of net) t t o → o ≡ Some 0
-    go None is = absurd (is [] (eq-eqb t t refl))
-    go (Some d) is = let low = is.1 [] (eq-eqb t t refl) in ap Some (omega (arith, low))
-
-is_sum_parts : (o p : Option ℕ) (l : ℕ) → is_sum o p l ≡ true → (y : ℕ) × (p ≡ Some y) × (o ≡ Some (l + y))
-is_sum_parts None p l is = cc
-is_sum_parts (Some a) None l is = cc
-is_sum_parts (Some a) (Some b) l is = (b, refl, ap Some (eqb-true a (l + b) is))
+cost_at_end net t sums are inside = zero_at_start net (costs_of net) t (distance_at sums t) (are.each t inside)
 
 -- the cost falls along a next link by its cost
 pub next_parts : (net : Network) (sums : List (Option ℕ)) (h : ℕ) → is_next net sums h ≡ true →

@@ -9,8 +9,9 @@ use Rattle.te_model.specs.Network.{node_count, link_count, tail_of, head_of}
 use Rattle.te_model.specs.Flow.{outflow, inflow, amount_at}
 use Rattle.te_model.specs.Laws.{LinksJoinNodes}
 use Rattle.te_model.proofs.Sums.{sum_below-same, sum_below-le, sum_below-add, sum_below-swap, sum_below-pick, sum_below-zero}
+use Rattle.te_model.proofs.Conditionals.{if_false, if_le}
 use Rattle.ecmp_split.specs.Equal.{is_next, is_next_of, next_count, next_place, equal_part, arriving, next_part}
-use Rattle.ecmp_split.proofs.Parts.{parts_sum, parts_sum-le, sum_passing, sum_below-but, if_false, if_le}
+use Rattle.ecmp_split.proofs.Parts.{parts_sum, parts_sum-le, sum_passing, sum_below-but}
 
 -- a link that is no next link gets nothing
 pub next_part-none : (net : Network) (sums : List (Option ℕ)) (flow : ℕ → ℕ) (s h : ℕ) → is_next net sums h ≡ false → next_part net sums flow s h ≡ 0

@@ -6,29 +6,17 @@ use Rattle.std.proofs.lemmas.List.{get_or_default, same_lists}
 use Rattle.te_model.specs.declared.network.Network.{Network}
 use Rattle.te_model.specs.declared.units.TheConstants.{SHARE_UNIT}
 use Rattle.te_model.specs.Network.{is_well_formed, node_count, link_count, tail_of, head_of}
-use Rattle.te_model.specs.Path.{chains, is_distinct, nodes_visited}
 use Rattle.te_model.specs.Flow.{amount_at}
 use Rattle.te_model.proofs.SoundLinks.{costs_small}
 use Rattle.te_model.proofs.Sums.{sum_below-same}
-use Rattle.routing.proofs.LowestPaths.{links_join}
+use Rattle.te_model.proofs.WellFormed.{links_join}
 use Rattle.shortest_path.specs.Costs.{costs_of}
 use Rattle.shortest_path.specs.Graph.{distance_at}
-use Rattle.shortest_path.specs.Paths.{IsDistance}
+use Rattle.shortest_path.proofs.Unique.{distance_only}
 use Rattle.ecmp_split.specs.Equal.{AreCostsTo, is_next, next_part, arriving}
 use Rattle.ecmp_split.specs.Laws.{EqualSplitsAreOne}
 use Rattle.ecmp_split.proofs.Balance.{rank, rank_rises}
 use Rattle.ecmp_split.proofs.NodeSums.{next_part-kept, next_part-none}
-
-one_distance : (net : Network) (lengths : List ℕ) (s t : ℕ) (o p : Option ℕ) → IsDistance net lengths s t o → IsDistance net lengths s t p → o ≡ p
-one_distance net lengths s t None None is other = refl
-one_distance net lengths s t None (Some e) is other =
-    absurd (is other.0.0 (and_parts (chains net s t other.0.0) (is_distinct (nodes_visited net s other.0.0)) other.0.1).0)
-one_distance net lengths s t (Some d) None is other =
-    absurd (other is.0.0 (and_parts (chains net s t is.0.0) (is_distinct (nodes_visited net s is.0.0)) is.0.1).0)
-one_distance net lengths s t (Some d) (Some e) is other =
-    let low = is.1 other.0.0 (and_parts (chains net s t other.0.0) (is_distinct (nodes_visited net s other.0.0)) other.0.1).0 in
-    let high = other.1 is.0.0 (and_parts (chains net s t is.0.0) (is_distinct (nodes_visited net s is.0.0)) is.0.1).0 in
-    ap Some (omega (arith, low, high, is.0.2, other.0.2))
 
 one_costs : (net : Network) (t : ℕ) (sums other : List (Option ℕ)) → AreCostsTo net t sums → AreCostsTo net t other → sums ≡ other
 one_costs net t sums other are also = same_lists sums other (are.count ∙ sym also.count) each
@@ -37,7 +25,7 @@ one_costs net t sums other are also = same_lists sums other (are.count ∙ sym a
     each v d below =
         let inside : v < node_count net = omega (arith, are.count, below) in
         get_or_default sums v d None below
-        ∙ (one_distance net (costs_of net) v t (distance_at sums v) (distance_at other v) (are.each v inside) (also.each v inside)
+        ∙ (distance_only net (costs_of net) v t (distance_at sums v) (distance_at other v) (are.each v inside) (also.each v inside)
         ∙ get_or_default other v None d (omega (arith, also.count, inside)))
 
 -- links of which what arrives at the tail is the same have the same flow

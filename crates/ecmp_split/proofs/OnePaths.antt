@@ -4,7 +4,8 @@ use Rattle.std.proofs.lemmas.Bool.{cases_order}
 use Rattle.te_model.specs.declared.network.Network.{Network}
 use Rattle.te_model.specs.declared.route.PathShare.{PathShare}
 use Rattle.te_model.specs.Network.{link_count, head_of}
-use Rattle.routing.specs.Decomposition.{IsDecomposition, IsLeastOn, IsLowestLink, IsLowestPath, taken_on}
+use Rattle.te_model.specs.Path.{amount_on}
+use Rattle.routing.specs.Decomposition.{IsDecomposition, IsLeastOn, IsLowestLink, IsLowestPath}
 use Rattle.routing.proofs.LowestPaths.{lowest_flows}
 use Rattle.ecmp_split.specs.Laws.{MultipathSplitsAreOne}
 use Rattle.ecmp_split.proofs.OneFlow.{equal_splits_one}
@@ -62,7 +63,7 @@ one_decomposition net s t f g (p ∷ ps) (q ∷ qs) same (left, off, rest) (left
     let high = weight-le net g f s t q.links q.weight p.weight (λ h inside. sym (same h inside)) path off'.weight least in
     let weight : p.weight ≡ q.weight = omega (arith, low, high) in
     let left_same : SameFlow net left left' = λ h inside.
-    let takes = ap (λ l. taken_on l p.weight h) links ∙ ap (λ w. taken_on q.links w h) weight in
+    let takes = ap (λ l. amount_on l p.weight h) links ∙ ap (λ w. amount_on q.links w h) weight in
     omega (arith, off.rest h inside, off'.rest h inside, same h inside, takes)
     in
     let first : p ≡ q = ap (λ l. record { links = l; weight = p.weight }) links ∙ ap (λ w. record { links = q.links; weight = w }) weight in

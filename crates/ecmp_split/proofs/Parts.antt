@@ -56,22 +56,6 @@ sum_below-but (suc n) v f g below each = elim (cases_lt v n) [
       omega (arith, rest, ap f e, ap g e)
 ]
 
-pub if_zero : (b : Bool) (x : ℕ) → x ≡ 0 → (if b then x else 0) ≡ 0
-if_zero true x e = e
-if_zero false x e = refl
-
-pub if_le : (b : Bool) (x y : ℕ) → x ≤ y → (if b then x else 0) ≤ (if b then y else 0)
-if_le true x y le = le
-if_le false x y le = omega arith
-
-pub if_le-all : (b : Bool) (x : ℕ) → (if b then x else 0) ≤ x
-if_le-all true x = omega arith
-if_le-all false x = omega arith
-
-pub if_false : (b : Bool) (x : ℕ) → b ≡ false → (if b then x else 0) ≡ 0
-if_false true x e = cc
-if_false false x e = refl
-
 -- a part is at most the units and one
 pub equal_part-le : (x j r : ℕ) → 0 < j → equal_part x j r ≤ x + 1
 equal_part-le x j r some = grind (arith, nat_tests)

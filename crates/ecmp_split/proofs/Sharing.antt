@@ -13,7 +13,7 @@ use Rattle.te_model.specs.Network.{node_count, link_count, tail_of, head_of, cos
 use Rattle.te_model.specs.Flow.{amount_at}
 use Rattle.te_model.specs.Laws.{LinksJoinNodes}
 use Rattle.te_model.proofs.Sums.{sum_below-same}
-use Rattle.routing.proofs.LowestPaths.{if_apart, if_true}
+use Rattle.te_model.proofs.Conditionals.{if_other, if_true, if_zero, if_false, if_le-self}
 use Rattle.shortest_path.specs.Graph.{distance_at}
 use Rattle.ecmp_split.specs.declared.next.NextLink.{NextLink}
 use Rattle.ecmp_split.specs.Equal.{is_next, next_count, next_place, next_part, equal_part, arriving}
@@ -21,7 +21,7 @@ use Rattle.ecmp_split.specs.Next.{IsNextLink, AreNextLinks, times}
 use Rattle.ecmp_split.proofs.Collecting.{times_push, one_same, one_other}
 use Rattle.ecmp_split.proofs.CostsTo.{counted_at_tail, next_parts}
 use Rattle.ecmp_split.proofs.NodeSums.{end_none, few_units, next_part-kept, next_part-none}
-use Rattle.ecmp_split.proofs.Parts.{sum_below-except, if_zero, if_false, if_le-all}
+use Rattle.ecmp_split.proofs.Parts.{sum_below-except}
 
 pub record IsWaiting (waiting : List NextLink) (flow : ℕ → ℕ) (h : ℕ) : Type 0 where
   pub once : times h waiting ≡ 1
@@ -296,9 +296,9 @@ sharing_start net sums s list waiting counts n m s_in are moved rises is_n is_m 
             ap (slice_index (set (replicate n 0) s SHARE_UNIT)) e ∙ (at ∙ (sym (if_true (s == v) SHARE_UNIT (eq-eqb s v (sym e))) ∙ sym (nothing v)))
         | inr ne ↦
             let zero = get_or-replicate n v 0 0 (omega (arith, is_n, inside)) in
-            get_or-set_other (replicate n 0) s v SHARE_UNIT 0 ne ∙ (zero ∙ (sym (if_apart s v SHARE_UNIT (λ e. ne (sym e))) ∙ sym (nothing v)))
+            get_or-set_other (replicate n 0) s v SHARE_UNIT 0 ne ∙ (zero ∙ (sym (if_other s v SHARE_UNIT (λ e. ne (sym e))) ∙ sym (nothing v)))
       ];
-      few = λ v inside. omega (arith, nothing v, if_le-all (s == v) SHARE_UNIT);
+      few = λ v inside. omega (arith, nothing v, if_le-self (s == v) SHARE_UNIT);
     }
   where
     count : (h : ℕ) → h < link_count net → times h waiting ≡ (if is_next net sums h then 1 else 0)

@@ -1,12 +1,13 @@
 //! The demand of each pair follows the equal split of its flow.
 ghost use Rattle.std.specs.Prelude.{◌≡◌};
+ghost use Rattle.te_model.specs.declared.limits.TheConstants.{FORMAT_2};
 ghost use Rattle.ecmp_split.specs.Rule.{IsMultipathSplit};
 
 use crate::splitting::split;
 use routing::{Routing, decompose};
 use scheme::{Oblivious, PairSplit, Scheme, SchemeFault, fixed_routing};
 use std::alloc::Global;
-use te_model::{Matrix, Memory, Network, Pair, Pairs, PathShare};
+use te_model::{FORMAT_2, Matrix, Memory, Network, Pair, Pairs, PathShare};
 
 /// Equal-cost multipath: the paths of a pair are those of its equal split, taken apart.
 #[derive(Clone, Copy, Debug, PartialEq, Eq)]
@@ -19,7 +20,7 @@ pub struct EcmpPlan {
 }
 
 impl PairSplit for Ecmp {
-    ghost limit = { 1024 };
+    ghost limit = { FORMAT_2.links };
 
     ghost splits = { λ _. IsMultipathSplit };
 
@@ -46,13 +47,13 @@ impl Scheme for Ecmp {
 
     type Note = ();
 
-    ghost PATHS = { 1024 };
+    ghost PATHS = { FORMAT_2.links };
 
-    ghost is_plan = { λ _ net pairs plan. IsRoutingBy IsMultipathSplit 1024 net pairs plan.routing.routes };
+    ghost is_plan = { λ _ net pairs plan. IsRoutingBy IsMultipathSplit FORMAT_2.links net pairs plan.routing.routes };
 
     ghost relates = { λ _ net _ plan _ routes _. IsFixedRouting IsMultipathSplit net plan.routing.routes routes };
 
-    const PATHS: u32 = 1024;
+    const PATHS: u32 = FORMAT_2.links as u32;
 
     fn prepare(
         &self,

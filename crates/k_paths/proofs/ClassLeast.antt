@@ -6,6 +6,7 @@ use Rattle.std.proofs.Math.Seq.{take-append_seam}
 use Rattle.te_model.specs.declared.network.Network.{Network}
 use Rattle.te_model.specs.Network.{link_count, tail_of, head_of}
 use Rattle.te_model.specs.Path.{chains, is_distinct, has_number, nodes_visited}
+use Rattle.te_model.proofs.Chains.{chains-append}
 use Rattle.shortest_path.specs.Links.{Walk, is_open}
 use Rattle.shortest_path.specs.Least.{IsLeastWalk}
 use Rattle.shortest_path.proofs.Walks.{chains_of_walk}
@@ -13,7 +14,7 @@ use Rattle.shortest_path.proofs.Tight.{least_walk_apart}
 use Rattle.k_paths.specs.Classes.{InClass, IsLeastOfClass, AreClassMarks}
 use Rattle.shortest_path.specs.Costs.{costs_of, IsBefore}
 use Rattle.k_paths.proofs.Ordering.{below-append}
-use Rattle.k_paths.proofs.Visits.{heads, nodes_visited-is, heads-append, distinct-apart, distinct-append, distinct-right, chains-append, chains-before, chains-end}
+use Rattle.k_paths.proofs.Visits.{heads, nodes_visited-is, heads-append, distinct-apart, distinct-append, distinct-right, chains-before, chains-end}
 
 pub chains-same_end : (net : Network) (s v w : ℕ) (p : List ℕ) → chains net s v p ≡ true → chains net s w p ≡ true → v ≡ w
 chains-same_end net s v w [] one two = sym (eqb-true s v one) ∙ eqb-true s w two

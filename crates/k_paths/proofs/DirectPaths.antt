@@ -10,22 +10,23 @@ use Rattle.te_model.specs.declared.network.Network.{Network}
 use Rattle.te_model.specs.Network.{link_count, tail_of, head_of, no_link}
 use Rattle.te_model.specs.Path.{chains, is_path, is_distinct, has_number, nodes_visited}
 use Rattle.te_model.specs.Validity.{list_below}
+use Rattle.te_model.proofs.Chains.{chains-append, walk_links}
 use Rattle.shortest_path.specs.Costs.{costs_of, IsBefore}
 use Rattle.shortest_path.specs.Graph.{distance_at}
 use Rattle.shortest_path.specs.Least.{AreLeastSums, IsLeastWalk}
-use Rattle.shortest_path.specs.Links.{Walk}
+use Rattle.shortest_path.specs.Links.{Walk, every_link}
 use Rattle.shortest_path.specs.Paths.{sum_along, IsBelow}
 use Rattle.shortest_path.proofs.Relaxing.{at_most-some}
 use Rattle.shortest_path.proofs.Tight.{least_walk_apart}
 use Rattle.shortest_path.proofs.Walks.{chains_of_walk, walk_of_chains}
 use Rattle.k_paths.specs.declared.ways.Ways.{Ways}
 use Rattle.k_paths.specs.Classes.{InClass, IsLeastOfClass, is_allowed_link}
-use Rattle.k_paths.specs.Ways.{AreWays, IsFirstLeastAt, IsLeastWay, every_link, is_visited, plus, sum_over}
+use Rattle.k_paths.specs.Ways.{AreWays, IsFirstLeastAt, IsLeastWay, is_visited, plus, sum_over}
 use Rattle.k_paths.proofs.Ordering.{below-append}
-use Rattle.k_paths.proofs.Visits.{heads, nodes_visited-is, distinct-apart, distinct-append, chains-append, chains-before, visits-is}
+use Rattle.k_paths.proofs.Visits.{heads, nodes_visited-is, distinct-apart, distinct-append, chains-before, visits-is}
 use Rattle.k_paths.proofs.ClassLeast.{chains-same_end, visited-append}
 use Rattle.k_paths.proofs.LeastWays.{every_open}
-use Rattle.k_paths.proofs.Prefixes.{IsPrefix, chain_links, prefix_of_path}
+use Rattle.k_paths.proofs.Prefixes.{IsPrefix, prefix_of_path}
 
 sum_parts : (b : Bool) (cost x : ℕ) (o : Option ℕ) → (if b then plus cost o else None) ≡ Some x → (b ≡ true) × ((y : ℕ) × (o ≡ Some y) × (x ≡ cost + y))
 sum_parts true cost x None is = cc
@@ -220,5 +221,5 @@ direct_some net ways s links i barred w h x are path below first least none =
       subst (λ n. take n (take i links ++ h ∷ w) ≡ take i links) len (take-append_seam (take i links) (h ∷ w)),
     )
 
-pub walk_links : (net : Network) (marks : List Bool) (u t : ℕ) (links : List ℕ) → Walk net marks u t links → All (λ h. h < link_count net) links
-walk_links net marks u t links walk = chain_links net u t links (chains_of_walk net marks u t links walk)
+pub links_of_walk : (net : Network) (marks : List Bool) (u t : ℕ) (links : List ℕ) → Walk net marks u t links → All (λ h. h < link_count net) links
+links_of_walk net marks u t links walk = walk_links net u t links (chains_of_walk net marks u t links walk)

@@ -6,8 +6,8 @@ use Rattle.te_model.specs.declared.route.PathShare.{PathShare}
 use Rattle.shortest_path.specs.Paths.{HasPath}
 use Rattle.shortest_path.proofs.LeastSums.{path_of_chains}
 use Rattle.scheme.specs.Fixed.{IsSplitBy}
-use Rattle.even_mix.specs.Even.{IsEvenMix}
-use Rattle.even_mix.proofs.EvenSplits.{even_few, even_split}
+use Rattle.routing.specs.Even.{IsEvenMix}
+use Rattle.routing.proofs.EvenSplits.{even_few, even_split}
 use Rattle.k_paths.specs.Classes.{AreLeast}
 use Rattle.k_paths.specs.Even.{IsEvenSplit}
 

@@ -5,12 +5,12 @@ use Rattle.std.proofs.lemmas.Bool.{cases_eq, cases_lt, and_from, and_left, and_r
 use Rattle.std.proofs.lemmas.List.{length-replicate, length-set, get_or-replicate, get_or-set_same, get_or-set_other}
 use Rattle.te_model.specs.declared.network.Network.{Network}
 use Rattle.te_model.specs.Network.{node_count, link_count, tail_of, head_of}
-use Rattle.shortest_path.specs.Links.{is_open}
+use Rattle.shortest_path.specs.Links.{is_open, every_link}
 use Rattle.shortest_path.specs.Graph.{distance_at}
 use Rattle.shortest_path.specs.Least.{is_sum, is_tight}
 use Rattle.shortest_path.proofs.Walks.{AllOpen}
 use Rattle.shortest_path.proofs.LeastSums.{all_open}
-use Rattle.k_paths.specs.Ways.{every_link, first_at, IsFirstTightBelow, AreFirstLinks, IsFirstLeastAt}
+use Rattle.k_paths.specs.Ways.{first_at, IsFirstTightBelow, AreFirstLinks, IsFirstLeastAt}
 
 pub every_open : (net : Network) → AllOpen net (every_link net)
 every_open net = all_open net

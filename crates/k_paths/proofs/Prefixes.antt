@@ -15,16 +15,6 @@ use Rattle.k_paths.proofs.Visits.{heads, nodes_visited-is, distinct-left, distin
 use Rattle.k_paths.proofs.ClassLeast.{visited-append, class_least, class_none}
 use Rattle.k_paths.proofs.Deviating.{split_at}
 
-pub chain_links : (net : Network) (s t : ℕ) (links : List ℕ) → chains net s t links ≡ true → All (λ h. h < link_count net) links
-chain_links net s t [] chain = All-nil (λ h. h < link_count net)
-chain_links net s t (h ∷ hs) chain =
-    let outer = and_parts (nat_lt h (link_count net) && tail_of net h == s) (chains net (head_of net h) t hs) chain in
-    All-cons (λ h. h < link_count net) h hs (ltb-true h (link_count net) (and_parts (nat_lt h (link_count net)) (tail_of net h == s) outer.0).0)
-    (chain_links net (head_of net h) t hs outer.1)
-
-pub path_links : (net : Network) (s t : ℕ) (links : List ℕ) → is_path net s t links ≡ true → All (λ h. h < link_count net) links
-path_links net s t links path = chain_links net s t links (and_parts (chains net s t links) (is_distinct (nodes_visited net s links)) path).0
-
 -- what is known of the first links of a path and of the node to which they lead
 pub record IsPrefix (net : Network) (s t v : ℕ) (prefix : List ℕ) : Type 0 where
   pub chain : chains net s v prefix ≡ true

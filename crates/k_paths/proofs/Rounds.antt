@@ -9,13 +9,13 @@ use Rattle.std.proofs.lemmas.List.Quantifiers.{all_pairs_push}
 use Rattle.te_model.specs.declared.network.Network.{Network}
 use Rattle.te_model.specs.Network.{link_count}
 use Rattle.te_model.specs.Path.{is_path}
+use Rattle.te_model.proofs.Chains.{path_links}
 use Rattle.shortest_path.specs.Paths.{IsBelow}
 use Rattle.k_paths.specs.declared.candidate.Candidate.{Candidate}
 use Rattle.k_paths.specs.Classes.{AreLeast}
 use Rattle.shortest_path.specs.Costs.{costs_of, HasCosts, IsBefore}
 use Rattle.k_paths.specs.Search.{IsSearch, IsOf, IsLeastCandidate, AreFirst, links_at, no_candidate}
 use Rattle.k_paths.proofs.Ordering.{below-trans}
-use Rattle.k_paths.proofs.Prefixes.{path_links}
 
 -- what holds of the found paths, and the search as long as paths are missing
 pub record FoundSoFar (net : Network) (s t k : ℕ) (found : List (List ℕ)) (candidates : List Candidate) : Type 0 where

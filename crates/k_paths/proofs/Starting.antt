@@ -4,7 +4,8 @@ use Rattle.std.proofs.lemmas.Bool.{and_parts, eqb-true}
 use Rattle.std.proofs.lemmas.List.Elements.{All-nil, All-get_or, Contains-push, Contains-push_cases}
 use Rattle.te_model.specs.declared.network.Network.{Network}
 use Rattle.te_model.specs.Network.{link_count}
-use Rattle.te_model.specs.Path.{chains, is_path, is_distinct, nodes_visited}
+use Rattle.te_model.specs.Path.{chains, is_path}
+use Rattle.te_model.proofs.Chains.{chains_of_path}
 use Rattle.shortest_path.specs.Paths.{IsBelow}
 use Rattle.shortest_path.specs.Least.{IsLeastWalk}
 use Rattle.shortest_path.proofs.Walks.{AllOpen, walk_of_chains}
@@ -28,9 +29,6 @@ first_kept costs x y not_below = elim (below-cases costs x y) [
   | inl e ↦ inl e
   | inr other ↦ elim other [ inl below ↦ absurd (not_below below) | inr above ↦ inr above ]
 ]
-
-chains_of_path : (net : Network) (s t : ℕ) (q : List ℕ) → is_path net s t q ≡ true → chains net s t q ≡ true
-chains_of_path net s t q path = (and_parts (chains net s t q) (is_distinct (nodes_visited net s q)) path).0
 
 pub search_none : (net : Network) (marks : List Bool) (costs : List ℕ) (s t : ℕ) → AllOpen net marks →
     IsLeastWalk net costs marks s t None → IsSearch net s t [] []

@@ -4,6 +4,7 @@ use Rattle.std.specs.Prelude.{MatchOption}
 use Rattle.std.proofs.lemmas.Bool.{cases_eq, cases_lt}
 use Rattle.std.proofs.lemmas.List.{length-replicate, length-set, get_or-replicate, get_or_past, get_or-set_same, get_or-set_other}
 use Rattle.te_model.specs.declared.network.Network.{Network}
+use Rattle.te_model.specs.declared.limits.TheConstants.{FORMAT_2}
 use Rattle.te_model.specs.Network.{node_count, link_count, tail_of, head_of}
 use Rattle.shortest_path.specs.Graph.{AtMost, distance_at}
 use Rattle.shortest_path.specs.Least.{AreLeastSums}
@@ -92,7 +93,7 @@ lowered_more net costs marks t h y fell old sums so inside tail_in small_cost op
     }
 
 pub lowered_sums : (net : Network) (costs : List ℕ) (marks : List Bool) (t h : ℕ) (fell : Bool) (old sums : List (Option ℕ)) →
-    LoweredSoFar net costs marks t h fell old sums → h ≤ 512 → (n : ℕ) → AreWalkSums net costs marks t n old → AreWalkSums net costs marks t (n + 65535 * 512) sums
+    LoweredSoFar net costs marks t h fell old sums → h ≤ FORMAT_2.links → (n : ℕ) → AreWalkSums net costs marks t n old → AreWalkSums net costs marks t (n + 65535 * FORMAT_2.links) sums
 lowered_sums net costs marks t h fell old sums so few n were =
     let now = so.are n were in
     record {

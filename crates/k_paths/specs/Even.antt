@@ -3,7 +3,7 @@ use Rattle.std.specs.Prelude.{ℕ, List}
 use Rattle.te_model.specs.declared.network.Network.{Network}
 use Rattle.te_model.specs.declared.route.Pair.{Pair}
 use Rattle.te_model.specs.declared.route.PathShare.{PathShare}
-use Rattle.even_mix.specs.Even.{IsEvenMix}
+use Rattle.routing.specs.Even.{IsEvenMix}
 use Rattle.k_paths.specs.Classes.{AreLeast}
 
 -- the unit of shares is apportioned evenly over the k least paths, in their order

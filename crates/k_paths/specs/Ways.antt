@@ -7,12 +7,9 @@ use Rattle.te_model.specs.Network.{node_count, link_count, tail_of, head_of, no_
 use Rattle.shortest_path.specs.Costs.{HasCosts}
 use Rattle.shortest_path.specs.Graph.{distance_at}
 use Rattle.shortest_path.specs.Least.{AreLeastSums, IsLeastWalk, is_tight}
+use Rattle.shortest_path.specs.Links.{every_link}
 use Rattle.k_paths.specs.declared.ways.Ways.{Ways}
 use Rattle.k_paths.specs.Classes.{is_allowed_link}
-
--- marks by which every link is open
-abbrev pub every_link : Network → List Bool
-every_link net = replicate (link_count net) true
 
 -- the first of the links below m that are tight at u, or none where none of them is
 abbrev pub IsFirstTightBelow : Network → List ℕ → List (Option ℕ) → ℕ → ℕ → Option ℕ → Type 0

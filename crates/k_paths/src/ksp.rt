@@ -3,8 +3,7 @@ ghost use Rattle.std.specs.Prelude.{◌≡◌, ◌≤◌};
 ghost use Rattle.k_paths.specs.Even.{IsEvenSplit};
 
 use crate::least::k_least;
-use even_mix::even_mix;
-use routing::Routing;
+use routing::{Routing, even_mix};
 use scheme::{Oblivious, PairSplit, Scheme, SchemeFault, fixed_routing};
 use std::alloc::Global;
 use te_model::{Matrix, Memory, Network, Pair, Pairs, PathShare};

@@ -1,5 +1,6 @@
 //! The least sums of costs to one node, by rounds over the links (Bellman, 1958).
 ghost use Rattle.std.specs.Prelude.{◌≡◌, ◌+◌, ◌*◌, ◌^◌, ◌<◌, ◌≤◌, ℕ, All, IfOk, MatchBool, MatchOption, Some, false, length};
+ghost use Rattle.te_model.specs.declared.limits.TheConstants.{FORMAT_2};
 ghost use Rattle.te_model.specs.Network.{link_count, node_count};
 ghost use Rattle.shortest_path.specs.Graph.{AtMost};
 ghost use Rattle.shortest_path.specs.Least.{AreLeastSums};
@@ -39,7 +40,7 @@ fn lower(net: &Network, costs: &[u64], open: &[bool], dst: u32, sums: &mut [Opti
     requires marks { length «open».now ≡ link_count net.now }
     requires limit { All (λ c. c ≤ 65535) costs.now }
     requires sums { AreWalkSums net.now costs.now «open».now dst (2 ^ 40) sums.old }
-    ensures sums { (n : ℕ) → AreWalkSums net.now costs.now «open».now dst n sums.old → AreWalkSums net.now costs.now «open».now dst (n + 65535 * 512) sums.new }
+    ensures sums { (n : ℕ) → AreWalkSums net.now costs.now «open».now dst n sums.old → AreWalkSums net.now costs.now «open».now dst (n + 65535 * FORMAT_2.links) sums.new }
     ensures taut { result ≡ false → (h : ℕ) → h < link_count net.now → IsTaut net.now costs.now «open».now sums.new h }
 {
     let links = net.links.as_slice();

@@ -1,6 +1,6 @@
 -- What the routing of the rounds and the candidates have together, and where the pairs of a routing end.
-use Rattle.std.proofs.Common.{inl, inr, ◌≡◌, ℕ, suc, ◌+◌, ◌<◌, List, [], ◌∷◌, ◌++◌, length, get_or, arith, ap, sym, ◌∙◌, subst}
-use Rattle.std.proofs.lemmas.List.{get_or-map, get_or_append_left, length-append, length-map}
+use Rattle.std.proofs.Common.{inl, inr, ℕ, suc, ◌+◌, ◌<◌, List, [], ◌∷◌, ◌++◌, length, get_or, arith, ap, sym, ◌∙◌, subst}
+use Rattle.std.proofs.lemmas.List.{get_or-map, get_or_append_left, length-append}
 use Rattle.te_model.specs.declared.network.Network.{Network}
 use Rattle.te_model.specs.declared.route.Pair.{Pair}
 use Rattle.te_model.specs.declared.route.PathShare.{PathShare}
@@ -12,9 +12,10 @@ use Rattle.routing.specs.Merge.{HasLinks, no_path}
 use Rattle.routing.specs.Routes.{HasFewPaths, IsRoutingOf}
 use Rattle.scheme.specs.Fixed.{IsRoutingBy}
 use Rattle.scheme.specs.Reach.{ArePairsOf}
-use Rattle.even_mix.proofs.EvenSplits.{even_few}
+use Rattle.routing.proofs.EvenSplits.{even_few}
+use Rattle.routing.proofs.InOrder.{routes_count}
 use Rattle.k_paths.specs.Even.{IsEvenSplit}
-use Rattle.rate_moves.specs.Moves.{HaveFewTogether}
+use Rattle.local_search.specs.Moves.{HaveFewTogether}
 
 has_front : (xs ys : List PathShare) (links : List ℕ) → HasLinks xs links → HasLinks (xs ++ ys) links
 has_front xs ys links (k, below, at) =
@@ -25,10 +26,6 @@ has_back [] ys links has = has
 has_back (x ∷ xs) ys links has =
     let (k, below, at) = has_back xs ys links has in
     (suc k, omega (arith, below), at)
-
--- as many routes as pairs
-pub routes_count : (net : Network) (pairs : List Pair) (routes : List PairRoutes) → IsRoutingOf net pairs routes → length routes ≡ length pairs
-routes_count net pairs routes is = sym (length-map routes (λ (r : PairRoutes). r.pair)) ∙ ap (λ (l : List Pair). length l) is.in_order
 
 -- a pair has no more candidates than least paths are asked for
 candidates_few : (k : ℕ) (net : Network) (pairs : List Pair) (routes : List PairRoutes) → IsRoutingBy (IsEvenSplit k) 32 net pairs routes → HasFewPaths k routes
@@ -43,7 +40,7 @@ pub few_together : (net : Network) (pairs : List Pair) (first k : ℕ) (start ca
 few_together net pairs first k start candidates is few by = λ p inside.
     let xs = (routes_at start p).paths in
     let ys = (routes_at candidates p).paths in
-    let there : p < length candidates = omega (arith, inside, routes_count net pairs start is, routes_count net pairs candidates by.routing) in
+    let there : p < length candidates = omega (arith, inside, routes_count pairs start is.in_order, routes_count pairs candidates by.routing.in_order) in
     let own = few p no_routes inside in
     let other = candidates_few k net pairs candidates by p no_routes there in (
       xs ++ ys,
@@ -54,7 +51,7 @@ few_together net pairs first k start candidates is few by = λ p inside.
 -- the pairs of a routing are pairs of nodes
 pub pairs_join_nodes : (net : Network) (pairs : List Pair) (routes : List PairRoutes) → ArePairsOf net pairs → IsRoutingOf net pairs routes → PairsJoinNodes net routes
 pairs_join_nodes net pairs routes are is = λ p inside.
-    let there : p < length pairs = omega (arith, inside, routes_count net pairs routes is) in
+    let there : p < length pairs = omega (arith, inside, routes_count pairs routes is.in_order) in
     let same = sym (get_or-map (λ (r : PairRoutes). r.pair) routes p no_routes no_routes.pair inside) ∙ ap (λ (l : List Pair). get_or l p no_routes.pair) is.in_order in
     let pair = are.each p no_routes.pair there in
     (subst (λ (q : Pair). q.src < node_count net) (sym same) pair.src_inside, subst (λ (q : Pair). q.dst < node_count net) (sym same) pair.dst_inside)

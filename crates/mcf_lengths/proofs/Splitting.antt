@@ -10,31 +10,31 @@ use Rattle.te_model.specs.Path.{is_path}
 use Rattle.shortest_path.specs.Paths.{IsLeastPath}
 use Rattle.scheme.specs.Fixed.{IsSplitBy}
 use Rattle.scheme.specs.Reach.{pair_at}
-use Rattle.even_mix.specs.Even.{IsEvenMix}
-use Rattle.even_mix.proofs.EvenSplits.{even_few, even_split}
-use Rattle.mcf_lengths.specs.declared.round.Round.{Round}
+use Rattle.routing.specs.Even.{IsEvenMix}
+use Rattle.routing.proofs.EvenSplits.{even_few, even_split}
+use Rattle.mcf_lengths.specs.declared.round.FlowRound.{FlowRound}
 use Rattle.mcf_lengths.specs.declared.round.TheConstants.{ROUNDS}
-use Rattle.mcf_lengths.specs.Rounds.{AreLeastPaths, AreRoundPaths, IsRoundsSplit, links_in, no_round, paths_in, paths_of_pair, round_at}
+use Rattle.mcf_lengths.specs.Rounds.{AreLeastPaths, AreRoundPaths, IsRoundsSplit, links_in, no_flow_round, paths_in, paths_of_pair, flow_round_at}
 
 -- the paths of pair p are its least paths in the rounds
-pair_paths : (net : Network) (pairs : List Pair) (rounds : List Round) (p : ℕ) → All (λ r. AreLeastPaths net r.lengths pairs (paths_in r)) rounds → p < length pairs →
+pair_paths : (net : Network) (pairs : List Pair) (rounds : List FlowRound) (p : ℕ) → All (λ r. AreLeastPaths net r.lengths pairs (paths_in r)) rounds → p < length pairs →
     AreRoundPaths net rounds (pair_at pairs p) (paths_of_pair rounds p)
 pair_paths net pairs rounds p least inside = record {
-  count = length-map rounds (λ (r : Round). get_or (paths_in r) p []);
+  count = length-map rounds (λ (r : FlowRound). get_or (paths_in r) p []);
   each = λ j below.
-      let at : get_or (paths_of_pair rounds p) j [] ≡ get_or (paths_in (round_at rounds j)) p [] =
-      get_or-map (λ (r : Round). get_or (paths_in r) p []) rounds j no_round [] below
+      let at : get_or (paths_of_pair rounds p) j [] ≡ get_or (paths_in (flow_round_at rounds j)) p [] =
+      get_or-map (λ (r : FlowRound). get_or (paths_in r) p []) rounds j no_flow_round [] below
       in
-      let here = All-get_or (λ (r : Round). AreLeastPaths net r.lengths pairs (paths_in r)) rounds j no_round below least in
-      subst (λ l. IsLeastPath net (round_at rounds j).lengths (pair_at pairs p).src (pair_at pairs p).dst (Some l)) (sym at) (here.each p inside);
+      let here = All-get_or (λ (r : FlowRound). AreLeastPaths net r.lengths pairs (paths_in r)) rounds j no_flow_round below least in
+      subst (λ l. IsLeastPath net (flow_round_at rounds j).lengths (pair_at pairs p).src (pair_at pairs p).dst (Some l)) (sym at) (here.each p inside);
 }
 
-sound_paths : (net : Network) (rounds : List Round) (pair : Pair) (paths : List (List ℕ)) → AreRoundPaths net rounds pair paths →
+sound_paths : (net : Network) (rounds : List FlowRound) (pair : Pair) (paths : List (List ℕ)) → AreRoundPaths net rounds pair paths →
     All (λ p. IsTrue (is_path net pair.src pair.dst p)) paths
 sound_paths net rounds pair paths are = All-from_get_or (λ (p : List ℕ). IsTrue (is_path net pair.src pair.dst p)) paths [] (λ j below.
     (are.each j (omega (arith, below, are.count))).0)
 
-pub rounds_split : (net : Network) (pairs : List Pair) (rounds : List Round) (p : ℕ) (merged : List PathShare) → length rounds ≡ ROUNDS →
+pub rounds_split : (net : Network) (pairs : List Pair) (rounds : List FlowRound) (p : ℕ) (merged : List PathShare) → length rounds ≡ ROUNDS →
     All (λ r. AreLeastPaths net r.lengths pairs (paths_in r)) rounds → p < length pairs → IsEvenMix (paths_of_pair rounds p) merged →
     IsSplitBy (IsRoundsSplit rounds) ROUNDS net (record { pair = pair_at pairs p; paths = merged })
 rounds_split net pairs rounds p merged count least inside so =
@@ -48,8 +48,8 @@ rounds_split net pairs rounds p merged count least inside so =
     }
 
 -- each round has a path of each pair
-pub has_path_of : (net : Network) (pairs : List Pair) (rounds : List Round) (p : ℕ) → All (λ r. AreLeastPaths net r.lengths pairs (paths_in r)) rounds → p < length pairs →
+pub has_path_of : (net : Network) (pairs : List Pair) (rounds : List FlowRound) (p : ℕ) → All (λ r. AreLeastPaths net r.lengths pairs (paths_in r)) rounds → p < length pairs →
     All (λ r. p < length r.paths) rounds
 has_path_of net pairs rounds p least inside =
-    All-weaker (λ (r : Round). AreLeastPaths net r.lengths pairs (paths_in r)) (λ (r : Round). p < length r.paths)
+    All-weaker (λ (r : FlowRound). AreLeastPaths net r.lengths pairs (paths_in r)) (λ (r : FlowRound). p < length r.paths)
     (λ r are. omega (arith, are.count, length-map r.paths links_in, inside)) rounds least

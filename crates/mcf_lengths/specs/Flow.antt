@@ -9,7 +9,7 @@ use Rattle.routing.specs.Utilisation.{parts}
 use Rattle.scheme.specs.Fixed.{IsRoutingBy}
 use Rattle.scheme.specs.Reach.{AllReached, ArePairsOf}
 use Rattle.k_paths.specs.Even.{IsEvenSplit}
-use Rattle.rate_moves.specs.Moves.{IsStable}
+use Rattle.local_search.specs.Moves.{IsStable}
 use Rattle.dual_bounds.specs.Rows.{IsBracket}
 use Rattle.mcf_lengths.specs.declared.flow.McfPlan.{McfPlan}
 use Rattle.mcf_lengths.specs.Rounds.{IsRoundsRouting}

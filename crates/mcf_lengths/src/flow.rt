@@ -4,7 +4,7 @@ ghost use Rattle.std.specs.Prelude.{◌≡◌, IfOk};
 use crate::rounds::rounds_routing;
 use dual_bounds::bracket;
 use k_paths::Ksp;
-use rate_moves::settle;
+use local_search::settle;
 use routing::Routing;
 use scheme::{Scheme, SchemeFault};
 use std::alloc::Global;
@@ -15,7 +15,7 @@ const CANDIDATES: u32 = 4;
 
 /// Multicommodity flow: the routing of a matrix starts from the even mix of the least paths by lengths that grow with the loads
 /// (Garg and Könemann, 1998), and weight is then moved to the four least paths by cost until no single move helps by a stated share
-/// (`rate_moves::settle`).
+/// (`local_search::settle`).
 #[derive(Clone, Copy, Debug, PartialEq, Eq)]
 pub struct Mcf;
 

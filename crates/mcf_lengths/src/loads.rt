@@ -3,9 +3,9 @@ ghost use Rattle.std.specs.Prelude.{◌≡◌, ◌<◌, ◌^◌, All, IfOk, IsTr
 ghost use Rattle.te_model.specs.Network.{link_count};
 ghost use Rattle.te_model.specs.Path.{is_distinct};
 ghost use Rattle.routing.specs.Routes.{AreDemands};
-ghost use Rattle.growing_lengths.specs.Loads.{loads_of};
+ghost use Rattle.multiplicative_lengths.specs.Loads.{loads_of};
 
-use growing_lengths::add_along;
+use multiplicative_lengths::add_along;
 use std::alloc::Global;
 use te_model::{Matrix, Memory, Network, Path};
 

@@ -2,11 +2,11 @@
 ghost use Rattle.std.specs.Prelude.{◌≡◌, ◌≤◌, All, IfOk, IsTrue, length};
 ghost use Rattle.te_model.specs.Network.{is_well_formed, link_count};
 ghost use Rattle.scheme.specs.Reach.{AllReached, ArePairsOf};
-ghost use Rattle.mcf_lengths.specs.Rounds.{IsRoundBy};
+ghost use Rattle.mcf_lengths.specs.Rounds.{IsFlowRound};
 ghost use Rattle.mcf_lengths.specs.Sums.{MarksDestinations};
 
 use crate::paths::least_paths;
-use growing_lengths::lengths_of;
+use multiplicative_lengths::lengths_of;
 use std::alloc::Global;
 use te_model::{Items, Memory, Network, Pairs, Path};
 
@@ -15,7 +15,7 @@ pub const ROUNDS: u32 = 28;
 
 /// A round: the lengths of the links, and the path that each pair takes.
 #[derive(Drop)]
-pub struct Round {
+pub struct FlowRound {
     /// One for each link, 1 to 2^28.
     pub lengths: Items<u64>,
     /// One for each pair: its least path by (sum of lengths, list of link numbers).
@@ -32,18 +32,18 @@ pub fn make_round(
     pairs: &Pairs,
     wanted: &[bool],
     multipliers: &[u64],
-) -> Result<Round, Memory>
+) -> Result<FlowRound, Memory>
     requires network { IsTrue (is_well_formed net.now) }
     requires pairs { ArePairsOf net.now pairs.now.list }
     requires reached { AllReached net.now pairs.now.list }
     requires wanted { MarksDestinations net.now pairs.now.list wanted.now }
     requires count { length multipliers.now ≡ link_count net.now }
     requires some { All (λ m. 1 ≤ m) multipliers.now }
-    ensures { IfOk result (IsRoundBy net.now pairs.now.list multipliers.now) }
+    ensures { IfOk result (IsFlowRound net.now pairs.now.list multipliers.now) }
 {
     let lengths = lengths_of(alloc, net, multipliers)?;
     let paths = least_paths(alloc, net, pairs, wanted, &lengths)?;
-    Ok(Round {
+    Ok(FlowRound {
         lengths: Items::new(lengths),
         paths: Items::new(paths),
     })

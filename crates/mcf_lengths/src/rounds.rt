@@ -7,9 +7,9 @@ ghost use Rattle.mcf_lengths.specs.Rounds.{AreLengths, AreRoundLengths, AreRound
 
 use crate::loads::loads_of;
 use crate::paths::destinations;
-use crate::round::{ROUNDS, Round, make_round};
+use crate::round::{FlowRound, ROUNDS, make_round};
 use crate::split::routing_over;
-use growing_lengths::{first_multipliers, greatest_usage, grow};
+use multiplicative_lengths::{first_multipliers, greatest_usage, grow};
 use routing::Routing;
 use std::alloc::Global;
 use te_model::{Items, Matrix, Memory, Network, Pairs};
@@ -24,7 +24,7 @@ pub fn make_rounds(
     net: &Network,
     pairs: &Pairs,
     matrix: &Matrix,
-) -> Result<Vec<Round>, Memory>
+) -> Result<Vec<FlowRound>, Memory>
     requires network { IsTrue (is_well_formed net.now) }
     requires pairs { ArePairsOf net.now pairs.now.list }
     requires reached { AllReached net.now pairs.now.list }
@@ -46,7 +46,7 @@ pub fn make_rounds(
 }
 
 /// The lengths of the rounds, in their order.
-fn lengths_in(alloc: Global, rounds: Vec<Round>) -> Result<Vec<Items<u64>>, Memory>
+fn lengths_in(alloc: Global, rounds: Vec<FlowRound>) -> Result<Vec<Items<u64>>, Memory>
     ensures { IfOk result (λ l. l.items ≡ map (λ r. r.lengths) rounds.items) }
 {
     let mut lengths = Vec::with_capacity(alloc, rounds.len())?;

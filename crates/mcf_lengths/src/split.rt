@@ -3,14 +3,13 @@ ghost use Rattle.std.specs.Prelude.{◌≡◌, ◌<◌, All, IfOk, length, map};
 ghost use Rattle.scheme.specs.Fixed.{IsRoutingBy};
 ghost use Rattle.mcf_lengths.specs.Rounds.{AreLeastPaths, IsRoundsSplit, paths_in, paths_of_pair};
 
-use crate::round::{ROUNDS, Round};
-use even_mix::even_mix;
-use routing::Routing;
+use crate::round::{FlowRound, ROUNDS};
+use routing::{Routing, even_mix};
 use std::alloc::Global;
 use te_model::{Items, Memory, Network, PairRoutes, Pairs, Path};
 
 /// The path of the pair of this number in each round.
-fn paths_of_pair(alloc: Global, rounds: &[Round], pair: usize) -> Result<Vec<Path>, Memory>
+fn paths_of_pair(alloc: Global, rounds: &[FlowRound], pair: usize) -> Result<Vec<Path>, Memory>
     requires { All (λ r. pair < length r.paths) rounds.now }
     ensures { IfOk result (λ q. map (λ p. p.links) q.items ≡ paths_of_pair rounds.now pair) }
 {
@@ -30,7 +29,7 @@ fn paths_of_pair(alloc: Global, rounds: &[Round], pair: usize) -> Result<Vec<Pat
 pub fn routing_over(
     alloc: Global,
     net: &Network,
-    rounds: &[Round],
+    rounds: &[FlowRound],
     pairs: &Pairs,
 ) -> Result<Routing, Memory>
     requires count { length rounds.now ≡ ROUNDS }

@@ -1,9 +1,10 @@
 ghost use Rattle.std.specs.Prelude.{◌≡◌, ◌∷◌, [], IfOk};
 ghost use Rattle.mcf_lengths.specs.Rounds.{AreRounds, IsRoundsRouting};
-ghost use Rattle.mcf_lengths.specs.Samples.{link, one_pair, two_parallel_links};
+ghost use Rattle.mcf_lengths.specs.Samples.{one_pair};
+ghost use Rattle.multiplicative_lengths.specs.Samples.{link, two_parallel_links};
 
 use super::*;
-use crate::round::Round;
+use crate::round::FlowRound;
 use crate::rounds::{make_rounds, rounds_routing};
 use routing::Routing;
 use scheme::{LowNote, Scheme};
@@ -55,7 +56,7 @@ fn demands(alloc: Global) -> Result<Matrix, AllocError>
     })
 }
 
-fn sample_rounds(alloc: Global) -> Result<Vec<Round>, Memory>
+fn sample_rounds(alloc: Global) -> Result<Vec<FlowRound>, Memory>
     ensures { IfOk result (λ r. AreRounds two_parallel_links one_pair (40 ∷ []) r.items) }
 {
     let net = two_parallel_links(alloc)?;
@@ -65,7 +66,7 @@ fn sample_rounds(alloc: Global) -> Result<Vec<Round>, Memory>
 }
 
 /// Whether the first pair takes the link alone in the round.
-fn takes(round: &Round, link: u32) -> bool {
+fn takes(round: &FlowRound, link: u32) -> bool {
     match round.paths.as_slice() {
         [path] => path.links.as_slice() == [link].as_slice(),
         _ => false,

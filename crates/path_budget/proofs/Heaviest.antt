@@ -7,10 +7,10 @@ use Rattle.te_model.specs.declared.route.PathShare.{PathShare}
 use Rattle.te_model.specs.Counting.{count_below}
 use Rattle.te_model.specs.Validity.{list_below, paths_ascend}
 use Rattle.te_model.proofs.ListOrder.{list_below-trans}
-use Rattle.routing.specs.Merge.{no_path, links_at}
+use Rattle.routing.specs.Merge.{links_at, no_path, path_at}
 use Rattle.routing.specs.Split.{total_weight}
 use Rattle.routing.proofs.Ascending.{ascending_at, ascending_from}
-use Rattle.path_budget.specs.Budget.{path_at, is_heavy, heavy_below}
+use Rattle.path_budget.specs.Budget.{is_heavy, heavy_below}
 
 -- one path more behind the last
 ascending_push : (xs : List PathShare) (y : PathShare) → paths_ascend xs ≡ true →

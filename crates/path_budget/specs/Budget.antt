@@ -1,13 +1,10 @@
 -- The heaviest paths of each pair, as a budget of forwarding entries allows (SMORE; Kumar et al., 2018).
-use Rattle.std.specs.Prelude.{ℕ, zero, suc, Bool, List, [], ◌∷◌, ◌++◌, length, map, slice_index_or, if◌then◌else◌}
+use Rattle.std.specs.Prelude.{ℕ, zero, suc, Bool, List, [], ◌∷◌, ◌++◌, length, map, if◌then◌else◌}
 use Rattle.te_model.specs.declared.route.PathShare.{PathShare}
 use Rattle.te_model.specs.declared.route.PairRoutes.{PairRoutes}
 use Rattle.te_model.specs.Apportion.{is_among_first}
-use Rattle.routing.specs.Merge.{no_path}
+use Rattle.routing.specs.Merge.{path_at}
 use Rattle.routing.specs.Normal.{normalized}
-
-abbrev pub path_at : List PathShare → ℕ → PathShare
-path_at paths i = slice_index_or paths i no_path
 
 abbrev pub weight_at : List PathShare → ℕ → ℕ
 weight_at paths i = (path_at paths i).weight

@@ -1,4 +1,3 @@
-mod Words
 mod LinkLimits
 mod Ordering
 mod PathLinks

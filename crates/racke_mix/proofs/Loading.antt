@@ -1,16 +1,16 @@
 -- The loads of a tree, link by link.
 use Rattle.std.proofs.Common.{◌≡◌, inl, inr, ℕ, ◌+◌, ◌^◌, ◌<◌, ◌≤◌, List, [], ◌∷◌, ◌++◌, Some, length, get_or, replicate, arith, refl, ap, sym, ◌∙◌, subst}
-use Rattle.std.specs.Prelude.{if◌then◌else◌}
 use Rattle.std.proofs.lemmas.Bool.{cases_lt}
 use Rattle.std.proofs.lemmas.List.{get_or_append_left, length-append}
 use Rattle.std.proofs.Math.Seq.{get_or-append_seam}
 use Rattle.te_model.specs.declared.network.Network.{Network}
+use Rattle.te_model.specs.declared.limits.TheConstants.{FORMAT_2}
 use Rattle.te_model.specs.Network.{link_count, capacity_of, tail_of, head_of}
-use Rattle.te_model.specs.Path.{has_number}
+use Rattle.te_model.specs.Path.{amount_on}
 use Rattle.tree_embed.specs.Embedding.{Embedding}
 use Rattle.tree_embed.specs.TreePaths.{IsTreePath}
-use Rattle.growing_lengths.proofs.Loading.{LoadsSoFar, length-loads_of, loads_done, loads_kept, loads_more, loads_none}
-use Rattle.racke_mix.specs.Mix.{AreLoads}
+use Rattle.multiplicative_lengths.proofs.Loading.{LoadsSoFar, length-loads_of, loads_done, loads_kept, loads_more, loads_none}
+use Rattle.racke_mix.specs.Mix.{AreTreeLoads}
 
 -- the loads of the tree paths of the first h links
 pub record TreeLoadsSoFar (net : Network) (tree : Embedding) (h : ℕ) (loads : List ℕ) : Type 0 where
@@ -30,7 +30,7 @@ tree_loads_none net tree n loads same are = record {
 -- one link more
 pub tree_loads_more : (net : Network) (tree : Embedding) (h : ℕ) (loads next path : List ℕ) → TreeLoadsSoFar net tree h loads → length next ≡ length loads →
     IsTreePath tree (tail_of net h) (head_of net h) (Some path) → capacity_of net h ≤ 2 ^ 32 →
-    ((e : ℕ) → get_or next e 0 ≡ get_or loads e 0 + (if has_number path e then capacity_of net h else 0)) → TreeLoadsSoFar net tree (h + 1) next
+    ((e : ℕ) → get_or next e 0 ≡ get_or loads e 0 + amount_on path (capacity_of net h) e) → TreeLoadsSoFar net tree (h + 1) next
 tree_loads_more net tree h loads next path far kept is small added = record {
   paths = far.paths ++ path ∷ [];
   count = omega (arith, far.count, length-append far.paths (path ∷ []));
@@ -50,7 +50,7 @@ tree_loads_more net tree h loads next path far kept is small added = record {
     at_end : get_or (far.paths ++ path ∷ []) h [] ≡ path
     at_end = subst (λ n. get_or (far.paths ++ path ∷ []) n [] ≡ path) far.count (get_or-append_seam far.paths path [] [])
 
-pub tree_loads_done : (net : Network) (tree : Embedding) (h : ℕ) (loads : List ℕ) → TreeLoadsSoFar net tree h loads → h ≡ link_count net → AreLoads net tree loads
+pub tree_loads_done : (net : Network) (tree : Embedding) (h : ℕ) (loads : List ℕ) → TreeLoadsSoFar net tree h loads → h ≡ link_count net → AreTreeLoads net tree loads
 tree_loads_done net tree h loads far done = (
   far.paths,
   record {
@@ -60,8 +60,8 @@ tree_loads_done net tree h loads far done = (
   loads_done net (capacity_of net) (2 ^ 32) far.paths h loads far.loaded (sym far.count),
 )
 
-pub tree_loads_small : (net : Network) (tree : Embedding) (h : ℕ) (loads : List ℕ) → TreeLoadsSoFar net tree h loads → h ≤ 512 → (e : ℕ) → get_or loads e 0 ≤ 2 ^ 41
+pub tree_loads_small : (net : Network) (tree : Embedding) (h : ℕ) (loads : List ℕ) → TreeLoadsSoFar net tree h loads → h ≤ FORMAT_2.links → (e : ℕ) → get_or loads e 0 ≤ 2 ^ 42
 tree_loads_small net tree h loads far few e = omega (arith, far.loaded.small e, few)
 
-pub loads_count : (net : Network) (tree : Embedding) (loads : List ℕ) → AreLoads net tree loads → length loads ≡ link_count net
+pub loads_count : (net : Network) (tree : Embedding) (loads : List ℕ) → AreTreeLoads net tree loads → length loads ≡ link_count net
 loads_count net tree loads (paths, are, is) = ap (λ (l : List ℕ). length l) is ∙ length-loads_of net (capacity_of net) paths

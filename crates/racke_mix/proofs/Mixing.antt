@@ -1,101 +1,82 @@
 -- The rounds of the mix, one after the other.
-use Rattle.std.proofs.Common.{◌≡◌, inl, inr, ℕ, zero, suc, ◌+◌, ◌<◌, ◌≤◌, List, [], ◌∷◌, ◌++◌, All, length, arith, refl, ap, sym, ◌∙◌, subst}
+use Rattle.std.proofs.Common.{◌≡◌, inl, inr, ℕ, ◌+◌, ◌<◌, List, [], ◌∷◌, ◌++◌, All, length, arith, refl, ap, sym, ◌∙◌, subst}
 use Rattle.std.proofs.lemmas.Bool.{cases_lt}
-use Rattle.std.proofs.lemmas.List.{get_or_append_left, length-append}
+use Rattle.std.proofs.lemmas.List.{get_or_append_left, get_or_push, length-append}
 use Rattle.std.proofs.lemmas.List.Elements.{All-from_get_or}
-use Rattle.std.proofs.Math.Seq.{get_or-append_seam}
 use Rattle.rand_chacha.specs.ChaCha.{ChaCha}
 use Rattle.te_model.specs.declared.network.Network.{Network}
 use Rattle.te_model.specs.Network.{node_count}
-use Rattle.draws.specs.Words.{generator}
-use Rattle.growing_lengths.specs.Growth.{first_multipliers, greatest_usage, grown}
-use Rattle.growing_lengths.proofs.Multiplying.{HaveGrown, first_grown, next_grown}
+use Rattle.random_words.specs.Words.{generator}
+use Rattle.random_words.proofs.Moving.{generator_round}
+use Rattle.multiplicative_lengths.specs.Growth.{first_multipliers, greatest_usage, grown}
+use Rattle.multiplicative_lengths.proofs.Rounds.{RoundsSoFar, rounds_more, rounds_none}
 use Rattle.racke_mix.specs.declared.round.Round.{Round}
-use Rattle.racke_mix.specs.Mix.{AreLoads, AreMultipliers, IsMix, IsRoundBy, generator_at, no_round, round_at}
+use Rattle.racke_mix.specs.Mix.{AreTreeLoads, IsMix, IsTreeRound, generator_at, loads_at, no_round, round_at}
 
-round_kept : (rounds : List Round) (round : Round) (j : ℕ) → j < length rounds → round_at (rounds ++ round ∷ []) j ≡ round_at rounds j
-round_kept rounds round j below = get_or_append_left rounds (round ∷ []) no_round j below
+-- the round of these multipliers, with its place among the rounds of the seed
+abbrev pub IsRoundAt : Network → ℕ → ℕ → List ℕ → Round → Type 0
+IsRoundAt net seed i multipliers round = IsTreeRound net (generator_at net seed i) multipliers round
 
-round_new : (rounds : List Round) (round : Round) (j : ℕ) → length rounds ≡ j → round_at (rounds ++ round ∷ []) j ≡ round
-round_new rounds round j same = subst (λ n. round_at (rounds ++ round ∷ []) n ≡ round) same (get_or-append_seam rounds round [] no_round)
-
--- what was grown by the rounds so far stays so
-multipliers_kept : (net : Network) (rounds : List Round) (round : Round) (j : ℕ) (multipliers : List ℕ) → j ≤ length rounds →
-    AreMultipliers net rounds j multipliers → AreMultipliers net (rounds ++ round ∷ []) j multipliers
-multipliers_kept net rounds round zero multipliers within are = are
-multipliers_kept net rounds round (suc j) multipliers within (before, were, loads, put, is) = (
-  before,
-  multipliers_kept net rounds round j before (omega arith) were,
-  loads,
-  subst (λ (r : Round). AreLoads net r.tree loads) (sym (round_kept rounds round j (omega arith))) put,
-  is,
-)
-
--- the first j rounds, and what the next one begins with
-pub record RoundsSoFar (net : Network) (seed j : ℕ) (rng : ChaCha) (multipliers : List ℕ) (rounds : List Round) : Type 0 where
-  pub count : length rounds ≡ j
+-- the first j rounds with the loads of their trees, and what the next one begins with
+pub record MixSoFar (net : Network) (seed j : ℕ) (rng : ChaCha) (multipliers : List ℕ) (rounds : List Round) : Type 0 where
+  pub loads : List (List ℕ)
+  pub loads_count : length loads ≡ j
+  pub are_loads : (i : ℕ) → i < j → AreTreeLoads net (round_at rounds i).tree (loads_at loads i)
   pub rng_is : rng ≡ generator_at net seed j
-  pub each : (i : ℕ) → i < j → (m : List ℕ) × AreMultipliers net rounds i m × IsRoundBy net (generator_at net seed i) m (round_at rounds i)
-  pub are : AreMultipliers net rounds j multipliers
-  pub grown : HaveGrown net j multipliers
+  pub far : RoundsSoFar Round no_round (IsRoundAt net seed) net (loads_at loads) (λ i. greatest_usage net (loads_at loads i)) j multipliers rounds
 
-pub rounds_none : (net : Network) (seed : ℕ) (rng : ChaCha) (multipliers : List ℕ) → rng ≡ generator seed 0 0 → multipliers ≡ first_multipliers net →
-    RoundsSoFar net seed 0 rng multipliers []
-rounds_none net seed rng multipliers start first = record {
-  count = refl;
+pub mix_none : (net : Network) (seed : ℕ) (rng : ChaCha) (multipliers : List ℕ) → rng ≡ generator seed 0 0 → multipliers ≡ first_multipliers net →
+    MixSoFar net seed 0 rng multipliers []
+mix_none net seed rng multipliers start first = record {
+  loads = [];
+  loads_count = refl;
+  are_loads = λ i below. absurd (omega arith);
   rng_is = start ∙ ap (generator seed 0) (omega arith);
-  each = λ i below. absurd (omega arith);
-  are = first;
-  grown = first_grown net multipliers first;
+  far = rounds_none Round no_round (IsRoundAt net seed) net (loads_at []) (λ i. greatest_usage net (loads_at [] i)) multipliers first;
 }
 
-words_on : (net : Network) (seed j : ℕ) (at next : ChaCha) → at ≡ generator_at net seed j → next ≡ record at { word_pos = at.word_pos + (node_count net + 1) } →
-    next ≡ generator_at net seed (j + 1)
-words_on net seed j at next e f = f ∙ rw e (ap (generator seed 0) (omega arith))
-
-pub rounds_more : (net : Network) (seed j : ℕ) (rng rng' : ChaCha) (multipliers loads next : List ℕ) (rounds : List Round) (round : Round) →
-    RoundsSoFar net seed j rng multipliers rounds → IsRoundBy net rng multipliers round →
-    rng' ≡ record rng { word_pos = rng.word_pos + (node_count net + 1) } → AreLoads net round.tree loads →
+pub mix_more : (net : Network) (seed j : ℕ) (rng rng' : ChaCha) (multipliers loads next : List ℕ) (rounds : List Round) (round : Round) →
+    MixSoFar net seed j rng multipliers rounds → IsTreeRound net rng multipliers round →
+    rng' ≡ record rng { word_pos = rng.word_pos + (node_count net + 1) } → AreTreeLoads net round.tree loads →
     next ≡ grown net loads (greatest_usage net loads) multipliers →
-    RoundsSoFar net seed (j + 1) rng' next (rounds ++ round ∷ [])
-rounds_more net seed j rng rng' multipliers loads next rounds round far is on put grows = record {
-  count = omega (arith, far.count, length-append rounds (round ∷ []));
-  rng_is = words_on net seed j rng rng' far.rng_is on;
-  each = λ i below. elim (cases_lt i j) [
+    MixSoFar net seed (j + 1) rng' next (rounds ++ round ∷ [])
+mix_more net seed j rng rng' multipliers loads next rounds round so is on put grows = record {
+  loads = so.loads ++ loads ∷ [];
+  loads_count = omega (arith, so.loads_count, length-append so.loads (loads ∷ []));
+  are_loads = λ i below. elim (cases_lt i j) [
     | inl lt ↦
-        let (m, are, was) = far.each i lt in (
-          m,
-          multipliers_kept net rounds round i m (omega (arith, far.count, lt)) are,
-          subst (λ (r : Round). IsRoundBy net (generator_at net seed i) m r) (sym (round_kept rounds round i (omega (arith, far.count, lt)))) was,
-        )
+        subst (λ (r : Round). AreTreeLoads net r.tree (loads_at (so.loads ++ loads ∷ []) i))
+        (sym (get_or_append_left rounds (round ∷ []) no_round i (omega (arith, so.far.count, lt))))
+        (subst (AreTreeLoads net (round_at rounds i).tree) (kept i lt) (so.are_loads i lt))
     | inr ge ↦
         let same : j ≡ i = omega arith in
-        subst (λ i. (m : List ℕ) × AreMultipliers net (rounds ++ round ∷ []) i m × IsRoundBy net (generator_at net seed i) m (round_at (rounds ++ round ∷ []) i)) same
-        (multipliers, kept, subst (λ (r : Round). IsRoundBy net (generator_at net seed j) multipliers r) (sym new) (subst (λ (g : ChaCha). IsRoundBy net g multipliers round) far.rng_is is))
+        subst (λ i. AreTreeLoads net (round_at (rounds ++ round ∷ []) i).tree (loads_at (so.loads ++ loads ∷ []) i)) same
+        (subst (λ (r : Round). AreTreeLoads net r.tree (loads_at (so.loads ++ loads ∷ []) j)) (sym (get_or_push rounds round no_round j so.far.count))
+        (subst (AreTreeLoads net round.tree) (sym new) put))
   ];
-  are = subst (λ n. AreMultipliers net (rounds ++ round ∷ []) n next) suc_is
-      (multipliers, kept, loads, subst (λ (r : Round). AreLoads net r.tree loads) (sym new) put, grows);
-  grown = next_grown net j loads (greatest_usage net loads) multipliers next far.grown (omega arith) grows;
+  rng_is = generator_round seed 0 (node_count net + 1) j rng rng' so.rng_is on;
+  far = rounds_more Round no_round (IsRoundAt net seed) net (loads_at so.loads) (loads_at (so.loads ++ loads ∷ []))
+      (λ i. greatest_usage net (loads_at so.loads i)) (λ i. greatest_usage net (loads_at (so.loads ++ loads ∷ []) i)) j multipliers next rounds round so.far
+      kept (λ i below. ap (greatest_usage net) (kept i below)) (subst (λ (g : ChaCha). IsTreeRound net g multipliers round) so.rng_is is) (omega arith)
+      (grows ∙ ap (λ l. grown net l (greatest_usage net l) multipliers) (sym new));
 }
   where
-    kept : AreMultipliers net (rounds ++ round ∷ []) j multipliers
-    kept = multipliers_kept net rounds round j multipliers (omega (arith, far.count)) far.are
+    kept : (i : ℕ) → i < j → loads_at so.loads i ≡ loads_at (so.loads ++ loads ∷ []) i
+    kept i below = sym (get_or_append_left so.loads (loads ∷ []) [] i (omega (arith, so.loads_count, below)))
 
-    new : round_at (rounds ++ round ∷ []) j ≡ round
-    new = round_new rounds round j far.count
+    new : loads_at (so.loads ++ loads ∷ []) j ≡ loads
+    new = get_or_push so.loads loads [] j so.loads_count
 
-    suc_is : suc j ≡ j + 1
-    suc_is = omega arith
-
-pub rounds_done : (net : Network) (seed j trees : ℕ) (rng : ChaCha) (multipliers : List ℕ) (rounds : List Round) →
-    RoundsSoFar net seed j rng multipliers rounds → j ≡ trees → IsMix net trees seed rounds
-rounds_done net seed j trees rng multipliers rounds far done = record {
-  count = far.count ∙ done;
-  each = λ i below. far.each i (omega (arith, done, below));
+pub mix_done : (net : Network) (seed j trees : ℕ) (rng : ChaCha) (multipliers : List ℕ) (rounds : List Round) →
+    MixSoFar net seed j rng multipliers rounds → j ≡ trees → IsMix net trees seed rounds
+mix_done net seed j trees rng multipliers rounds so done = record {
+  count = so.far.count ∙ done;
+  loads = so.loads;
+  are_loads = λ i below. so.are_loads i (omega (arith, done, below));
+  each = λ i below. so.far.each i (omega (arith, done, below));
 }
 
 -- the trees of the mix are of its network
 pub own_trees : (net : Network) (trees seed : ℕ) (rounds : List Round) → IsMix net trees seed rounds → All (λ r. r.tree.network ≡ net) rounds
 own_trees net trees seed rounds mix = All-from_get_or (λ (r : Round). r.tree.network ≡ net) rounds no_round (λ j below.
-    let (m, are, is) = mix.each j (omega (arith, mix.count, below)) in
-    ap (λ t. t.network) is.tree)
+    ap (λ t. t.network) (mix.each j (omega (arith, mix.count, below))).tree)

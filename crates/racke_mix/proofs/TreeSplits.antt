@@ -11,8 +11,8 @@ use Rattle.te_model.specs.declared.route.PairRoutes.{PairRoutes}
 use Rattle.te_model.specs.declared.route.PathShare.{PathShare}
 use Rattle.te_model.specs.Path.{is_path}
 use Rattle.tree_embed.specs.TreePaths.{IsTreePath}
-use Rattle.even_mix.specs.Even.{IsEvenMix}
-use Rattle.even_mix.proofs.EvenSplits.{even_few, even_split}
+use Rattle.routing.specs.Even.{IsEvenMix}
+use Rattle.routing.proofs.EvenSplits.{even_few, even_split}
 use Rattle.scheme.specs.Fixed.{IsSplitBy}
 use Rattle.scheme.proofs.Plans.{related}
 use Rattle.racke_mix.specs.declared.round.Round.{Round}

@@ -2,13 +2,10 @@
 use Rattle.std.specs.Prelude.{ℕ, ◌+◌, ◌%◌, List}
 use Rattle.std.specs.List.{range_with_len, AllPairs}
 use Rattle.std.specs.List.Sorted.{IsPermutation}
-use Rattle.rand_chacha.specs.ChaCha.{ChaCha, word_at}
+use Rattle.rand_chacha.specs.ChaCha.{ChaCha}
 use Rattle.te_model.specs.Counting.{IsUpTo}
+use Rattle.random_words.specs.Words.{word_on}
 use Rattle.racke_mix.specs.declared.drawing.DrawnNode.{DrawnNode}
-
--- the word of the generator that stands k places on
-abbrev pub word_on : ChaCha → ℕ → ℕ
-word_on rng k = word_at 4 rng.key rng.stream (rng.word_pos + k)
 
 -- the nodes 0 to n - 1, ascending by their words and then by their numbers
 pub record IsOrderBy (word : ℕ → ℕ) (n : ℕ) (order : List ℕ) : Type 0 where

@@ -1,10 +1,12 @@
 //! Orders of the nodes and scales, drawn from the words of a generator.
 ghost use Rattle.std.specs.Prelude.{◌≡◌, ◌+◌, ◌<◌, ◌≤◌, ◌^◌, IfOk, OnOk, map};
 ghost use Rattle.std.specs.List.{range_with_len};
-ghost use Rattle.racke_mix.specs.Draws.{IsOrderBy, drawn_node, scale_by, word_on};
+ghost use Rattle.te_model.specs.declared.limits.TheConstants.{FORMAT_2};
+ghost use Rattle.random_words.specs.Words.{word_on};
+ghost use Rattle.racke_mix.specs.Draws.{IsOrderBy, drawn_node, scale_by};
 
-use draws::draw;
 use rand_chacha::ChaCha8Rng;
+use random_words::draw;
 use std::alloc::Global;
 use te_model::Memory;
 
@@ -17,7 +19,7 @@ pub struct DrawnNode {
 
 /// The nodes with the words that are drawn for them, one after the other.
 fn draw_nodes(alloc: Global, rng: &mut ChaCha8Rng, nodes: usize) -> Result<Vec<DrawnNode>, Memory>
-    requires few { nodes ≤ 64 }
+    requires few { nodes ≤ FORMAT_2.nodes }
     requires room { rng.old.word_pos + nodes < 2 ^ 68 }
     ensures drawn { IfOk result (λ v. v.items ≡ map (drawn_node rng.old) (range_with_len 0 nodes)) }
     ensures state { OnOk result (rng.new ≡ record rng.old { word_pos = rng.old.word_pos + nodes }) }
@@ -48,7 +50,7 @@ fn nodes_of(alloc: Global, drawn: &[DrawnNode]) -> Result<Vec<u32>, Memory>
 ///
 /// `Memory` comes where memory is wanting.
 pub fn draw_order(alloc: Global, rng: &mut ChaCha8Rng, nodes: usize) -> Result<Vec<u32>, Memory>
-    requires few { nodes ≤ 64 }
+    requires few { nodes ≤ FORMAT_2.nodes }
     requires room { rng.old.word_pos + nodes < 2 ^ 68 }
     ensures order { IfOk result (λ v. IsOrderBy (word_on rng.old) nodes v.items) }
     ensures state { OnOk result (rng.new ≡ record rng.old { word_pos = rng.old.word_pos + nodes }) }

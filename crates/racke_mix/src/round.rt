@@ -1,10 +1,11 @@
 //! One round of the mix.
 ghost use Rattle.std.specs.Prelude.{◌≡◌, ◌+◌, ◌<◌, ◌≤◌, ◌^◌, All, IfOk, IsTrue, OnOk, length};
 ghost use Rattle.te_model.specs.Network.{is_well_formed, link_count, node_count};
-ghost use Rattle.racke_mix.specs.Mix.{IsRoundBy};
+ghost use Rattle.te_model.specs.declared.limits.TheConstants.{FORMAT_2};
+ghost use Rattle.racke_mix.specs.Mix.{IsTreeRound};
 
 use crate::drawing::{draw_order, draw_scale};
-use growing_lengths::lengths_of;
+use multiplicative_lengths::lengths_of;
 use rand_chacha::ChaCha8Rng;
 use std::alloc::Global;
 use te_model::{Items, Memory, Network};
@@ -32,10 +33,10 @@ pub fn draw_round(
     multipliers: &[u64],
 ) -> Result<Round, Memory>
     requires network { IsTrue (is_well_formed net.now) }
-    requires room { rng.old.word_pos + 65 < 2 ^ 68 }
+    requires room { rng.old.word_pos + FORMAT_2.nodes + 1 < 2 ^ 68 }
     requires count { length multipliers.now ≡ link_count net.now }
     requires some { All (λ m. 1 ≤ m) multipliers.now }
-    ensures round { IfOk result (IsRoundBy net.now rng.old multipliers.now) }
+    ensures round { IfOk result (IsTreeRound net.now rng.old multipliers.now) }
     ensures state { OnOk result (rng.new ≡ record rng.old { word_pos = rng.old.word_pos + (node_count net.now + 1) }) }
 {
     let lengths = lengths_of(alloc, net, multipliers)?;

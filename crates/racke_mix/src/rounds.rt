@@ -5,8 +5,8 @@ ghost use Rattle.racke_mix.specs.Mix.{IsMix};
 
 use crate::loads::loads_of;
 use crate::round::{Round, draw_round};
-use draws::generator_of;
-use growing_lengths::{first_multipliers, greatest_usage, grow};
+use multiplicative_lengths::{first_multipliers, greatest_usage, grow};
+use random_words::generator_of;
 use std::alloc::Global;
 use te_model::{Memory, Network};
 

@@ -9,8 +9,7 @@ ghost use Rattle.scheme.specs.Reach.{AllReached, ArePairsOf, IsPairOf};
 ghost use Rattle.racke_mix.specs.Mix.{AreTreePaths, IsMixSplit};
 
 use crate::round::Round;
-use even_mix::even_mix;
-use routing::Routing;
+use routing::{Routing, even_mix};
 use scheme::SchemeFault;
 use std::alloc::Global;
 use te_model::{Items, Memory, Network, Pair, PairRoutes, Pairs, Path, PathShare};

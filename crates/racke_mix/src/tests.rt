@@ -1,5 +1,6 @@
 ghost use Rattle.std.specs.Prelude.{◌≡◌, ◌∷◌, [], IfOk};
-ghost use Rattle.racke_mix.specs.Samples.{link, there_and_back, two_nodes};
+ghost use Rattle.tree_embed.specs.Samples.{link, two_nodes};
+ghost use Rattle.racke_mix.specs.Samples.{there_and_back};
 
 use super::*;
 use scheme::{Oblivious, Scheme};

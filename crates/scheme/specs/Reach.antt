@@ -1,27 +1,20 @@
 -- Declared pairs of a network, and which of them have a path.
-use Rattle.std.specs.Prelude.{◌≡◌, ℕ, ◌^◌, ◌<◌, List, All, length, slice_index_or}
+use Rattle.std.specs.Prelude.{◌≡◌, ℕ, ◌^◌, ◌<◌, List, All, length}
 use Rattle.te_model.specs.declared.network.Network.{Network}
 use Rattle.te_model.specs.declared.route.Pair.{Pair}
 use Rattle.te_model.specs.Network.{node_count}
+pub use Rattle.te_model.specs.Pairs.{no_pair, pair_at}
+use Rattle.te_model.specs.Pairs.{IsPairAmong}
 use Rattle.shortest_path.specs.Paths.{HasPath}
 
 -- two different nodes of the network
-pub record IsPairOf (net : Network) (pair : Pair) : Type 0 where
-  pub src_inside : pair.src < node_count net
-  pub dst_inside : pair.dst < node_count net
-  pub apart : pair.src ≡ pair.dst → ⊥
+abbrev pub IsPairOf : Network → Pair → Type 0
+IsPairOf net pair = IsPairAmong (node_count net) pair
 
 -- pairs of two different nodes, fewer than 2^32
 pub record ArePairsOf (net : Network) (pairs : List Pair) : Type 0 where
   pub each : All (IsPairOf net) pairs
   pub few : length pairs < 2 ^ 32
-
--- what stands for a pair that is not there
-abbrev pub no_pair : Pair
-no_pair = record { src = 0; dst = 0 }
-
-abbrev pub pair_at : List Pair → ℕ → Pair
-pair_at pairs p = slice_index_or pairs p no_pair
 
 abbrev pub IsReached : Network → List Pair → ℕ → Type 0
 IsReached net pairs p = HasPath net (pair_at pairs p).src (pair_at pairs p).dst

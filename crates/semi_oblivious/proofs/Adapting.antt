@@ -1,17 +1,10 @@
 -- What is left to say of a routing that settles over its own paths.
-use Rattle.std.proofs.Common.{inl, inr, ◌≡◌, ℕ, List, length, ap, sym, ◌∙◌}
-use Rattle.std.proofs.lemmas.List.{length-map}
-use Rattle.te_model.specs.declared.network.Network.{Network}
-use Rattle.te_model.specs.declared.route.Pair.{Pair}
+use Rattle.std.proofs.Common.{inl, inr, ℕ, List}
 use Rattle.te_model.specs.declared.route.PairRoutes.{PairRoutes}
 use Rattle.te_model.specs.Path.{routes_at}
-use Rattle.routing.specs.Routes.{HasFewPaths, IsRoutingOf}
-use Rattle.rate_moves.specs.Moves.{HaveFewTogether, UsesOnly}
+use Rattle.routing.specs.Routes.{HasFewPaths}
+use Rattle.local_search.specs.Moves.{HaveFewTogether, UsesOnly}
 use Rattle.semi_oblivious.specs.Semi.{KeepsTo}
-
--- as many routes as pairs
-pub routes_count : (net : Network) (pairs : List Pair) (routes : List PairRoutes) → IsRoutingOf net pairs routes → length routes ≡ length pairs
-routes_count net pairs routes is = sym (length-map routes (λ (r : PairRoutes). r.pair)) ∙ ap (λ (l : List Pair). length l) is.in_order
 
 -- a routing whose paths are the candidates has no more of them together with these
 pub few_together : (limit : ℕ) (fixed : List PairRoutes) → HasFewPaths limit fixed → HaveFewTogether limit fixed fixed

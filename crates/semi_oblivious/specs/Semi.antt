@@ -11,7 +11,7 @@ use Rattle.routing.specs.Routes.{IsRoutingOf, HasFewPaths}
 use Rattle.routing.specs.Utilisation.{parts}
 use Rattle.path_budget.specs.Budget.{trimmed}
 use Rattle.scheme.specs.Reach.{ArePairsOf}
-use Rattle.rate_moves.specs.Moves.{IsStable}
+use Rattle.local_search.specs.Moves.{IsStable}
 use Rattle.dual_bounds.specs.GivenPaths.{IsBracketOnPaths, paths_of}
 
 -- a routing of the network and the pairs over the fixed paths: the heaviest ones of the base's routing

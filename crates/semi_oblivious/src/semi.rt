@@ -3,15 +3,15 @@ ghost use Rattle.std.specs.Prelude.{◌≡◌, ◌≤◌};
 
 use crate::stress::stress_lengths;
 use dual_bounds::bracket_on_paths;
+use local_search::settle;
 use path_budget::trim;
-use rate_moves::settle;
 use routing::Routing;
 use scheme::{Oblivious, Scheme, SchemeFault};
 use std::alloc::Global;
 use te_model::{Bracket, Matrix, Memory, Network, Pairs};
 
 /// Semi-oblivious routing: of each pair the `budget` heaviest paths of the base's routing are fixed, and for each matrix weight is
-/// moved between them until no single move helps by a stated share (`rate_moves::settle`).
+/// moved between them until no single move helps by a stated share (`local_search::settle`).
 #[derive(Drop)]
 pub struct Semi<S: Oblivious + Drop> {
     pub base: S,

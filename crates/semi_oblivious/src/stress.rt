@@ -66,7 +66,7 @@ fn square_of(length: u64) -> u64
 }
 
 /// The squares of the lengths, over `GREATEST`: the same for the most used links, and less for all others.
-fn steeper(alloc: Global, lengths: &[u64]) -> Result<Vec<u64>, Memory>
+fn squares_of(alloc: Global, lengths: &[u64]) -> Result<Vec<u64>, Memory>
     requires small { All (λ x. x ≤ 2 ^ 14) lengths.now }
     ensures count { IfOk result (λ l. length l.items ≡ length lengths.now) }
     ensures small { IfOk result (λ l. All (λ x. x ≤ 2 ^ 14) l.items) }
@@ -99,7 +99,7 @@ pub fn stress_lengths(
     let mut lengths = by_usage(alloc, &usage)?;
     let mut lists = Vec::with_capacity(alloc, LISTS)?;
     for _ in 0..LISTS {
-        let next = steeper(alloc, &lengths)?;
+        let next = squares_of(alloc, &lengths)?;
         lists.push(Items::new(lengths))?;
         lengths = next;
     }

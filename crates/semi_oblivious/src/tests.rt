@@ -1,5 +1,6 @@
 ghost use Rattle.std.specs.Prelude.{◌≡◌, ◌∷◌, [], IfOk};
-ghost use Rattle.semi_oblivious.specs.Samples.{link, one_pair, parallel_links};
+ghost use Rattle.dual_bounds.specs.Samples.{link, parallel_links};
+ghost use Rattle.semi_oblivious.specs.Samples.{one_pair};
 
 use super::*;
 use k_paths::Ksp;

@@ -2,12 +2,12 @@
 use Rattle.std.proofs.Common.{◌≡◌, ℕ, ◌+◌, ◌<◌, ◌≤◌, Bool, true, false, cond, List, [], Option, Some, None, length, map, find, unwrap_or, slice_index, slice_index_or, nat_lt, All, arith, refl, ap, sym, ◌∙◌, subst, zero-add, ◌∷◌, ◌++◌}
 use Rattle.std.specs.Prelude.{MatchBool}
 use Rattle.std.specs.List.{Contains, range_with_len}
-use Rattle.std.proofs.lemmas.Bool.Decides.{nat_tests}
 use Rattle.std.proofs.lemmas.List.Elements.{All-from_get_or, All-get_or}
 use Rattle.std.proofs.lemmas.List.FromFn.{get_or-range_with_len, get_or-map-range_with_len, length-range_with_len, length-map-range_with_len, map-range_with_len_more}
 use Rattle.std.proofs.lemmas.List.Sorted.{All-permutation, Contains-permutation, length_permutation}
 use Rattle.te_model.specs.declared.network.Network.{Network}
-use Rattle.te_model.specs.Network.{is_well_formed, node_count}
+use Rattle.te_model.specs.Network.{node_count}
+use Rattle.te_model.proofs.WellFormed.{well_formed_parts}
 use Rattle.tree_embed.specs.declared.centers.TheConstants.{TOP_LEVEL}
 use Rattle.tree_embed.specs.Embedding.{Embedding, IsEmbedding, IsOrder}
 use Rattle.tree_embed.specs.Centers.{AreCenters, IsCenter, IsFirst, IsWithin, radius}
@@ -32,9 +32,6 @@ order_has : (net : Network) (order : List ℕ) → IsOrder net order → (v : �
 order_has net order is v below =
     Contains-permutation (range_with_len 0 (node_count net)) order v is
     (v, omega (arith, length-range_with_len 0 (node_count net)), get_or-range_with_len 0 (node_count net) v v below ∙ zero-add v)
-
-pub some_nodes : (net : Network) → is_well_formed net ≡ true → 2 ≤ node_count net
-some_nodes net formed = grind (arith, nat_tests)
 
 -- the first node of the order within the radius
 first_is : (e : Embedding) (sums : List (List (Option ℕ))) → IsOrder e.network e.order → AreSums e.network e.lengths sums →
@@ -120,7 +117,7 @@ tables_of e sums rows is are rows_are =
         each = λ level few. ap length (row_at sums e.order e.scale (node_count e.network) level few)
             ∙ length-map-range_with_len (center_of sums e.order e.scale level) 0 (node_count e.network);
         inside = λ level v few below. subst (λ c. c < node_count e.network) (sym (entry_at sums e.order e.scale (node_count e.network) level v few below))
-            (center_inside e sums is.ordered (omega (arith, some_nodes e.network is.formed)) level v below);
+            (center_inside e sums is.ordered (omega (arith, (well_formed_parts e.network is.formed).two_nodes)) level v below);
       };
       centers_are = λ level v few below. subst (IsCenter e level v) (sym (entry_at sums e.order e.scale (node_count e.network) level v few below))
           (center_is e sums is.ordered are level v below);

@@ -1,61 +1,19 @@
--- Least sums over links that are all open are distances, and two nodes have one distance.
+-- The tests on the sums tell whether nodes are within a radius of each other.
 use Rattle.std.proofs.Common.{inl, inr, ◌≡◌, ℕ, ◌+◌, ◌<◌, ◌≤◌, Bool, true, List, [], ◌∷◌, ◌++◌, Option, Some, None, length, max, arith, refl, ap, sym, ◌∙◌, subst, replicate, length-append}
 use Rattle.std.proofs.Math.Seq.{get_or-append_seam}
 use Rattle.std.proofs.lemmas.Bool.{and_parts, cases_lt, leb-true, le-leb}
 use Rattle.std.proofs.lemmas.List.{get_or_append_left}
 use Rattle.te_model.specs.declared.network.Network.{Network}
-use Rattle.te_model.specs.Network.{node_count, link_count}
-use Rattle.te_model.specs.Path.{chains, is_path, is_distinct, nodes_visited}
+use Rattle.te_model.specs.Network.{node_count}
 use Rattle.shortest_path.specs.Graph.{AtMost, distance_at}
-use Rattle.shortest_path.specs.Paths.{IsDistance, sum_along}
+use Rattle.shortest_path.specs.Paths.{IsDistance}
 use Rattle.shortest_path.specs.Least.{AreLeastSums}
-use Rattle.shortest_path.proofs.Relaxing.{at_most-some, is-at_most}
-use Rattle.shortest_path.proofs.Walks.{walk_of_chains}
-use Rattle.shortest_path.proofs.Loops.{without_loops}
-use Rattle.shortest_path.proofs.Tight.{no_walk}
-use Rattle.shortest_path.proofs.LeastSums.{all_open, path_of_walk}
+use Rattle.shortest_path.proofs.Relaxing.{at_most-some}
+use Rattle.shortest_path.proofs.LeastSums.{distance_of_sums}
+use Rattle.shortest_path.specs.Links.{every_link}
+use Rattle.shortest_path.proofs.Unique.{distance_only}
 use Rattle.tree_embed.specs.Centers.{IsWithin, greater_of}
 use Rattle.tree_embed.specs.Tables.{AreSums, is_at_most, is_within, sum_between, sums_to}
-
--- all links are open
-abbrev pub every : Network → List Bool
-every net = replicate (link_count net) true
-
-pub distance_of_sums : (net : Network) (lengths : List ℕ) (t : ℕ) (sums : List (Option ℕ)) → AreLeastSums net lengths (every net) t sums →
-    (v : ℕ) → IsDistance net lengths v t (distance_at sums v)
-distance_of_sums net lengths t sums are v = go (distance_at sums v) refl
-  where
-    go : (o : Option ℕ) → distance_at sums v ≡ o → IsDistance net lengths v t o
-    go None is = λ links chain. no_walk net lengths (every net) t sums are v is links (walk_of_chains net (every net) v t links (all_open net) chain)
-    go (Some d) is =
-        let (links, walk, sum) = are.reached v d is in
-        let (p, walk_p, apart, less) = without_loops net lengths (every net) 0 v t links (λ h below. omega arith) walk in
-        let low : d ≤ sum_along lengths p = is-at_most (distance_at sums v) (sum_along lengths p) d is (are.below v p walk_p) in
-        let high : sum_along lengths p ≤ d = elim less [
-          | inl e ↦ omega (arith, ap (sum_along lengths) e, sum)
-          | inr lt ↦ omega (arith, lt, sum)
-        ]
-        in (
-          (p, path_of_walk net (every net) v t p walk_p apart, omega (arith, low, high)),
-          λ links' chain.
-              is-at_most (distance_at sums v) (sum_along lengths links') d is
-              (are.below v links' (walk_of_chains net (every net) v t links' (all_open net) chain)),
-        )
-
-pub chains_of_path : (net : Network) (s t : ℕ) (p : List ℕ) → is_path net s t p ≡ true → chains net s t p ≡ true
-chains_of_path net s t p is = (and_parts (chains net s t p) (is_distinct (nodes_visited net s p)) is).0
-
--- two nodes have one distance
-pub distance_only : (net : Network) (lengths : List ℕ) (s t : ℕ) (a b : Option ℕ) →
-    IsDistance net lengths s t a → IsDistance net lengths s t b → a ≡ b
-distance_only net lengths s t None None one two = refl
-distance_only net lengths s t None (Some y) one ((p, path, sum), least) = absurd (one p (chains_of_path net s t p path))
-distance_only net lengths s t (Some x) None ((p, path, sum), least) two = absurd (two p (chains_of_path net s t p path))
-distance_only net lengths s t (Some x) (Some y) ((p, path_p, sum_p), least_p) ((q, path_q, sum_q), least_q) =
-    let low = least_p q (chains_of_path net s t q path_q) in
-    let high = least_q p (chains_of_path net s t p path_p) in
-    let e : x ≡ y = omega arith in
-    ap Some e
 
 pub distance_between : (net : Network) (lengths : List ℕ) (sums : List (List (Option ℕ))) → AreSums net lengths sums →
     (u v : ℕ) → v < node_count net → IsDistance net lengths u v (sum_between sums u v)
@@ -95,22 +53,22 @@ within_itself net lengths sums are radius v below =
 -- the rows of the nodes below n
 pub record SumsSoFar (net : Network) (lengths : List ℕ) (n : ℕ) (sums : List (List (Option ℕ))) : Type 0 where
   pub count : length sums ≡ n
-  pub each : (t : ℕ) → t < n → AreLeastSums net lengths (every net) t (sums_to sums t)
+  pub each : (t : ℕ) → t < n → AreLeastSums net lengths (every_link net) t (sums_to sums t)
 
 pub sums_none : (net : Network) (lengths : List ℕ) → SumsSoFar net lengths 0 []
 sums_none net lengths = record { count = refl; each = λ t below. absurd (omega arith) }
 
 pub sums_more : (net : Network) (lengths : List ℕ) (n : ℕ) (sums : List (List (Option ℕ))) (row : List (Option ℕ)) →
-    SumsSoFar net lengths n sums → AreLeastSums net lengths (every net) n row → SumsSoFar net lengths (n + 1) (sums ++ row ∷ [])
+    SumsSoFar net lengths n sums → AreLeastSums net lengths (every_link net) n row → SumsSoFar net lengths (n + 1) (sums ++ row ∷ [])
 sums_more net lengths n sums row so_far are = record {
   count = omega (arith, length-append sums (row ∷ []), so_far.count);
   each = λ t below. elim (cases_lt t n) [
-    | inl lt ↦ subst (AreLeastSums net lengths (every net) t) (sym (get_or_append_left sums (row ∷ []) [] t (omega (arith, lt, so_far.count)))) (so_far.each t lt)
+    | inl lt ↦ subst (AreLeastSums net lengths (every_link net) t) (sym (get_or_append_left sums (row ∷ []) [] t (omega (arith, lt, so_far.count)))) (so_far.each t lt)
     | inr ge ↦
         let here : n ≡ t = omega arith in
         let at : length sums ≡ t = omega (arith, so_far.count) in
         let last : row ≡ sums_to (sums ++ row ∷ []) t = sym (get_or-append_seam sums row [] []) ∙ ap (sums_to (sums ++ row ∷ [])) at in
-        subst (AreLeastSums net lengths (every net) t) last (subst (λ k. AreLeastSums net lengths (every net) k row) here are)
+        subst (AreLeastSums net lengths (every_link net) t) last (subst (λ k. AreLeastSums net lengths (every_link net) k row) here are)
   ];
 }
 

@@ -3,12 +3,10 @@ use Rattle.std.proofs.Common.{◌≡◌, ℕ, zero, suc, ◌+◌, ◌-◌, ◌<�
 use Rattle.std.proofs.lemmas.Bool.{and_from, and_parts, eqb-true, eq-eqb}
 use Rattle.std.proofs.lemmas.List.{append_assoc, append-nil}
 use Rattle.te_model.specs.declared.network.Network.{Network}
-use Rattle.te_model.specs.Network.{link_count, tail_of, head_of}
 use Rattle.te_model.specs.Path.{chains}
+use Rattle.te_model.proofs.Chains.{chains-append, chains_of_path}
 use Rattle.shortest_path.specs.Paths.{IsLeastPath}
-use Rattle.routing.specs.Loops.{end_of}
 use Rattle.tree_embed.specs.TreePaths.{AreJoined}
-use Rattle.tree_embed.proofs.Distances.{chains_of_path}
 
 -- one neighbour more
 join_more : (net : Network) (lengths chain : List ℕ) (k : ℕ) (walk path : List ℕ) → suc k < length chain → AreJoined net lengths (take (suc k) chain) walk →
@@ -59,13 +57,6 @@ abbrev pub last_of : ℕ → List ℕ → ℕ
 last_of u [] = u
 last_of u (v ∷ chain) = last_of v chain
 
-chains-append : (net : Network) (s u t : ℕ) (p q : List ℕ) → chains net s u p ≡ true → chains net u t q ≡ true → chains net s t (p ++ q) ≡ true
-chains-append net s u t [] q one two = subst (λ v. chains net v t q ≡ true) (sym (eqb-true s u one)) two
-chains-append net s u t (h ∷ hs) q one two =
-    let parts = and_parts (nat_lt h (link_count net) && tail_of net h == s) (chains net (head_of net h) u hs) one in
-    and_from (nat_lt h (link_count net) && tail_of net h == s) (chains net (head_of net h) t (hs ++ q)) parts.0
-    (chains-append net (head_of net h) u t hs q parts.1 two)
-
 -- the walk leads from the first node of the chain to the last
 pub joined_chains : (net : Network) (lengths : List ℕ) (u : ℕ) (chain walk : List ℕ) → AreJoined net lengths (u ∷ chain) walk →
     chains net u (last_of u chain) walk ≡ true
@@ -73,9 +64,3 @@ joined_chains net lengths u [] walk is = subst (λ w. chains net u u w ≡ true)
 joined_chains net lengths u (v ∷ chain) walk (first, rest, one, more, is) =
     subst (λ w. chains net u (last_of v chain) w ≡ true) (sym is)
     (chains-append net u v (last_of v chain) first rest (chains_of_path net u v first one.0) (joined_chains net lengths v chain rest more))
-
--- links that chain to a node end there
-pub chains_end : (net : Network) (s t : ℕ) (walk : List ℕ) → chains net s t walk ≡ true → end_of net s walk ≡ t
-chains_end net s t [] chain = eqb-true s t chain
-chains_end net s t (h ∷ hs) chain =
-    chains_end net (head_of net h) t hs (and_parts (nat_lt h (link_count net) && tail_of net h == s) (chains net (head_of net h) t hs) chain).1

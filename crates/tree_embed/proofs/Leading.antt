@@ -5,11 +5,12 @@ use Rattle.te_model.specs.Network.{node_count}
 use Rattle.te_model.specs.Path.{chains}
 use Rattle.shortest_path.specs.Paths.{IsLeastPath}
 use Rattle.routing.specs.Loops.{IsCut, end_of}
+use Rattle.routing.proofs.Cutting.{chains_end}
 use Rattle.tree_embed.specs.Embedding.{Embedding}
 use Rattle.tree_embed.specs.Chains.{IsChainOf}
 use Rattle.tree_embed.specs.Tables.{AreTables, center_in}
 use Rattle.tree_embed.specs.TreePaths.{AreJoined, IsJoin, IsTreePath}
-use Rattle.tree_embed.proofs.Joining.{joined_chains, chains_end}
+use Rattle.tree_embed.proofs.Joining.{joined_chains}
 use Rattle.tree_embed.proofs.Ends.{chain_leads, chain_inside}
 
 walk_chains : (net : Network) (lengths : List ℕ) (center : ℕ → ℕ → ℕ) (s t : ℕ) (chain walk : List ℕ) → IsChainOf center s t chain →

@@ -4,16 +4,16 @@ use Rattle.std.specs.Prelude.{MatchBool}
 use Rattle.std.specs.List.{dedup, range_with_len}
 use Rattle.std.proofs.lemmas.Bool.{cases_order}
 use Rattle.te_model.specs.declared.network.Network.{Network}
-use Rattle.te_model.specs.Network.{node_count, head_of}
-use Rattle.te_model.proofs.ListOrder.{list_below-irrefl, list_below-trans}
-use Rattle.shortest_path.specs.Paths.{IsBelow, IsLeastPath}
+use Rattle.te_model.specs.Network.{node_count}
+use Rattle.shortest_path.specs.Paths.{IsLeastPath}
+use Rattle.shortest_path.proofs.Unique.{least_path_only}
 use Rattle.routing.specs.Loops.{IsCut}
+use Rattle.routing.proofs.Cutting.{cut_only}
 use Rattle.tree_embed.specs.declared.centers.TheConstants.{TOP_LEVEL}
 use Rattle.tree_embed.specs.Embedding.{Embedding}
 use Rattle.tree_embed.specs.Centers.{AreCenters, IsCenter, IsFirst, IsWithin, radius}
 use Rattle.tree_embed.specs.Chains.{IsChain, IsLowestShared, Share, centers_between, centers_down, centers_up}
 use Rattle.tree_embed.specs.TreePaths.{AreJoined, IsJoin, IsPathFor, IsTreePath}
-use Rattle.tree_embed.proofs.Distances.{chains_of_path}
 
 first_only : (P : ℕ → Type 0) (order : List ℕ) (c d : ℕ) → IsFirst P order c → IsFirst P order d → c ≡ d
 first_only P order c d (has_c, (k, in_k, is_k, before_k)) (has_d, (j, in_j, is_j, before_j)) = elim (cases_order k j) [
@@ -82,32 +82,11 @@ chain_only e v w below_v below_w chain chain' (center, are, (a, lowest, is)) (ot
     ∙ ap (λ l. dedup nat_eq (v ∷ (l ++ w ∷ []))) (between_agree center other v w a at_v at_w lowest.level ∙ ap (centers_between other v w) same)
     ∙ sym is'
 
-below_both : (lengths p q : List ℕ) → IsBelow lengths p q → IsBelow lengths q p → ⊥
-below_both lengths p q one two = elim one [
-  | inl lt ↦ elim two [ inl gt ↦ omega (arith, lt, gt) | inr same ↦ omega (arith, lt, same.0) ]
-  | inr same ↦ elim two [
-    | inl gt ↦ omega (arith, gt, same.0)
-    | inr same' ↦ list_below-irrefl p (list_below-trans p q p same.1 same'.1)
-  ]
-]
-
-pub least_only : (net : Network) (lengths : List ℕ) (s t : ℕ) (p q : Option (List ℕ)) → IsLeastPath net lengths s t p → IsLeastPath net lengths s t q → p ≡ q
-least_only net lengths s t None None one two = refl
-least_only net lengths s t None (Some q) one two = absurd (one q (chains_of_path net s t q two.0))
-least_only net lengths s t (Some p) None one two = absurd (two p (chains_of_path net s t p one.0))
-least_only net lengths s t (Some p) (Some q) one two = elim (one.1 q (chains_of_path net s t q two.0)) [
-  | inl e ↦ ap Some (sym e)
-  | inr below ↦ elim (two.1 p (chains_of_path net s t p one.0)) [
-    | inl e ↦ ap Some e
-    | inr above ↦ absurd (below_both lengths p q below above)
-  ]
-]
-
 joined_only : (net : Network) (lengths chain walk walk' : List ℕ) → AreJoined net lengths chain walk → AreJoined net lengths chain walk' → walk ≡ walk'
 joined_only net lengths [] walk walk' one two = one ∙ sym two
 joined_only net lengths (u ∷ []) walk walk' one two = one ∙ sym two
 joined_only net lengths (u ∷ v ∷ chain) walk walk' (p, r, least, more, is) (p', r', least', more', is') =
-    let some : ◌≡◌ {A = Option (List ℕ)} (Some p) (Some p') = least_only net lengths u v (Some p) (Some p') least least' in
+    let some : ◌≡◌ {A = Option (List ℕ)} (Some p) (Some p') = least_path_only net lengths u v (Some p) (Some p') least least' in
     let same : p ≡ p' = cc in
     is ∙ ap (λ l. l ++ r) same ∙ ap (λ l. p' ++ l) (joined_only net lengths (v ∷ chain) r r' more more') ∙ sym is'
 
@@ -117,19 +96,8 @@ join_only net lengths chain None (Some w) one two = absurd (one w two)
 join_only net lengths chain (Some w) None one two = absurd (two w one)
 join_only net lengths chain (Some w) (Some w') one two = ap Some (joined_only net lengths chain w w' one two)
 
-pub cut_only : (net : Network) (s : ℕ) (walk cut cut' : List ℕ) → IsCut net s walk cut → IsCut net s walk cut' → cut ≡ cut'
-cut_only net s walk [] [] one two = refl
-cut_only net s walk [] (k ∷ cut') one (rest, at, more) = cc
-cut_only net s walk (h ∷ cut) [] (rest, at, more) two = cc
-cut_only net s walk (h ∷ cut) (k ∷ cut') (rest, at, more) (rest', at', more') =
-    let both : ◌≡◌ {A = List ℕ} (h ∷ rest) (k ∷ rest') = sym at ∙ at' in
-    let first : h ≡ k = cc in
-    let later : rest ≡ rest' = cc in
-    let on = subst (λ l. IsCut net (head_of net k) l cut) later (subst (λ j. IsCut net (head_of net j) rest cut) first more) in
-    ap (λ j. j ∷ cut) first ∙ ap (λ l. k ∷ l) (cut_only net (head_of net k) rest' cut cut' on more')
-
 path_only : (net : Network) (lengths : List ℕ) (s t : ℕ) (walk p q : Option (List ℕ)) → IsPathFor net lengths s t walk p → IsPathFor net lengths s t walk q → p ≡ q
-path_only net lengths s t None p q one two = least_only net lengths s t p q one two
+path_only net lengths s t None p q one two = least_path_only net lengths s t p q one two
 path_only net lengths s t (Some walk) p q (cut, is, e) (cut', is', e') = e ∙ ap Some (cut_only net s walk cut cut' is is') ∙ sym e'
 
 pub tree_path_only : (e : Embedding) (s t : ℕ) → s < node_count e.network → t < node_count e.network → (p q : Option (List ℕ)) →

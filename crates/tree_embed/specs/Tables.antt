@@ -1,9 +1,10 @@
 -- The tables that a tree keeps.
 use Rattle.std.specs.Prelude.{◌≡◌, ℕ, ◌<◌, ◌≤◌, Bool, true, false, List, [], Option, Some, None, find, if◌then◌else◌, length, nat_le, nat_lt, replicate, slice_index, slice_index_or, unwrap_or}
 use Rattle.te_model.specs.declared.network.Network.{Network}
-use Rattle.te_model.specs.Network.{node_count, link_count}
+use Rattle.te_model.specs.Network.{node_count}
 use Rattle.shortest_path.specs.Graph.{distance_at}
 use Rattle.shortest_path.specs.Least.{AreLeastSums}
+use Rattle.shortest_path.specs.Links.{every_link}
 use Rattle.tree_embed.specs.declared.centers.TheConstants.{TOP_LEVEL}
 use Rattle.tree_embed.specs.Embedding.{Embedding, IsEmbedding}
 use Rattle.tree_embed.specs.Centers.{AreCenters, greater_of, radius}
@@ -19,7 +20,7 @@ sum_between sums s t = distance_at (sums_to sums t) s
 -- for each node the least sums of lengths from all nodes to it
 pub record AreSums (net : Network) (lengths : List ℕ) (sums : List (List (Option ℕ))) : Type 0 where
   pub count : length sums ≡ node_count net
-  pub each : (t : ℕ) → t < node_count net → AreLeastSums net lengths (replicate (link_count net) true) t (sums_to sums t)
+  pub each : (t : ℕ) → t < node_count net → AreLeastSums net lengths (every_link net) t (sums_to sums t)
 
 -- n rows of n entries
 pub record IsSquare {A : Type 0} (n : ℕ) (rows : List (List A)) : Type 0 where

@@ -1,6 +1,7 @@
 //! The centers of all nodes at all levels.
 ghost use Rattle.std.specs.Prelude.{◌≡◌, ◌+◌, ◌<◌, ◌≤◌, All, IfOk, find, length, map, unwrap_or};
 ghost use Rattle.std.specs.List.{range_with_len};
+ghost use Rattle.te_model.specs.declared.limits.TheConstants.{FORMAT_2};
 ghost use Rattle.tree_embed.specs.Centers.{radius};
 ghost use Rattle.tree_embed.specs.Tables.{IsSquare, center_of, is_within};
 
@@ -61,7 +62,7 @@ fn row_of(
     level: u32,
 ) -> Result<Items<u32>, Memory>
     requires sums { IsSquare (length sums.now) sums.now }
-    requires few { length sums.now ≤ 64 }
+    requires few { length sums.now ≤ FORMAT_2.nodes }
     requires order { All (λ u. u < length sums.now) order.now }
     requires some { 0 < length order.now }
     requires scale { scale ≤ 31 }
@@ -82,7 +83,7 @@ pub fn centers_of(
     scale: u32,
 ) -> Result<Vec<Items<u32>>, Memory>
     requires sums { IsSquare (length sums.now) sums.now }
-    requires few { length sums.now ≤ 64 }
+    requires few { length sums.now ≤ FORMAT_2.nodes }
     requires order { All (λ u. u < length sums.now) order.now }
     requires some { 0 < length order.now }
     requires scale { scale ≤ 31 }

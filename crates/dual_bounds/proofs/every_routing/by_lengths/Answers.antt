@@ -3,7 +3,7 @@ use Rattle.std.specs.Prelude.{All}
 use Rattle.te_model.specs.declared.certificate.Row.{Row}
 use Rattle.te_model.specs.declared.route.PairRoutes.{PairRoutes}
 use Rattle.te_model.specs.Network.{node_count}
-use Rattle.ratio_certificate.specs.Tables.{AreValues}
+use Rattle.shortest_path.specs.Pairs.{AreValues}
 use Rattle.dual_bounds.specs.Dual.{IsBoundBy}
 use Rattle.dual_bounds.specs.Rows.{distance_by, AreSourceRows}
 use Rattle.dual_bounds.proofs.SourceRows.{sources_inside}

@@ -10,7 +10,7 @@ pub loop-path-preserved : goal.loop-path-preserved
 loop-path-preserved c =
     let lengths = c.args.lengths.now in
     let path = c.path-item.result in
-    let long : c.length_along.result ≡ sum_along lengths path.links = c.length_along.ensures ∙ ap (sum_along lengths) c.as_slice-in-loop-path.ensures in
+    let long : c.length_of.result ≡ sum_along lengths path.links = c.length_of.ensures in
     shortest_more lengths c.args.paths.now c.loop-path.path-index c.loop-path.least _ path c.loop-path-test.true c.path-item.is
     (grind (arith, long)) c.loop-path.invariant.0 c.loop-path.invariant.1
 

@@ -1,4 +1,4 @@
-use Rattle.ratio_certificate.specs.Tables.{AreValues}
+use Rattle.shortest_path.specs.Pairs.{AreValues}
 use Rattle.dual_bounds.specs.Rows.{distance_by}
 use Rattle.dual_bounds.proofs.rows.distances_by.Given as goal
 

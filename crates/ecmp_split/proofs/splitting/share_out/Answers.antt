@@ -3,7 +3,7 @@ use Rattle.te_model.specs.declared.network.Link.{Link}
 use Rattle.te_model.specs.declared.units.TheConstants.{SHARE_UNIT}
 use Rattle.te_model.specs.Network.{no_link, tail_of, head_of}
 use Rattle.te_model.proofs.SoundLinks.{costs_small}
-use Rattle.routing.proofs.LowestPaths.{links_join}
+use Rattle.te_model.proofs.WellFormed.{links_join}
 use Rattle.std.proofs.lemmas.List.{get_or_read, nil_from_length}
 use Rattle.ecmp_split.specs.Equal.{next_count, equal_part}
 use Rattle.ecmp_split.proofs.Collecting.{not_some}

@@ -3,7 +3,7 @@ use Rattle.std.specs.Option.{is_some}
 use Rattle.std.proofs.lemmas.Bool.{false≢true}
 use Rattle.std.proofs.lemmas.List.{get_or_read}
 use Rattle.te_model.proofs.SoundLinks.{costs_small}
-use Rattle.routing.proofs.LowestPaths.{links_join}
+use Rattle.te_model.proofs.WellFormed.{links_join}
 use Rattle.ecmp_split.specs.Equal.{next_part}
 use Rattle.ecmp_split.proofs.Balance.{acyclic}
 use Rattle.ecmp_split.proofs.CostsTo.{cost_has_path}

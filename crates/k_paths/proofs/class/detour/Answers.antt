@@ -3,9 +3,10 @@ use Rattle.std.proofs.lemmas.List.Elements.{All-get_or, All-take}
 use Rattle.te_model.specs.declared.network.Link.{Link}
 use Rattle.te_model.specs.declared.route.Path.{Path}
 use Rattle.te_model.specs.Network.{link_count, tail_of, no_link}
+use Rattle.te_model.proofs.Chains.{path_links}
 use Rattle.shortest_path.specs.Least.{IsLeastWalk, links_of}
 use Rattle.k_paths.specs.Classes.{AreClassMarks, IsLeastOfClass}
-use Rattle.k_paths.proofs.Prefixes.{path_links, deviation_none, deviation_some}
+use Rattle.k_paths.proofs.Prefixes.{deviation_none, deviation_some}
 use Rattle.k_paths.proofs.class.detour.Goals as goal
 
 pub bounds-as_slice-links : goal.bounds-as_slice-links

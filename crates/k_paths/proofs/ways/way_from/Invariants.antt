@@ -1,7 +1,7 @@
 use Rattle.std.specs.Prelude.{unwrap_or}
 use Rattle.shortest_path.specs.Graph.{distance_at}
 use Rattle.shortest_path.proofs.Tight.{GreedySoFar}
-use Rattle.k_paths.specs.Ways.{every_link}
+use Rattle.shortest_path.specs.Links.{every_link}
 use Rattle.k_paths.proofs.ways.way_from.Given as goal
 
 abbrev pub invariant-loop-node : goal.invariant-loop-node

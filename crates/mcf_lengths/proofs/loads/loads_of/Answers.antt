@@ -1,11 +1,10 @@
 use Rattle.std.proofs.Common.{◌≡◌, ℕ, ◌+◌, ◌≤◌, ◌^◌, List, [], length, get_or, map, replicate, arith, ap, sym, ◌∙◌, rules, slice_index}
-use Rattle.std.specs.Prelude.{if◌then◌else◌}
 use Rattle.std.proofs.lemmas.List.{get_or-map, get_or_read, length-map}
 use Rattle.std.proofs.lemmas.List.Elements.{All-get_or}
 use Rattle.te_model.specs.declared.network.Link.{Link}
-use Rattle.te_model.specs.Path.{has_number}
-use Rattle.shortest_path.proofs.Settling.{written_whole}
-use Rattle.growing_lengths.proofs.Loading.{loads_done, loads_more, loads_none}
+use Rattle.te_model.specs.Path.{amount_on}
+use Rattle.te_model.proofs.Lists.{written_whole}
+use Rattle.multiplicative_lengths.proofs.Loading.{loads_done, loads_more, loads_none}
 use Rattle.mcf_lengths.specs.Rounds.{links_in}
 use Rattle.mcf_lengths.proofs.LeastPaths.{no_path}
 use Rattle.mcf_lengths.proofs.loads.loads_of.Goals as goal
@@ -48,8 +47,8 @@ loop-p-preserved c =
     let small = All-get_or (λ d. d ≤ 2 ^ 32) demand p 0 (omega (arith, c.loop-p-test.true, c.requires.demands.count)) c.requires.demands.small in
     rw whole (loads_more net (slice_index demand) (2 ^ 32) (map links_in paths) p old c.add_along.new.loads path c.loop-p.invariant kept at small
     (λ e. c.add_along.ensures e
-    ∙ (ap (λ (l : List ℕ). get_or l e 0 + (if has_number path e then get_or c.as_slice-demands.result.now p 0 else 0)) value
-    ∙ ap (λ (x : ℕ). get_or old e 0 + (if has_number path e then x else 0)) amount)))
+    ∙ (ap (λ (l : List ℕ). get_or l e 0 + amount_on path (get_or c.as_slice-demands.result.now p 0) e) value
+    ∙ ap (λ (x : ℕ). get_or old e 0 + amount_on path x e) amount)))
 
 pub returns : goal.returns
 returns c =

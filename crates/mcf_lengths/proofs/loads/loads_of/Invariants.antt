@@ -1,5 +1,5 @@
 use Rattle.std.proofs.Common.{◌^◌, map, slice_index}
-use Rattle.growing_lengths.proofs.Loading.{LoadsSoFar}
+use Rattle.multiplicative_lengths.proofs.Loading.{LoadsSoFar}
 use Rattle.mcf_lengths.specs.Rounds.{links_in}
 use Rattle.mcf_lengths.proofs.loads.loads_of.Given as goal
 

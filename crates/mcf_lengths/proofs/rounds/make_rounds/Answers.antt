@@ -2,14 +2,14 @@ use Rattle.std.proofs.Common.{◌≡◌, ℕ, ◌+◌, ◌*◌, ◌<◌, ◌≤�
 use Rattle.te_model.specs.declared.route.Path.{Path}
 use Rattle.te_model.specs.Network.{link_count}
 use Rattle.te_model.specs.Path.{is_distinct}
-use Rattle.growing_lengths.specs.Growth.{greatest_usage, grown}
-use Rattle.growing_lengths.specs.Loads.{loads_of}
-use Rattle.growing_lengths.proofs.Loading.{length-loads_of}
-use Rattle.growing_lengths.proofs.Multiplying.{grown_small}
-use Rattle.mcf_lengths.specs.declared.round.Round.{Round}
-use Rattle.mcf_lengths.specs.Rounds.{IsRoundBy, links_in, loads_in}
+use Rattle.multiplicative_lengths.specs.Growth.{greatest_usage, grown}
+use Rattle.multiplicative_lengths.specs.Loads.{loads_of}
+use Rattle.multiplicative_lengths.proofs.Loading.{length-loads_of}
+use Rattle.multiplicative_lengths.proofs.Multiplying.{grown_small}
+use Rattle.mcf_lengths.specs.declared.round.FlowRound.{FlowRound}
+use Rattle.mcf_lengths.specs.Rounds.{IsFlowRound, links_in, loads_in}
 use Rattle.mcf_lengths.proofs.LeastPaths.{least_distinct, least_links}
-use Rattle.mcf_lengths.proofs.Lengthening.{RoundsSoFar, rounds_more}
+use Rattle.mcf_lengths.proofs.Lengthening.{FlowSoFar, flow_done, flow_more, flow_none}
 use Rattle.mcf_lengths.proofs.rounds.make_rounds.Goals as goal
 
 pub loads_of-requires-clause-links : goal.loads_of-requires-clause-links
@@ -38,7 +38,7 @@ grow-requires-clause-loads c =
 pub grow-requires-clause-moderate : goal.grow-requires-clause-moderate
 grow-requires-clause-moderate c =
     subst (All (λ (m : ℕ). m ≤ 2 ^ 38)) (sym c.deref-in-loop-round-4.ensures.value)
-    (grown_small c.args.net.now c.loop-round._round c.loop-round.multipliers.items c.loop-round.invariant.grown (omega (arith, c.loop-round-test.true)))
+    (grown_small c.args.net.now c.loop-round._round c.loop-round.multipliers.items c.loop-round.invariant.far.grown (omega (arith, c.loop-round-test.true)))
 
 pub loop-round-preserved : goal.loop-round-preserved
 loop-round-preserved c =
@@ -50,7 +50,7 @@ loop-round-preserved c =
     let next = c.in_ok-multipliers-2.multipliers.items in
     let rounds = c.loop-round.rounds.items in
     let round = c.in_ok-round.round in
-    let is = subst (λ (m : List ℕ). IsRoundBy net pairs m round) c.deref-in-loop-round.ensures.value c.in_ok-round.ensures in
+    let is = subst (λ (m : List ℕ). IsFlowRound net pairs m round) c.deref-in-loop-round.ensures.value c.in_ok-round.ensures in
     let loads : c.in_ok-loads.loads.items ≡ loads_in net demand round =
     c.in_ok-loads.ensures ∙ ap (λ (l : List Path). loads_of net (slice_index demand) (map links_in l)) c.as_slice.ensures
     in
@@ -64,6 +64,20 @@ loop-round-preserved c =
     ∙ ap (λ (m : List ℕ). grown net (loads_in net demand round) (4 * c.max-most.result) m) c.deref-in-loop-round-4.ensures.value)
     in
     let pushed : c.push.new.self.items ≡ rounds ++ round ∷ [] = search rules in
-    subst (λ (rs : List Round). RoundsSoFar net pairs demand (j + 1) c.max-most.result next rs) (sym pushed)
-    (rounds_more net pairs demand j c.loop-round.most c.max-most.result multipliers next rounds round c.loop-round.invariant is
+    subst (λ (rs : List FlowRound). FlowSoFar net pairs demand (j + 1) c.max-most.result next rs) (sym pushed)
+    (flow_more net pairs demand j c.loop-round.most c.max-most.result multipliers next rounds round c.loop-round.invariant is
     (greater ∙ ap (λ (x : ℕ). max c.loop-round.most x) usage) (omega (arith, greater, c.greatest_usage.ensures.small, c.loop-round.invariant.small)) grows)
+
+pub loop-round-init : goal.loop-round-init
+loop-round-init c =
+    let net = c.args.net.now in
+    let pairs = c.args.pairs.now.list in
+    let demand = c.args.matrix.now.demand in
+    let multipliers = c.in_ok-multipliers.multipliers.items in
+    subst (λ (rs : List FlowRound). FlowSoFar net pairs demand 0 1 multipliers rs) (sym c.new-rounds.ensures.items)
+    (flow_none net pairs demand multipliers c.in_ok-multipliers.ensures)
+
+pub returns : goal.returns
+returns c =
+    flow_done c.args.net.now c.args.pairs.now.list c.args.matrix.now.demand c.loop-round._round c.loop-round.most c.loop-round.multipliers.items
+    c.loop-round.rounds.items c.loop-round.invariant (omega (arith, c.loop-round-test.false, c.loop-round.auto._round-end))

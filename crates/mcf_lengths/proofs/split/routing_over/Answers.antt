@@ -7,7 +7,7 @@ use Rattle.routing.proofs.Splits.{splits_of}
 use Rattle.scheme.specs.Fixed.{IsRoutingBy, IsSplitBy}
 use Rattle.scheme.specs.Reach.{no_pair, pair_at}
 use Rattle.scheme.proofs.Plans.{RoutesSoFar, routes_done, routes_more}
-use Rattle.even_mix.specs.Even.{IsEvenMix}
+use Rattle.routing.specs.Even.{IsEvenMix}
 use Rattle.mcf_lengths.specs.declared.round.TheConstants.{ROUNDS}
 use Rattle.mcf_lengths.specs.Rounds.{IsRoundsSplit}
 use Rattle.mcf_lengths.proofs.Splitting.{rounds_split}

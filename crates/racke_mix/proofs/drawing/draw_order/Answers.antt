@@ -1,6 +1,6 @@
 use Rattle.std.proofs.Common.{map, ap, ◌∙◌}
 use Rattle.racke_mix.specs.declared.drawing.DrawnNode.{DrawnNode}
-use Rattle.racke_mix.specs.Draws.{word_on}
+use Rattle.random_words.specs.Words.{word_on}
 use Rattle.racke_mix.proofs.Ordering.{order_of_drawn}
 use Rattle.racke_mix.proofs.drawing.draw_order.Goals as goal
 

@@ -4,8 +4,9 @@ use Rattle.te_model.specs.declared.network.Link.{Link}
 use Rattle.te_model.specs.Network.{node_count, no_link}
 use Rattle.te_model.specs.Path.{is_distinct, is_path}
 use Rattle.te_model.proofs.SimplePaths.{path_links, path_links_once}
+use Rattle.te_model.proofs.WellFormed.{capacities_small, links_join}
 use Rattle.shortest_path.specs.Paths.{HasPath}
-use Rattle.racke_mix.proofs.LinkLimits.{capacity_small, ends_apart, head_inside, tail_inside}
+use Rattle.racke_mix.proofs.LinkLimits.{ends_apart}
 use Rattle.racke_mix.proofs.PathLinks.{link_is_path}
 use Rattle.racke_mix.proofs.loads.add_link.Goals as goal
 
@@ -13,13 +14,13 @@ pub tree_path-requires-clause-src : goal.tree_path-requires-clause-src
 tree_path-requires-clause-src c =
     let net = c.args.net.now in
     let h = c.args.h in
-    subst (λ (ls : List Link). (get_or ls h no_link).tail < node_count net) (sym c.as_slice.ensures) (tail_inside net h c.requires.network c.requires.link)
+    subst (λ (ls : List Link). (get_or ls h no_link).tail < node_count net) (sym c.as_slice.ensures) (links_join net c.requires.network h c.requires.link).0
 
 pub tree_path-requires-clause-dst : goal.tree_path-requires-clause-dst
 tree_path-requires-clause-dst c =
     let net = c.args.net.now in
     let h = c.args.h in
-    subst (λ (ls : List Link). (get_or ls h no_link).head < node_count net) (sym c.as_slice.ensures) (head_inside net h c.requires.network c.requires.link)
+    subst (λ (ls : List Link). (get_or ls h no_link).head < node_count net) (sym c.as_slice.ensures) (links_join net c.requires.network h c.requires.link).1
 
 pub tree_path-requires-clause-apart : goal.tree_path-requires-clause-apart
 tree_path-requires-clause-apart c =
@@ -47,7 +48,7 @@ add_along-requires-clause-room c = λ e.
     let net = c.args.net.now in
     let h = c.args.h in
     let read = ap (λ (ls : List Link). (get_or ls h no_link).capacity) c.as_slice.ensures in
-    omega (arith, c.requires.small e, read, capacity_small net h c.requires.network c.requires.link)
+    omega (arith, c.requires.small e, read, capacities_small net c.requires.network h)
 
 pub returns-in-None : goal.returns-in-None
 returns-in-None c =

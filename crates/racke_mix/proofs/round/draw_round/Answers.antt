@@ -1,7 +1,7 @@
 use Rattle.std.proofs.Common.{◌≤◌, ◌^◌, ℕ, List, length, All, ap, sym, ◌∙◌, subst}
-use Rattle.growing_lengths.specs.Growth.{length_of}
-use Rattle.growing_lengths.proofs.EachLink.{count_each}
-use Rattle.growing_lengths.proofs.LengthLimits.{lengths_limit, lengths_some}
+use Rattle.multiplicative_lengths.specs.Growth.{length_of}
+use Rattle.multiplicative_lengths.proofs.EachLink.{count_each}
+use Rattle.multiplicative_lengths.proofs.LengthLimits.{lengths_limit, lengths_some}
 use Rattle.racke_mix.proofs.round.draw_round.Goals as goal
 
 pub embed-requires-clause-lengths : goal.embed-requires-clause-lengths

@@ -1,9 +1,9 @@
-use Rattle.std.proofs.Common.{◌≡◌, ℕ, ◌+◌, ◌++◌, ◌∷◌, [], List, length, ap, sym, ◌∙◌, subst, rules}
-use Rattle.growing_lengths.specs.Growth.{greatest_usage, grown}
+use Rattle.std.proofs.Common.{◌≡◌, ℕ, ◌+◌, ◌++◌, ◌∷◌, [], List, length, arith, ap, sym, ◌∙◌, subst, rules}
+use Rattle.multiplicative_lengths.specs.Growth.{greatest_usage, grown}
 use Rattle.racke_mix.specs.declared.round.Round.{Round}
-use Rattle.racke_mix.specs.Mix.{IsRoundBy}
+use Rattle.racke_mix.specs.Mix.{IsTreeRound}
 use Rattle.racke_mix.proofs.Loading.{loads_count}
-use Rattle.racke_mix.proofs.Mixing.{RoundsSoFar, rounds_more}
+use Rattle.racke_mix.proofs.Mixing.{MixSoFar, mix_done, mix_more, mix_none}
 use Rattle.racke_mix.proofs.rounds.mix_rounds.Goals as goal
 
 pub greatest_usage-most-requires-clause-count : goal.greatest_usage-most-requires-clause-count
@@ -35,8 +35,18 @@ loop-tree-preserved c =
     ∙ (ap (λ (x : ℕ). grown net loads x c.deref-in-loop-tree-3.result.now) most
     ∙ ap (λ (m : List ℕ). grown net loads (greatest_usage net loads) m) c.deref-in-loop-tree-3.ensures.value))
     in
-    let is = subst (λ (m : List ℕ). IsRoundBy net c.loop-tree.rng m round) c.deref.ensures.value c.in_ok-round.ensures.round in
+    let is = subst (λ (m : List ℕ). IsTreeRound net c.loop-tree.rng m round) c.deref.ensures.value c.in_ok-round.ensures.round in
     let pushed : c.push.new.self.items ≡ rounds ++ round ∷ [] = search rules in
-    subst (λ (rs : List Round). RoundsSoFar net seed (j + 1) c.draw_round.new.rng next rs) (sym pushed)
-    (rounds_more net seed j c.loop-tree.rng c.draw_round.new.rng multipliers loads next rounds round c.loop-tree.invariant is c.in_ok-round.ensures.state
+    subst (λ (rs : List Round). MixSoFar net seed (j + 1) c.draw_round.new.rng next rs) (sym pushed)
+    (mix_more net seed j c.loop-tree.rng c.draw_round.new.rng multipliers loads next rounds round c.loop-tree.invariant is c.in_ok-round.ensures.state
     c.in_ok-loads.ensures grows)
+
+pub loop-tree-init : goal.loop-tree-init
+loop-tree-init c =
+    subst (λ (rs : List Round). MixSoFar c.args.net.now c.args.seed 0 c.generator_of-rng.result c.in_ok-multipliers.multipliers.items rs) (sym c.new-rounds.ensures.items)
+    (mix_none c.args.net.now c.args.seed c.generator_of-rng.result c.in_ok-multipliers.multipliers.items c.generator_of-rng.ensures c.in_ok-multipliers.ensures)
+
+pub returns : goal.returns
+returns c =
+    mix_done c.args.net.now c.args.seed c.loop-tree._tree c.args.trees c.loop-tree.rng c.loop-tree.multipliers.items c.loop-tree.rounds.items c.loop-tree.invariant
+    (omega (arith, c.loop-tree-test.false, c.loop-tree.auto._tree-end))

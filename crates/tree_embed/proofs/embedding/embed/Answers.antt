@@ -1,6 +1,7 @@
 use Rattle.std.proofs.Common.{◌≡◌, ◌<◌, All, length, arith, ap, sym, ◌∙◌, subst}
 use Rattle.te_model.specs.Network.{node_count}
-use Rattle.tree_embed.proofs.Centering.{order_inside, order_length, center_rows, some_nodes, tables_made}
+use Rattle.te_model.proofs.WellFormed.{well_formed_parts}
+use Rattle.tree_embed.proofs.Centering.{order_inside, order_length, center_rows, tables_made}
 use Rattle.tree_embed.proofs.embedding.embed.Goals as goal
 
 pub centers_of-requires-clause-order : goal.centers_of-requires-clause-order
@@ -10,7 +11,7 @@ centers_of-requires-clause-order c =
 
 pub centers_of-requires-clause-some : goal.centers_of-requires-clause-some
 centers_of-requires-clause-some c =
-    omega (arith, order_length c.args.net.now c.args.order.now c.requires.order, some_nodes c.args.net.now c.requires.network)
+    omega (arith, order_length c.args.net.now c.args.order.now c.requires.order, (well_formed_parts c.args.net.now c.requires.network).two_nodes)
 
 pub invariant_of-result : goal.invariant_of-result
 invariant_of-result c =

@@ -1,9 +1,10 @@
 use Rattle.std.proofs.Common.{List, sym, subst}
 use Rattle.te_model.specs.declared.route.Pair.{Pair}
 use Rattle.routing.specs.Routes.{AreDemands, IsRoutingOf}
+use Rattle.routing.proofs.InOrder.{routes_count}
 use Rattle.scheme.specs.Reach.{AllReached}
 use Rattle.mcf_lengths.specs.declared.round.TheConstants.{ROUNDS}
-use Rattle.mcf_lengths.proofs.Balancing.{few_together, pairs_join_nodes, routes_count}
+use Rattle.mcf_lengths.proofs.Balancing.{few_together, pairs_join_nodes}
 use Rattle.mcf_lengths.proofs.flow.McfScheme.route.Goals as goal
 
 pub rounds_routing-requires-clause-reached : goal.rounds_routing-requires-clause-reached
@@ -25,7 +26,7 @@ bracket-requires-clause-demands c =
     let pairs = c.requires.plan.0 in
     let is = c.requires.plan.1 in
     let start = subst (λ (l : List Pair). IsRoutingOf net l c.in_ok-start.start.routes) is.own c.in_ok-start.ensures.routing in
-    let count = routes_count net pairs c.in_ok-routing.routing.routes (c.in_ok-routing.ensures.routing pairs start) in
+    let count = routes_count pairs c.in_ok-routing.routing.routes (c.in_ok-routing.ensures.routing pairs start).in_order in
     subst (λ n. AreDemands n c.args.matrix.now.demand) (sym count) c.requires.plan.2
 
 pub returns-clause-routing : goal.returns-clause-routing

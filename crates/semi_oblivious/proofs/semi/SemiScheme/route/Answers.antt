@@ -2,8 +2,9 @@ use Rattle.std.proofs.Common.{◌≤◌, List, arith, sym, subst, ◌∙◌}
 use Rattle.te_model.specs.declared.route.PairRoutes.{PairRoutes}
 use Rattle.routing.specs.Routes.{AreDemands, IsRoutingOf}
 use Rattle.routing.specs.Utilisation.{parts}
-use Rattle.rate_moves.specs.Moves.{HaveFewTogether, UsesOnly}
-use Rattle.semi_oblivious.proofs.Adapting.{few_together, keeps_to, routes_count}
+use Rattle.local_search.specs.Moves.{HaveFewTogether, UsesOnly}
+use Rattle.routing.proofs.InOrder.{routes_count}
+use Rattle.semi_oblivious.proofs.Adapting.{few_together, keeps_to}
 use Rattle.semi_oblivious.proofs.semi.SemiScheme.route.Goals as goal
 
 pub settle-requires-clause-routings : goal.settle-requires-clause-routings
@@ -18,7 +19,7 @@ stress_lengths-requires-clause-pairs g c =
     let pairs = c.requires.plan.0 in
     let fixed = c.requires.plan.1.1 in
     let start = subst (λ (r : List PairRoutes). IsRoutingOf net pairs r) (sym c.in_ok-start.ensures) fixed.routing in
-    let count = routes_count net pairs c.in_ok-routing.routing.routes (c.in_ok-routing.ensures.routing pairs start) in
+    let count = routes_count pairs c.in_ok-routing.routing.routes (c.in_ok-routing.ensures.routing pairs start).in_order in
     omega (arith, count, fixed.ends.few)
 
 pub stress_lengths-requires-clause-demands : goal.stress_lengths-requires-clause-demands
@@ -27,7 +28,7 @@ stress_lengths-requires-clause-demands g c =
     let pairs = c.requires.plan.0 in
     let fixed = c.requires.plan.1.1 in
     let start = subst (λ (r : List PairRoutes). IsRoutingOf net pairs r) (sym c.in_ok-start.ensures) fixed.routing in
-    let count = routes_count net pairs c.in_ok-routing.routing.routes (c.in_ok-routing.ensures.routing pairs start) in
+    let count = routes_count pairs c.in_ok-routing.routing.routes (c.in_ok-routing.ensures.routing pairs start).in_order in
     subst (λ n. AreDemands n c.args.matrix.now.demand) (sym count) c.requires.plan.2
 
 pub bracket_on_paths-requires-clause-fixed : goal.bracket_on_paths-requires-clause-fixed
@@ -39,8 +40,8 @@ bracket_on_paths-requires-clause-count g c =
     let pairs = c.requires.plan.0 in
     let fixed = c.requires.plan.1.1 in
     let start = subst (λ (r : List PairRoutes). IsRoutingOf net pairs r) (sym c.in_ok-start.ensures) fixed.routing in
-    let count = routes_count net pairs c.in_ok-routing.routing.routes (c.in_ok-routing.ensures.routing pairs start) in
-    count ∙ sym (routes_count net pairs c.args.plan.now.fixed.routes fixed.routing)
+    let count = routes_count pairs c.in_ok-routing.routing.routes (c.in_ok-routing.ensures.routing pairs start).in_order in
+    count ∙ sym (routes_count pairs c.args.plan.now.fixed.routes fixed.routing.in_order)
 
 pub returns-clause-routing : goal.returns-clause-routing
 returns-clause-routing g c = λ pairs is.

@@ -1,5 +1,0 @@
-use Rattle.growing_lengths.proofs.LengthLimits.{lengths_moderate}
-use Rattle.growing_lengths.proofs.laws.lengths_are_moderate.Goals as goal
-
-pub returns : goal.returns
-returns c = lengths_moderate

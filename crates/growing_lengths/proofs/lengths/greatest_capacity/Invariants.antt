@@ -1,7 +1,0 @@
-use Rattle.std.proofs.Common.{◌≡◌}
-use Rattle.te_model.specs.Network.{capacity_of}
-use Rattle.routing.specs.Utilisation.{greatest_below}
-use Rattle.growing_lengths.proofs.lengths.greatest_capacity.Given as goal
-
-abbrev pub invariant-loop-h : goal.invariant-loop-h
-invariant-loop-h l = l.most ≡ greatest_below l.h (capacity_of l.net)

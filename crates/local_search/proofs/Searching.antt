@@ -1,0 +1,38 @@
+-- Which moves need not be tried, and what the tried ones say.
+use Rattle.std.proofs.Common.{◌≡◌, ℕ, ◌*◌, ◌<◌, ◌≤◌, false, List, slice_index, arith, ap, min, if◌then◌else◌}
+use Rattle.te_model.specs.declared.network.Network.{Network}
+use Rattle.te_model.specs.declared.route.PathShare.{PathShare}
+use Rattle.te_model.specs.Network.{capacity_of, link_count}
+use Rattle.te_model.specs.Path.{has_number}
+use Rattle.routing.specs.Merge.{links_at}
+use Rattle.local_search.specs.Loads.{load_after}
+use Rattle.local_search.specs.Search.{Fits}
+
+-- a move off a path that does not hold the link takes nothing off it
+not_relieved : (load : ℕ) (from to : List ℕ) (amount e : ℕ) → has_number from e ≡ false → load ≤ load_after load from to amount e
+not_relieved load from to amount e none =
+    let loss : (if has_number from e then amount else 0) ≡ 0 = ap (λ b. if b then amount else 0) none in
+    omega (arith, loss)
+
+-- so where a link carries too much, no move fits but off paths that hold it
+pub fits_not : (net : Network) (loads : List ℕ) (times demand : ℕ) (from : PathShare) (candidates : List PathShare) (j size link : ℕ) →
+    Fits net loads times demand from candidates j size → link < link_count net → times * capacity_of net link < slice_index loads link →
+    has_number from.links link ≡ false → ⊥
+fits_not net loads times demand from candidates j size link fits inside above none =
+    omega (
+      arith,
+      fits.within link inside,
+      above,
+      not_relieved (slice_index loads link) from.links (links_at candidates j) (demand * min size from.weight) link none,
+    )
+
+-- nor does a move to the path itself
+pub fits_other : (net : Network) (loads : List ℕ) (times demand : ℕ) (from : PathShare) (candidates : List PathShare) (j size link : ℕ) →
+    Fits net loads times demand from candidates j size → link < link_count net → times * capacity_of net link < slice_index loads link →
+    from.links ≡ links_at candidates j → ⊥
+fits_other net loads times demand from candidates j size link fits inside above same =
+    let amount = demand * min size from.weight in
+    let gain : (if has_number from.links link then amount else 0) ≡ (if has_number (links_at candidates j) link then amount else 0) =
+    ap (λ l. if has_number l link then amount else 0) same
+    in
+    omega (arith, fits.within link inside, above, gain)

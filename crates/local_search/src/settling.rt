@@ -1,0 +1,100 @@
+//! Moves, until no more of them helps.
+ghost use Rattle.std.specs.Prelude.{◌≡◌, ◌↔◌, ◌<◌, ◌≤◌, ◌^◌, ℕ, List, IfNone, IfOk, IfSome, IsTrue, length};
+ghost use Rattle.te_model.specs.declared.network.Network.{Network};
+ghost use Rattle.te_model.specs.declared.route.Pair.{Pair};
+ghost use Rattle.te_model.specs.declared.route.PairRoutes.{PairRoutes};
+ghost use Rattle.te_model.specs.Network.{is_well_formed};
+ghost use Rattle.te_model.specs.Path.{routes_at};
+ghost use Rattle.routing.specs.Merge.{links_at};
+ghost use Rattle.routing.specs.Routes.{AreDemands, AreLoads, HasFewPaths, IsRoutingOf};
+ghost use Rattle.routing.specs.Split.{are_splits};
+ghost use Rattle.routing.specs.Utilisation.{parts};
+ghost use Rattle.local_search.specs.Moves.{CanMove, HaveFewTogether, Improves, IsMoved, IsStable, UsesOnly};
+
+use crate::greatest::peak_of;
+use crate::search::fitting_move;
+use crate::shifting::{carry_move, take_move};
+use crate::step::{Aim, Move};
+use routing::Routing;
+use std::alloc::Global;
+use te_model::{Items, Matrix, Memory, Network, PairRoutes};
+
+/// The greatest value that is an improvement on this one.
+fn improved(parts: u128) -> u128
+    requires some { 1 ≤ parts }
+    requires fits { parts ≤ 2 ^ 84 }
+    ensures { (y : ℕ) → Improves parts y ↔ (y ≤ result) }
+{
+    parts * 1023 / 1024
+}
+
+/// A move that lowers the greatest utilisation by a 1024th of it at least, and `None` exactly where
+/// there is none. `loads` has the load of each link.
+fn next_move(
+    net: &Network,
+    matrix: &Matrix,
+    routes: &[PairRoutes],
+    candidates: &[PairRoutes],
+    loads: &[u128],
+) -> Option<Move>
+    requires network { IsTrue (is_well_formed net.now) }
+    requires splits { IsTrue (are_splits routes.now) }
+    requires few { length routes.now < 2 ^ 32 }
+    requires pairs { length candidates.now ≡ length routes.now }
+    requires demands { AreDemands (length routes.now) matrix.now.demand }
+    requires loads { AreLoads net.now matrix.now.demand routes.now loads.now }
+    ensures place { IfSome result (λ m. m.target.candidate < length (routes_at candidates.now m.pair).paths) }
+    ensures some { IfSome result (λ m. CanMove routes.now candidates.now m.pair m.from (links_at (routes_at candidates.now m.pair).paths m.target.candidate) m.target.size) }
+    ensures improves { IfSome result (λ m. (moved : List PairRoutes) → IsMoved routes.now m.pair m.from (links_at (routes_at candidates.now m.pair).paths m.target.candidate) m.target.size moved → Improves (parts net.now routes.now matrix.now.demand) (parts net.now moved matrix.now.demand)) }
+    ensures none { IfNone result (IsStable net.now matrix.now.demand candidates.now routes.now) }
+{
+    let peak = peak_of(net, loads);
+    if peak.parts == 0 {
+        return None;
+    }
+    let times = improved(peak.parts);
+    let aim = Aim {
+        link: peak.link,
+        times,
+    };
+    fitting_move(net, matrix, loads, aim, routes, candidates)
+}
+
+/// The routing after moves of weight between the paths of single pairs, until no move helps any
+/// more: an approximate local optimum (Orlin, Punnen and Schulz, 2004).
+///
+/// A move takes 10,000, 100,000 or 1,000,000 millionths of a pair's demand, or the whole weight of
+/// the path where it is less, to another path, which `candidates` has for the pair, whatever
+/// its weight there is. It helps where it lowers the greatest utilisation, in millionths and rounded
+/// up, by a 1024th at least. `matrix` has one demand for each pair, of at most 2^32. The routing uses
+/// no other paths than it had and the candidates, and its greatest utilisation is no greater.
+///
+/// `Memory` comes where memory is wanting.
+pub fn settle(
+    alloc: Global,
+    net: &Network,
+    matrix: &Matrix,
+    routing: Routing,
+    candidates: &Routing,
+) -> Result<Routing, Memory>
+    requires network { IsTrue (is_well_formed net.now) }
+    requires few { length routing.routes < 2 ^ 32 }
+    requires demands { AreDemands (length routing.routes) matrix.now.demand }
+    requires routings { (pairs : List Pair) × IsRoutingOf net.now pairs routing.routes × IsRoutingOf net.now pairs candidates.now.routes }
+    ensures routing { (pairs : List Pair) → IsRoutingOf net.now pairs routing.routes → IfOk result (λ r. IsRoutingOf net.now pairs r.routes) }
+    ensures stable { IfOk result (λ r. IsStable net.now matrix.now.demand candidates.now.routes r.routes) }
+    ensures parts { IfOk result (λ r. parts net.now r.routes matrix.now.demand ≤ parts net.now routing.routes matrix.now.demand) }
+    ensures only { IfOk result (λ r. UsesOnly routing.routes candidates.now.routes r.routes) }
+    ensures few { (limit : ℕ) → HaveFewTogether limit routing.routes candidates.now.routes → IfOk result (λ r. HasFewPaths limit r.routes) }
+{
+    let mut loads = routing.loads(alloc, net, matrix)?;
+    let mut routes = routing.routes.into_vec();
+    let others = candidates.routes.as_slice();
+    while let Some(step) = next_move(net, matrix, &routes, others, &loads) {
+        carry_move(matrix, &routes, others, &mut loads, step);
+        take_move(alloc, &mut routes, others, step)?;
+    }
+    Ok(Routing {
+        routes: Items::new(routes),
+    })
+}

@@ -1,0 +1,7 @@
+use Rattle.std.proofs.Common.{◌≡◌, ◌^◌, ◌<◌, max}
+use Rattle.te_model.specs.Counting.{greatest_below}
+use Rattle.multiplicative_lengths.specs.Growth.{usage_of}
+use Rattle.multiplicative_lengths.proofs.growth.greatest_usage.Given as goal
+
+abbrev pub invariant-loop-h : goal.invariant-loop-h
+invariant-loop-h l = (l.most ≡ max 1 (greatest_below l.h (usage_of l.net l.loads))) × (l.most < 2 ^ 84)

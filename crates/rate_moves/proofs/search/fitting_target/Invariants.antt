@@ -1,6 +1,0 @@
-use Rattle.std.proofs.Common.{ℕ, ◌<◌}
-use Rattle.rate_moves.specs.Search.{Fits}
-use Rattle.rate_moves.proofs.search.fitting_target.Given as goal
-
-abbrev pub invariant-loop-j : goal.invariant-loop-j
-invariant-loop-j l = (j size : ℕ) → j < l.j → Fits l.net l.loads l.aim.times l.demand l.from l.candidates j size → ⊥
