@@ -11,7 +11,8 @@ use Rattle.te_model.specs.declared.route.PairRoutes.{PairRoutes}
 use Rattle.te_model.specs.Path.{routes_at, no_routes}
 use Rattle.flow_sim.specs.Asking.{numbers_below}
 use Rattle.flow_sim.specs.Queues.{queues_in, queue_at, asks, asking_of, HasRoom, AreAlike, AreAdded, AreQueues}
-use Rattle.flow_sim.specs.Traffic.{concat_below, flow_paths, longest, no_path, paths_of}
+use Rattle.routing.specs.Merge.{no_path}
+use Rattle.flow_sim.specs.Traffic.{concat_below, flow_paths, longest, paths_of}
 use Rattle.flow_sim.proofs.StartLaws.{longest-append}
 
 none_more : (ys : List ℕ) (x : ℕ) (b : Bool) → b ≡ false → ys ≡ ys ++ (if b then x ∷ [] else [])

@@ -1,65 +1,55 @@
 -- What the conditions of a step say in numbers.
-use Rattle.std.proofs.Common.{◌≡◌, ℕ, zero, suc, ◌+◌, ◌*◌, ◌<◌, ◌≤◌, ◌^◌, true, List, [], ◌∷◌, length, sum, arith, refl, ap, ◌∙◌, inl, inr, ◌==◌, ◌&&◌, ◌||◌}
+use Rattle.std.proofs.Common.{◌≡◌, ◌⊎◌, ℕ, suc, ◌+◌, ◌*◌, ◌<◌, ◌≤◌, ◌^◌, true, List, [], ◌∷◌, length, sum, arith, refl, ap, ◌∙◌, inl, inr, ◌==◌, ◌&&◌, ◌||◌}
 use Rattle.std.specs.Prelude.{All, nat_lt, slice_index_or}
 use Rattle.std.proofs.lemmas.Bool.{cases_lt}
 use Rattle.std.proofs.lemmas.Bool.Decides.{nat_tests}
 use Rattle.std.proofs.lemmas.List.{length-map}
 use Rattle.std.proofs.lemmas.List.Elements.{All-get_or, All-weaker}
 use Rattle.std.proofs.lemmas.List.Sums.{sum-map}
+use Rattle.te_model.specs.declared.limits.TheConstants.{FORMAT_2}
 use Rattle.te_model.specs.declared.network.Network.{Network}
 use Rattle.te_model.specs.declared.route.PairRoutes.{PairRoutes}
 use Rattle.te_model.specs.declared.route.PathShare.{PathShare}
 use Rattle.te_model.specs.Network.{node_count, link_count, is_well_formed}
 use Rattle.te_model.specs.Path.{no_routes, is_path, chains, is_distinct, nodes_visited}
 use Rattle.te_model.proofs.ApportionLaws.{index_le_sum}
+use Rattle.te_model.specs.Pairs.{no_pair, pair_at}
+use Rattle.te_model.proofs.Chains.{walk_links}
+use Rattle.te_model.proofs.FewPairs.{ascending_few}
 use Rattle.te_model.proofs.Tests.{and_true, list_all_at}
-use Rattle.routing.proofs.Cutting.{chained_links}
+use Rattle.te_model.proofs.WellFormed.{few_nodes}
 use Rattle.te_model.specs.declared.route.Pair.{Pair}
 use Rattle.te_model.specs.declared.units.TheConstants.{SHARE_UNIT}
 use Rattle.routing.specs.Split.{total_weight}
-use Rattle.local_recovery.specs.Rates.{has_rates, have_rates, pairs_of, no_pair, ArePairs, IsRates}
+use Rattle.local_recovery.specs.Rates.{has_rates, have_rates, pairs_of, IsRates}
 use Rattle.flow_sim.specs.Traffic.{paths_of, weights, CanSplit}
 
-few_nodes : (net : Network) → is_well_formed net ≡ true → node_count net ≤ 64
-few_nodes net formed = grind (arith, nat_tests)
-
 -- a number for each pair, which rises with the pairs
-abbrev pair_number : List Pair → ℕ → ℕ
-pair_number pairs p = (slice_index_or pairs p no_pair).src * 64 + (slice_index_or pairs p no_pair).dst
+number_of : Pair → ℕ
+number_of q = q.src * FORMAT_2.nodes + q.dst
 
-pair_number_small : (net : Network) (pairs : List Pair) → is_well_formed net ≡ true → ArePairs net pairs → (p : ℕ) → p < length pairs →
-    ((slice_index_or pairs p no_pair).src < 64) × ((slice_index_or pairs p no_pair).dst < 64)
-pair_number_small net pairs formed are p below =
-    let nodes = All-get_or (λ (q : Pair). (q.src < node_count net) × (q.dst < node_count net)) pairs p no_pair below are.nodes in
-    let few = few_nodes net formed in
-    (omega (arith, nodes.0), omega (arith, nodes.1))
+number_rises : (p q : Pair) → p.dst < FORMAT_2.nodes → (p.src < q.src) ⊎ ((p.src ≡ q.src) × (p.dst < q.dst)) → number_of p < number_of q
+unfolding number_of
+number_rises p q small (inl less) = omega arith
+number_rises p q small (inr same) = omega (arith, same.0, same.1)
 
-rises : (s d t e : ℕ) → d < 64 → e < 64 → (nat_lt s t || (s == t && nat_lt d e)) ≡ true → s * 64 + d < t * 64 + e
-rises s d t e small small' test = grind (arith, nat_tests)
-
-pair_number_rises : (net : Network) (pairs : List Pair) → is_well_formed net ≡ true → ArePairs net pairs → (p : ℕ) → p < length pairs →
-    p ≤ pair_number pairs p
-pair_number_rises net pairs formed are zero below = omega arith
-pair_number_rises net pairs formed are (suc p) below =
-    let low = pair_number_small net pairs formed are p (omega arith) in
-    let high = pair_number_small net pairs formed are (suc p) below in
-    let q = slice_index_or pairs p no_pair in
-    let r = slice_index_or pairs (suc p) no_pair in
-    omega (
-      arith,
-      pair_number_rises net pairs formed are p (omega arith),
-      rises q.src q.dst r.src r.dst low.1 high.1 (are.ascending p below),
-    )
+number_small : (q : Pair) → q.src < FORMAT_2.nodes → q.dst < FORMAT_2.nodes → number_of q < FORMAT_2.nodes * FORMAT_2.nodes
+unfolding number_of
+number_small q src dst = omega arith
 
 -- so there are at most as many as two nodes can be chosen
-pub few_pairs : (net : Network) (rates : List PairRoutes) → is_well_formed net ≡ true → IsRates net rates → length rates ≤ 4096
-few_pairs net rates formed is = go (length rates) (length-map rates (λ r. r.pair))
-  where
-    go : (n : ℕ) → length (pairs_of rates) ≡ n → n ≤ 4096
-    go zero e = omega arith
-    go (suc n) e =
-        let last = pair_number_small net (pairs_of rates) formed is.pairs n (omega arith) in
-        omega (arith, pair_number_rises net (pairs_of rates) formed is.pairs n (omega arith), last.0, last.1)
+pub few_pairs : (net : Network) (rates : List PairRoutes) → is_well_formed net ≡ true → IsRates net rates →
+    length rates ≤ FORMAT_2.nodes * FORMAT_2.nodes
+few_pairs net rates formed is =
+    let pairs = pairs_of rates in
+    let few = few_nodes net formed in
+    let nodes = λ (p : ℕ) (below : p < length pairs).
+    All-get_or (λ (q : Pair). (q.src < node_count net) × (q.dst < node_count net)) pairs p no_pair below is.pairs.nodes in
+    let count : length pairs ≤ FORMAT_2.nodes * FORMAT_2.nodes =
+    ascending_few (length pairs) (FORMAT_2.nodes * FORMAT_2.nodes) (λ p. number_of (pair_at pairs p))
+    (λ p below. number_rises (pair_at pairs p) (pair_at pairs (suc p)) (let at = nodes p (omega arith) in omega (arith, at.1)) (is.pairs.ascending p below))
+    (λ p below. let at = nodes p below in number_small (pair_at pairs p) (omega (arith, at.0)) (omega (arith, at.1))) in
+    omega (arith, count, length-map rates (λ r. r.pair))
 
 split_of : (paths : List PathShare) → length paths ≤ 4096 → (length paths == 0 || total_weight paths == SHARE_UNIT) ≡ true → CanSplit paths
 split_of [] few test = (few, λ i below. absurd (omega arith), λ some. absurd (omega arith))
@@ -80,7 +70,7 @@ pub links_stand : (net : Network) (rates : List PairRoutes) → IsRates net rate
 links_stand net rates is p below =
     let routes = slice_index_or rates p no_routes in
     All-weaker (λ (s : PathShare). is_path net routes.pair.src routes.pair.dst s.links ≡ true) (λ (s : PathShare). All (λ e. e < link_count net) s.links)
-    (λ s path. chained_links net routes.pair.src routes.pair.dst s.links
+    (λ s path. walk_links net routes.pair.src routes.pair.dst s.links
     (and_true (chains net routes.pair.src routes.pair.dst s.links) (is_distinct (nodes_visited net routes.pair.src s.links)) path).0)
     routes.paths
     (All-get_or (λ (r : PairRoutes). All (λ (s : PathShare). is_path net r.pair.src r.pair.dst s.links ≡ true) r.paths) rates p no_routes below is.paths)

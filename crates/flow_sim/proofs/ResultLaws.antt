@@ -1,11 +1,12 @@
 -- What a step gives for each pair and each link.
-use Rattle.std.proofs.Common.{◌≡◌, ℕ, zero, suc, ◌+◌, ◌-◌, ◌<◌, ◌≤◌, ◌^◌, Bool, List, [], ◌∷◌, ◌++◌, length, map, sum, sum_by, slice_index, arith, refl, ap, sym, ◌∙◌, ◌==◌, All, add-one, subst}
+use Rattle.std.proofs.Common.{◌≡◌, ◌*◌, ℕ, zero, suc, ◌+◌, ◌-◌, ◌<◌, ◌≤◌, ◌^◌, Bool, List, [], ◌∷◌, ◌++◌, length, map, sum, sum_by, slice_index, arith, refl, ap, sym, ◌∙◌, ◌==◌, All, add-one, subst}
 use Rattle.std.specs.Prelude.{slice_index_or, if◌then◌else◌}
 use Rattle.std.specs.List.{range_with_len}
 use Rattle.std.proofs.lemmas.List.{get_or_default}
 use Rattle.std.proofs.lemmas.List.FromFn.{fill_by_all, map-range_with_len_more, length-map-range_with_len, get_or-map-range_with_len}
 use Rattle.std.proofs.lemmas.List.Elements.{All-from_get_or, All-head, All-tail}
 use Rattle.std.proofs.lemmas.List.Sums.{sum_by-cons, sum-map}
+use Rattle.te_model.specs.declared.limits.TheConstants.{FORMAT_2}
 use Rattle.te_model.specs.declared.network.Network.{Network}
 use Rattle.te_model.specs.declared.route.PairRoutes.{PairRoutes}
 use Rattle.te_model.specs.Counting.{sum_below}
@@ -180,7 +181,7 @@ pub sums_fit : (pairs : List PairResult) → All IsConserved pairs → sum_by (�
     × (sum_by (λ p. p.lost_failed) pairs < 2 ^ 64) × (sum_by (λ p. p.lost_no_path) pairs < 2 ^ 64)
 sums_fit pairs all fits = let e = sums_conserved pairs all in (omega arith, omega arith, omega arith, omega arith)
 
-pub offered_fits : (pairs : List PairResult) (demand : List ℕ) → map (λ p. p.offered) pairs ≡ demand → length demand ≤ 4096 →
+pub offered_fits : (pairs : List PairResult) (demand : List ℕ) → map (λ p. p.offered) pairs ≡ demand → length demand ≤ FORMAT_2.nodes * FORMAT_2.nodes →
     ((p : ℕ) → p < length demand → slice_index demand p ≤ 2 ^ 32) → sum_by (λ p. p.offered) pairs < 2 ^ 64
 offered_fits pairs demand are few small =
     omega (arith, sum-map (λ (p : PairResult). p.offered) pairs, ap sum are, sum_small demand (2 ^ 32) small)

@@ -1,10 +1,11 @@
 -- How a step begins, and how many rounds it has.
-use Rattle.std.proofs.Common.{◌≡◌, ℕ, zero, suc, ◌+◌, ◌<◌, ◌≤◌, ◌^◌, Bool, List, [], ◌∷◌, ◌++◌, length, max, sum, slice_index, take, add-one, rules, arith, refl, ap, ◌∙◌}
+use Rattle.std.proofs.Common.{◌≡◌, ℕ, zero, suc, ◌+◌, ◌*◌, ◌<◌, ◌≤◌, ◌^◌, Bool, List, [], ◌∷◌, ◌++◌, length, max, sum, slice_index, take, add-one, rules, arith, refl, ap, ◌∙◌}
 use Rattle.std.specs.Ordering.{ord_max, nat_cmp}
 use Rattle.std.specs.Prelude.{slice_index_or}
 use Rattle.std.proofs.lemmas.List.{get_or-map, get_or_default, length-map, take_more}
 use Rattle.std.proofs.lemmas.List.Sums.{sum_by-append}
 use Rattle.std.proofs.lemmas.List.FromFn.{length-map-range_with_len}
+use Rattle.te_model.specs.declared.limits.TheConstants.{FORMAT_2}
 use Rattle.te_model.specs.declared.network.Network.{Network}
 use Rattle.te_model.specs.declared.route.PathShare.{PathShare}
 use Rattle.te_model.specs.declared.route.PairRoutes.{PairRoutes}
@@ -37,7 +38,7 @@ part_sum d [] split = omega (arith, none)
 part_sum d (s ∷ ss) split = omega (arith, apportion-sum d (weights (s ∷ ss)) (split.2 (omega arith)))
 
 -- the units of all flows fit 64 bits
-pub starts_fit : (rates : List PairRoutes) (demand : List ℕ) → length rates ≤ 4096 → length demand ≡ length rates →
+pub starts_fit : (rates : List PairRoutes) (demand : List ℕ) → length rates ≤ FORMAT_2.nodes * FORMAT_2.nodes → length demand ≡ length rates →
     ((p : ℕ) → p < length demand → slice_index demand p ≤ 2 ^ 32) → ((p : ℕ) → p < length rates → CanSplit (paths_of rates p)) →
     sum (flow_starts rates demand) < 2 ^ 64
 starts_fit rates demand few same small split =

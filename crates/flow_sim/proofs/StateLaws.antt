@@ -11,7 +11,8 @@ use Rattle.te_model.specs.declared.route.PathShare.{PathShare}
 use Rattle.te_model.specs.declared.route.PairRoutes.{PairRoutes}
 use Rattle.te_model.specs.Counting.{sum_below}
 use Rattle.te_model.specs.Network.{link_count}
-use Rattle.te_model.proofs.Sums.{sum_below-same, sum_below-le, sum_below-zero}
+use Rattle.te_model.proofs.Conditionals.{if_le-self}
+use Rattle.te_model.proofs.Sums.{sum_below-same, sum_below-le, sum_below-term, sum_below-zero}
 use Rattle.te_model.proofs.ApportionLaws.{sum_made, sum_is_below}
 use Rattle.flow_sim.specs.declared.state.State.{State}
 use Rattle.flow_sim.specs.Asking.{numbers_below, asking, arrived}
@@ -20,13 +21,14 @@ use Rattle.flow_sim.specs.Queues.{queues_in, asks, AreQueues}
 use Rattle.flow_sim.specs.Serving.{Flow, flow_at, flow_served, link_serves, served_by, IsAbsent, HasShape, HasRoomFor, IsServed, IsRound, AreApart}
 use Rattle.flow_sim.specs.State.{IsState}
 use Rattle.flow_sim.specs.Step.{Setting, arrivals, served, passed, used, units, lost, before_round, lost_failed_before, lost_full_before}
-use Rattle.flow_sim.specs.Traffic.{flow_paths, no_path, step_setting}
+use Rattle.routing.specs.Merge.{no_path}
+use Rattle.flow_sim.specs.Traffic.{flow_paths, step_setting}
 use Rattle.flow_sim.proofs.Conservation.{kept_so_far}
 use Rattle.flow_sim.proofs.Level.{fair-sum}
 use Rattle.flow_sim.proofs.OwnShares.{padded, passing_sum, own_sum, placed, passing_ascend, passing_place, serves_fairly}
 use Rattle.flow_sim.proofs.QueueLaws.{numbers_below-same}
 use Rattle.flow_sim.proofs.ServeLaws.{map-same}
-use Rattle.flow_sim.proofs.TableLaws.{zero_read, next_fits}
+use Rattle.flow_sim.proofs.TableLaws.{zero_read}
 
 -- the queues of a round hold the flows that ask their links
 pub record AreAsking (s : Setting) (r : ℕ) (queues : List (List ℕ)) : Type 0 where
@@ -260,15 +262,12 @@ shape_is s r state known = record {
   left = known.links;
 }
 
-term_le : (n f : ℕ) (start : ℕ → ℕ) → f < n → start f ≤ sum_below n start
-term_le n f start below = omega (arith, next_fits n f start below)
-
 -- what a flow has and has lost is no more than it started with
 pub lost_fits : (s : Setting) (r : ℕ) (state : State) → IsState s r state → sum_below s.flows s.start < 2 ^ 64 →
     (f : ℕ) → f < s.flows → HasRoomFor state f
 lost_fits s r state known small f below =
     let kept = kept_so_far s f r in
-    let start = term_le s.flows f s.start below in
+    let start = sum_below-term s.flows f s.start below in
     let a = known.units_are f below in
     let b = known.full_is f below in
     let d = known.failed_is f below in
@@ -287,12 +286,8 @@ asking_fits s r queues state known are small e =
             ap (λ q. sum (map u q)) (are.asking e inside),
             passing_sum s.flows test u (λ x. x) refl,
             sum_below-le s.flows (λ f. padded test u f) s.start (λ f below.
-                omega (arith, part_le (test f) (u f), known.units_are f below, kept_so_far s f r)),
+                omega (arith, if_le-self (test f) (u f), known.units_are f below, kept_so_far s f r)),
             small,
           )
       | inr past ↦ omega (arith, ap (λ q. sum (map (slice_index state.units.items) q)) (get_or_past queues e [] (omega (arith, past, are.links))))
     ]
-  where
-    part_le : (b : Bool) (x : ℕ) → (if b then x else 0) ≤ x
-    part_le true x = omega arith
-    part_le false x = omega arith

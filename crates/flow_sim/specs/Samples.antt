@@ -22,6 +22,9 @@ half_over links = record { links = links; weight = 500000 }
 abbrev pub straight : Pair
 straight = record { src = 0; dst = 1 }
 
+abbrev pub back : Pair
+back = record { src = 1; dst = 0 }
+
 -- half of the demand from s to t on the straight link, and half over x
 abbrev pub two_ways : List PairRoutes
 two_ways = record { pair = straight; paths = half_over (0 ∷ []) ∷ half_over (1 ∷ 2 ∷ []) ∷ [] } ∷ []

@@ -6,6 +6,7 @@ use Rattle.te_model.specs.declared.route.PairRoutes.{PairRoutes}
 use Rattle.te_model.specs.Network.{link_count, capacity_of}
 use Rattle.te_model.specs.Path.{routes_at}
 use Rattle.te_model.specs.Apportion.{apportion}
+use Rattle.routing.specs.Merge.{no_path}
 use Rattle.flow_sim.specs.Step.{Setting}
 
 -- the lists of the numbers below n, one after the other
@@ -31,9 +32,6 @@ starts_of rates demand p = apportion (slice_index demand p) (weights (paths_of r
 
 abbrev pub flow_starts : List PairRoutes → List ℕ → List ℕ
 flow_starts rates demand = concat_below (length rates) (starts_of rates demand)
-
-abbrev pub no_path : PathShare
-no_path = record { links = []; weight = 0 }
 
 -- how many links the longest path has
 abbrev pub longest : List PathShare → ℕ

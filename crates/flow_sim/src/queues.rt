@@ -1,5 +1,6 @@
 //! Puts each flow of a step into the queues of the links of its path.
-ghost use Rattle.std.specs.Prelude.{◌≡◌, ℕ, ◌+◌, ◌^◌, ◌<◌, ◌≤◌, [], ◌∷◌, ◌++◌, All, IfOk, OnOk, length, slice_index_or, slice_set, if◌then◌else◌, vec_len};
+ghost use Rattle.std.specs.Prelude.{◌≡◌, ℕ, ◌+◌, ◌*◌, ◌^◌, ◌<◌, ◌≤◌, [], ◌∷◌, ◌++◌, All, IfOk, OnOk, length, slice_index_or, slice_set, if◌then◌else◌, vec_len};
+ghost use Rattle.te_model.specs.declared.limits.TheConstants.{FORMAT_2};
 ghost use Rattle.flow_sim.specs.Queues.{queues_in, queue_at, asks, HasRoom, AreAlike, AreAdded, AreQueues};
 ghost use Rattle.flow_sim.specs.Traffic.{longest, flow_paths, paths_of};
 
@@ -60,7 +61,7 @@ pub fn queues_of(
     rounds: usize,
     links: usize,
 ) -> Result<Vec<Round>, Memory>
-    requires pairs { length rates.now ≤ 4096 }
+    requires pairs { length rates.now ≤ FORMAT_2.nodes * FORMAT_2.nodes }
     requires few { (p : ℕ) → p < length rates.now → length (paths_of rates.now p) ≤ 4096 }
     requires rounds { longest (flow_paths rates.now) ≤ rounds }
     requires links { (p : ℕ) → p < length rates.now → All (λ s. All (λ e. e < links) s.links) (paths_of rates.now p) }

@@ -1,5 +1,6 @@
 //! The rounds of a step.
-ghost use Rattle.std.specs.Prelude.{◌≡◌, ℕ, ◌+◌, ◌^◌, ◌<◌, ◌≤◌, All, length, map, slice_index, EachIndex, IfOk};
+ghost use Rattle.std.specs.Prelude.{◌≡◌, ℕ, ◌+◌, ◌*◌, ◌^◌, ◌<◌, ◌≤◌, All, length, map, slice_index, EachIndex, IfOk};
+ghost use Rattle.te_model.specs.declared.limits.TheConstants.{FORMAT_2};
 ghost use Rattle.te_model.specs.Network.{link_count};
 ghost use Rattle.flow_sim.specs.Traffic.{step_setting, longest, flow_paths, paths_of, CanSplit};
 ghost use Rattle.flow_sim.specs.State.{IsState, IsStart};
@@ -79,7 +80,7 @@ pub fn run(
 ) -> Result<State, Memory>
     requires marks { length failed.now ≡ link_count net.now }
     requires lengths { length matrix.now.demand ≡ length rates.now }
-    requires pairs { length rates.now ≤ 4096 }
+    requires pairs { length rates.now ≤ FORMAT_2.nodes * FORMAT_2.nodes }
     requires demands { EachIndex matrix.now.demand (λ p. slice_index matrix.now.demand p ≤ 2 ^ 32) }
     requires paths { (p : ℕ) → p < length rates.now → CanSplit (paths_of rates.now p) }
     requires links { (p : ℕ) → p < length rates.now → All (λ s. All (λ e. e < link_count net.now) s.links) (paths_of rates.now p) }

@@ -1,6 +1,7 @@
 //! One step: what becomes of each pair's demand on links that may be full or have failed.
-ghost use Rattle.std.specs.Prelude.{◌≡◌, ℕ, ◌+◌, ◌-◌, ◌^◌, ◌<◌, ◌≤◌, All, EachIndex, IfOk, IsTrue, length, map, sum, slice_index, if◌then◌else◌, ◌==◌};
+ghost use Rattle.std.specs.Prelude.{◌≡◌, ℕ, ◌+◌, ◌*◌, ◌-◌, ◌^◌, ◌<◌, ◌≤◌, All, EachIndex, IfOk, IsTrue, length, map, sum, slice_index, if◌then◌else◌, ◌==◌};
 ghost use Rattle.std.specs.List.{range_with_len};
+ghost use Rattle.te_model.specs.declared.limits.TheConstants.{FORMAT_2};
 ghost use Rattle.te_model.specs.Network.{is_well_formed, link_count, capacity_of};
 ghost use Rattle.local_recovery.specs.Rates.{IsRates};
 ghost use Rattle.flow_sim.specs.Traffic.{step_setting, longest, flow_paths, flow_pairs, paths_of};
@@ -78,7 +79,7 @@ fn results(
     end: &State,
 ) -> Result<Vec<PairResult>, Memory>
     requires demands { length matrix.now.demand ≡ length rates.now }
-    requires pairs { length rates.now ≤ 4096 }
+    requires pairs { length rates.now ≤ FORMAT_2.nodes * FORMAT_2.nodes }
     requires flows { (length end.now.units.items ≡ length (flow_pairs rates.now))
         × (length end.now.lost_full.items ≡ length (flow_pairs rates.now)) × (length end.now.lost_failed.items ≡ length (flow_pairs rates.now)) }
     requires fits { (sum end.now.units.items < 2 ^ 64) × (sum end.now.lost_full.items < 2 ^ 64) × (sum end.now.lost_failed.items < 2 ^ 64) }

@@ -10,44 +10,15 @@ use Rattle.te_model.specs.declared.network.Network.{Network}
 use Rattle.te_model.specs.declared.route.PathShare.{PathShare}
 use Rattle.te_model.specs.Network.{link_count, tail_of, head_of}
 use Rattle.te_model.specs.Path.{chains, is_path, nodes_visited, is_distinct}
+use Rattle.te_model.proofs.Chains.{chain_from, chains-append, first_link, walk_links}
 use Rattle.shortest_path.specs.Costs.{costs_of}
 use Rattle.shortest_path.specs.Least.{IsLeastWalk, links_of}
 use Rattle.te_model.specs.declared.route.Path.{Path}
 use Rattle.shortest_path.proofs.Walks.{chains_of_walk}
 use Rattle.routing.specs.Loops.{end_of}
 use Rattle.routing.specs.Split.{total_weight}
-use Rattle.routing.proofs.Cutting.{cut_is_path, chained_links}
+use Rattle.routing.proofs.Cutting.{chains_to_end, cut_is_path}
 use Rattle.local_recovery.specs.Recovery.{has_failed, open_links, stand_in_at, IsStandIn, AreStandIns, LeadOn, joined, walk_over, IsPart, AreParts}
-
--- what a chain of at least one link has
-pub chain_parts : (net : Network) (s t h : ℕ) (hs : List ℕ) → chains net s t (h ∷ hs) ≡ true →
-    (h < link_count net) × (tail_of net h ≡ s) × (chains net (head_of net h) t hs ≡ true)
-chain_parts net s t h hs chain =
-    let outer = and_parts (nat_lt h (link_count net) && tail_of net h == s) (chains net (head_of net h) t hs) chain in
-    let inner = and_parts (nat_lt h (link_count net)) (tail_of net h == s) outer.0 in
-    let test = inner.0 in
-    (grind (arith, nat_tests), eqb-true (tail_of net h) s inner.1, outer.1)
-
-chain_from : (net : Network) (s t h : ℕ) (hs : List ℕ) → h < link_count net → tail_of net h ≡ s → chains net (head_of net h) t hs ≡ true →
-    chains net s t (h ∷ hs) ≡ true
-chain_from net s t h hs below from rest =
-    let a : nat_lt h (link_count net) ≡ true = grind (arith, nat_tests) in
-    let b : (tail_of net h == s) ≡ true = eq-eqb (tail_of net h) s from in
-    rw (a, b) rest
-
-pub chains-append : (net : Network) (s u t : ℕ) (a b : List ℕ) → chains net s u a ≡ true → chains net u t b ≡ true → chains net s t (a ++ b) ≡ true
-chains-append net s u t [] b first second = subst (λ (x : ℕ). chains net x t b ≡ true) (sym (eqb-true s u first)) second
-chains-append net s u t (h ∷ hs) b first second =
-    let is = chain_parts net s u h hs first in
-    chain_from net s t h (hs ++ b) is.0 is.1 (chains-append net (head_of net h) u t hs b is.2 second)
-
-chains-end : (net : Network) (s t : ℕ) (walk : List ℕ) → chains net s t walk ≡ true → end_of net s walk ≡ t
-chains-end net s t [] chain = eqb-true s t chain
-chains-end net s t (h ∷ hs) chain = chains-end net (head_of net h) t hs (chain_parts net s t h hs chain).2
-
--- a chain leads to its end
-pub chains_to_end : (net : Network) (s t : ℕ) (walk : List ℕ) → chains net s t walk ≡ true → chains net s (end_of net s walk) walk ≡ true
-chains_to_end net s t walk chain = subst (λ (v : ℕ). chains net s v walk ≡ true) (sym (chains-end net s t walk chain)) chain
 
 link_chains : (net : Network) (h : ℕ) → h < link_count net → chains net (tail_of net h) (head_of net h) (h ∷ []) ≡ true
 link_chains net h below = chain_from net (tail_of net h) (head_of net h) h [] below refl (eq-eqb (head_of net h) (head_of net h) refl)
@@ -81,14 +52,14 @@ pub walk_chains : (net : Network) (stand_ins : List (Option (List ℕ))) (s t : 
     chains net s t links ≡ true → walk_over stand_ins links ≡ Some walk → chains net s t walk ≡ true
 walk_chains net stand_ins s t [] walk lead chain is = subst (λ w. chains net s t w ≡ true) (some_same [] walk is) chain
 walk_chains net stand_ins s t (h ∷ hs) walk lead chain is =
-    let link = chain_parts net s t h hs chain in
+    let link = first_link net s t h hs chain in
     let parts = joined_parts (stand_in_at stand_ins h) (walk_over stand_ins hs) walk is in
     let x = parts.0 in
     let y = parts.1 in
-    let first = lead.each h x link.0 parts.2 in
-    let rest = walk_chains net stand_ins (head_of net h) t hs y lead link.2 parts.3 in
+    let first = lead.each h x link.inside parts.2 in
+    let rest = walk_chains net stand_ins (head_of net h) t hs y lead link.rest parts.3 in
     subst (λ w. chains net s t w ≡ true) (sym parts.4)
-    (subst (λ (v : ℕ). chains net v t (x ++ y) ≡ true) link.1 (chains-append net (tail_of net h) (head_of net h) t x y first rest))
+    (subst (λ (v : ℕ). chains net v t (x ++ y) ≡ true) link.from (chains-append net (tail_of net h) (head_of net h) t x y first rest))
 
 joined-assoc : (a b c : Option (List ℕ)) → joined (joined a b) c ≡ joined a (joined b c)
 joined-assoc None b c = refl
@@ -212,7 +183,7 @@ links_stand net s t stand_ins x links lead path same =
     let chain = (and_parts (chains net s t x.links) (is_distinct (nodes_visited net s x.links)) path).0 in
     let count : link_count net ≡ length stand_ins = sym lead.count ∙ length-map stand_ins links_of in
     subst (λ (n : ℕ). All (λ h. h < n) links) count
-    (subst (All (λ h. h < link_count net)) (sym same) (chained_links net s t x.links chain))
+    (subst (All (λ h. h < link_count net)) (sym same) (walk_links net s t x.links chain))
 
 -- the walk over what stands in for the links of a path leads to its end
 pub walk_ready : (net : Network) (s t : ℕ) (stand_ins : List (Option (List ℕ))) (x : PathShare) (walk : List ℕ) → LeadOn net stand_ins →

@@ -10,11 +10,12 @@ use Rattle.te_model.specs.declared.network.Network.{Network}
 use Rattle.te_model.specs.declared.route.PathShare.{PathShare}
 use Rattle.te_model.specs.declared.route.PairRoutes.{PairRoutes}
 use Rattle.te_model.specs.declared.units.TheConstants.{SHARE_UNIT}
+use Rattle.te_model.specs.Pairs.{no_pair}
 use Rattle.te_model.specs.Path.{routes_at, no_routes}
 use Rattle.te_model.specs.PathRouting.{IsPathSplit, IsPathRouting}
 use Rattle.routing.specs.Routes.{HasFewPaths}
 use Rattle.routing.specs.Split.{total_weight}
-use Rattle.local_recovery.specs.Rates.{has_rates, have_rates, pairs_of, no_pair, HasPathsOf}
+use Rattle.local_recovery.specs.Rates.{has_rates, have_rates, pairs_of, HasPathsOf}
 use Rattle.local_recovery.specs.Recovery.{scaled, is_clear, LeadOn, IsBypassed, IsRecovered}
 use Rattle.routing.specs.Normal.{normalized}
 use Rattle.local_recovery.specs.declared.mode.Mode.{Mode}

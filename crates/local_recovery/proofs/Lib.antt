@@ -4,4 +4,3 @@ pub mod Merged
 pub mod Rescaling
 pub mod Left
 pub mod Spreading
-pub mod SampleLaws

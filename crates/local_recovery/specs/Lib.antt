@@ -1,4 +1,3 @@
 pub mod Rates
 pub mod Recovery
 pub mod Spread
-pub mod Samples

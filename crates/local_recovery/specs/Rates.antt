@@ -1,11 +1,12 @@
 -- Rates: the weighted paths of each pair that the traffic of a step takes. A pair may have none.
-use Rattle.std.specs.Prelude.{ℕ, suc, ◌<◌, Bool, ◌&&◌, ◌||◌, All, IsTrue, List, length, map, nat_lt, ◌==◌, slice_index_or}
+use Rattle.std.specs.Prelude.{◌<◌, Bool, ◌||◌, All, IsTrue, List, length, map, ◌==◌}
 use Rattle.std.specs.List.{list_all}
 use Rattle.te_model.specs.declared.network.Network.{Network}
 use Rattle.te_model.specs.declared.route.Pair.{Pair}
 use Rattle.te_model.specs.declared.route.PairRoutes.{PairRoutes}
 use Rattle.te_model.specs.declared.units.TheConstants.{SHARE_UNIT}
 use Rattle.te_model.specs.Network.{node_count}
+use Rattle.te_model.specs.Pairs.{AscendPairs}
 use Rattle.te_model.specs.Path.{is_path}
 use Rattle.routing.specs.Split.{total_weight}
 use Rattle.routing.specs.Routes.{HasFewPaths}
@@ -20,18 +21,10 @@ have_rates routes = list_all has_rates routes
 abbrev pub pairs_of : List PairRoutes → List Pair
 pairs_of routes = map (λ r. r.pair) routes
 
--- the order of pairs: by source, then by destination
-abbrev pub IsPairBelow : Pair → Pair → Type 0
-IsPairBelow p q = IsTrue (nat_lt p.src q.src || (p.src == q.src && nat_lt p.dst q.dst))
-
--- what stands for a pair that is not there
-abbrev pub no_pair : Pair
-no_pair = record { src = 0; dst = 0 }
-
 -- pairs of nodes of the network, which strictly ascend
 pub record ArePairs (net : Network) (pairs : List Pair) : Type 0 where
   pub nodes : All (λ p. (p.src < node_count net) × (p.dst < node_count net)) pairs
-  pub ascending : (k : ℕ) → suc k < length pairs → IsPairBelow (slice_index_or pairs k no_pair) (slice_index_or pairs (suc k) no_pair)
+  pub ascending : AscendPairs pairs
 
 -- each path is one of the network between its pair
 abbrev pub HasPathsOf : Network → List PairRoutes → Type 0

@@ -15,6 +15,3 @@ mod stand_in;
 pub use mode::Mode;
 pub use rates::Recovered;
 pub use recovery::recover;
-
-#[cfg(test)]
-mod tests;

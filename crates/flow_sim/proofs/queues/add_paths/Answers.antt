@@ -1,5 +1,5 @@
 use Rattle.std.proofs.lemmas.List.{get_or_default}
-use Rattle.flow_sim.specs.Traffic.{no_path}
+use Rattle.routing.specs.Merge.{no_path}
 use Rattle.flow_sim.proofs.QueueLaws.{added_more}
 use Rattle.flow_sim.proofs.queues.add_paths.Goals as goal
 

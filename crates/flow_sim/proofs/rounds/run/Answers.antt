@@ -1,6 +1,7 @@
-use Rattle.std.proofs.Common.{◌≡◌, ◌+◌, ◌<◌, ◌≤◌, ◌^◌, ℕ, Bool, List, [], length, slice_index, arith, refl, ap, sym, subst, ◌∙◌}
+use Rattle.std.proofs.Common.{◌≡◌, ◌*◌, ◌+◌, ◌<◌, ◌≤◌, ◌^◌, ℕ, Bool, List, [], length, slice_index, arith, refl, ap, sym, subst, ◌∙◌}
 use Rattle.std.specs.Prelude.{slice_index_or}
 use Rattle.std.proofs.lemmas.List.{get_or_default}
+use Rattle.te_model.specs.declared.limits.TheConstants.{FORMAT_2}
 use Rattle.te_model.specs.declared.network.Network.{Network}
 use Rattle.te_model.specs.declared.route.PairRoutes.{PairRoutes}
 use Rattle.te_model.specs.Network.{link_count}
@@ -18,7 +19,7 @@ use Rattle.flow_sim.proofs.StateLaws.{AreAsking, asking_are, apart_are, asking_f
 use Rattle.flow_sim.proofs.rounds.run.Goals as goal
 
 -- the units that the flows start with fit 64 bits
-starts_small : (net : Network) (failed : List Bool) (rates : List PairRoutes) (demand : List ℕ) → length rates ≤ 4096 →
+starts_small : (net : Network) (failed : List Bool) (rates : List PairRoutes) (demand : List ℕ) → length rates ≤ FORMAT_2.nodes * FORMAT_2.nodes →
     length demand ≡ length rates → ((p : ℕ) → p < length demand → slice_index demand p ≤ 2 ^ 32) →
     ((p : ℕ) → p < length rates → CanSplit (paths_of rates p)) →
     sum_below (step_setting net failed rates demand).flows (step_setting net failed rates demand).start < 2 ^ 64

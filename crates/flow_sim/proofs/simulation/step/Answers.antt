@@ -1,5 +1,6 @@
-use Rattle.std.proofs.Common.{◌≡◌, ◌<◌, ◌≤◌, ◌-◌, ◌^◌, ℕ, Bool, List, All, map, length, sum_by, slice_index, arith, sym, ap, subst, ◌∙◌}
+use Rattle.std.proofs.Common.{◌≡◌, ◌*◌, ◌<◌, ◌≤◌, ◌-◌, ◌^◌, ℕ, Bool, List, All, map, length, sum_by, slice_index, arith, sym, ap, subst, ◌∙◌}
 use Rattle.std.specs.List.{range_with_len}
+use Rattle.te_model.specs.declared.limits.TheConstants.{FORMAT_2}
 use Rattle.te_model.specs.declared.network.Network.{Network}
 use Rattle.te_model.specs.declared.route.PairRoutes.{PairRoutes}
 use Rattle.te_model.specs.Network.{link_count, capacity_of}
@@ -61,13 +62,13 @@ conserved : (net : Network) (failed : List Bool) (rates : List PairRoutes) (dema
 conserved net failed rates demand list are split = subst (All IsConserved) (sym are) (results_conserved net failed rates demand split)
 
 fits : (net : Network) (failed : List Bool) (rates : List PairRoutes) (demand : List ℕ) (list : List PairResult) →
-    list ≡ pair_results net failed rates demand → length demand ≡ length rates → length rates ≤ 4096 →
+    list ≡ pair_results net failed rates demand → length demand ≡ length rates → length rates ≤ FORMAT_2.nodes * FORMAT_2.nodes →
     ((p : ℕ) → p < length demand → slice_index demand p ≤ 2 ^ 32) → sum_by (λ p. p.offered) list < 2 ^ 64
 fits net failed rates demand list are same few small =
     offered_fits list demand (ap (map (λ (p : PairResult). p.offered)) are ∙ offered_are net failed rates demand same) (omega arith) small
 
 parts_fit : (net : Network) (failed : List Bool) (rates : List PairRoutes) (demand : List ℕ) (list : List PairResult) →
-    list ≡ pair_results net failed rates demand → length demand ≡ length rates → length rates ≤ 4096 →
+    list ≡ pair_results net failed rates demand → length demand ≡ length rates → length rates ≤ FORMAT_2.nodes * FORMAT_2.nodes →
     ((p : ℕ) → p < length demand → slice_index demand p ≤ 2 ^ 32) → ((p : ℕ) → p < length rates → CanSplit (paths_of rates p)) →
     (sum_by (λ p. p.delivered) list < 2 ^ 64) × (sum_by (λ p. p.lost_full) list < 2 ^ 64)
     × (sum_by (λ p. p.lost_failed) list < 2 ^ 64) × (sum_by (λ p. p.lost_no_path) list < 2 ^ 64)

@@ -1,7 +1,8 @@
 use Rattle.std.proofs.Common.{◌≡◌, length, arith, ap, sym, subst, ◌∙◌, true}
 use Rattle.std.specs.Prelude.{reverse, slice_index_or}
 use Rattle.std.proofs.lemmas.List.{get_or_default}
-use Rattle.local_recovery.specs.Rates.{have_rates, no_pair}
+use Rattle.te_model.specs.Pairs.{no_pair}
+use Rattle.local_recovery.specs.Rates.{have_rates}
 use Rattle.local_recovery.specs.Spread.{IsSpread}
 use Rattle.local_recovery.proofs.Spreading.{SpreadSoFar, spread_begin, spread_more, spread_end, spread_rates}
 use Rattle.local_recovery.proofs.rates.Recovered.spread.Goals as goal
