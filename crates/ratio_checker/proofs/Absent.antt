@@ -1,5 +1,5 @@
 -- A link without a block: all is read as zero but B, which is 1.
-use Rattle.std.proofs.Common.{◌≡◌, ◌==◌, zero, suc, Some, ap, sym, ◌∙◌, ℕ, ◌*◌, ◌<◌, true, false, None, List, length, refl, arith, slice_index, ◌+◌, ◌≤◌, nat_le}
+use Rattle.std.proofs.Common.{◌≡◌, ◌==◌, zero, suc, Some, ap, sym, ◌∙◌, ℕ, ◌*◌, ◌<◌, true, false, None, List, length, refl, arith, ◌+◌, ◌≤◌, nat_le}
 use Rattle.std.proofs.Math.Nat.{mul-le-mul_left}
 use Rattle.std.specs.Prelude.{unwrap_or}
 use Rattle.std.specs.List.{slice_get}
@@ -9,11 +9,13 @@ use Rattle.te_model.specs.declared.route.PairRoutes.{PairRoutes}
 use Rattle.te_model.specs.declared.certificate.Block.{Block}
 use Rattle.te_model.specs.declared.certificate.Head.{Head}
 use Rattle.te_model.specs.declared.demand.DemandSet.{DemandSet}
-use Rattle.te_model.specs.declared.demand.DemandSet.TheVariants.{All, Margin}
+use Rattle.te_model.specs.declared.demand.DemandSet.TheVariants.{All, Margin, Box}
 use Rattle.te_model.specs.Network.{node_count}
+use Rattle.te_model.specs.Counting.{sum_below}
+use Rattle.te_model.specs.Demand.{upper_of}
 use Rattle.te_model.specs.Path.{weight_on, routes_at}
 use Rattle.te_model.specs.Certificate.{empty_block, block_of}
-use Rattle.te_model.specs.Inequalities.{covers_share, keeps_margin, pays_weights, row_failure, potentials_failure, shares_failure, block_failure}
+use Rattle.te_model.specs.Inequalities.{covers_share, keeps_bounds, pays_weights, row_failure, potentials_failure, shares_failure, block_failure}
 use Rattle.te_model.proofs.Searches.{first_below_none, or_else-none}
 use Rattle.te_model.proofs.Sums.{sum_below-zero}
 use Rattle.ratio_checker.specs.Ascending.{AscendsFrom}
@@ -23,21 +25,20 @@ use Rattle.ratio_checker.proofs.RowFailures.{no_row_none}
 potentials_hold : (net : Network) (e : ℕ) → potentials_failure net (empty_block e) ≡ None
 potentials_hold net e = first_below_none (node_count net) (row_failure net (empty_block e)) (λ i below. no_row_none net (empty_block e) i refl)
 
-margin_holds : (set : DemandSet) (e : ℕ) → keeps_margin set (empty_block e) ≡ true
-margin_holds All e = refl
-margin_holds (Margin num den base) e =
-    le-leb _ _
-    (omega (
-      arith,
-      sum_below-zero (length base.demand) (λ p. slice_index base.demand p * (num * num) * 0) (λ k below. omega arith),
-    ))
+nothing_added : (n : ℕ) (bound : ℕ → ℕ) → sum_below n (λ p. bound p * 0) ≡ 0
+nothing_added n bound = sum_below-zero n (λ p. bound p * 0) (λ k below. omega arith)
+
+bounds_hold : (set : DemandSet) (n e : ℕ) → keeps_bounds set n (empty_block e) ≡ true
+bounds_hold All n e = refl
+bounds_hold (Margin num den base) n e = le-leb _ _ (omega (arith, nothing_added n (upper_of (Margin num den base))))
+bounds_hold (Box lower upper) n e = le-leb _ _ (omega (arith, nothing_added n (upper_of (Box lower upper))))
 
 pays_holds : (net : Network) (e ratio : ℕ) → pays_weights net (empty_block e) ratio ≡ true
 pays_holds net e ratio = le-leb _ _ (omega arith)
 
 pub empty_failure_is : (head : Head) (e : ℕ) → block_failure head (empty_block e) ≡ shares_failure head.routes (empty_block e)
 empty_failure_is head e =
-    rw (potentials_hold head.network e, margin_holds head.set e, pays_holds head.network e head.ratio)
+    rw (potentials_hold head.network e, bounds_hold head.set (length head.routes) e, pays_holds head.network e head.ratio)
     (or_else-none (shares_failure head.routes (empty_block e)))
 
 pub covers_by_no_share : (routes : List PairRoutes) (e p : ℕ) → weight_on (routes_at routes p).paths e ≡ 0 → covers_share routes (empty_block e) p ≡ true

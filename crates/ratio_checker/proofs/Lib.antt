@@ -9,3 +9,4 @@ pub mod Sizes
 pub mod Absent
 pub mod Validity
 pub mod Verdicts
+mod Weighed

@@ -1,5 +1,5 @@
 -- The first link on which a share is not covered, one pair after another, and what it says of each link.
-use Rattle.std.proofs.Common.{◌≡◌, ℕ, ◌+◌, ◌<◌, ◌≤◌, Bool, true, false, Option, Some, None, List, length, arith, refl, ap, sym, ◌∙◌, inl, inr, add-one, [], ◌∷◌}
+use Rattle.std.proofs.Common.{◌≡◌, ℕ, ◌+◌, ◌<◌, ◌≤◌, Bool, true, false, Option, Some, None, List, length, arith, ap, sym, ◌∙◌, inl, inr, add-one, [], ◌∷◌}
 use Rattle.std.specs.Prelude.{if◌then◌else◌}
 use Rattle.std.proofs.lemmas.Bool.{cases_lt, cases_eq, eq-eqb, ne_eqb}
 use Rattle.te_model.specs.declared.route.PairRoutes.{PairRoutes}
@@ -9,8 +9,9 @@ use Rattle.te_model.specs.declared.inequality.InequalityFault.{InequalityFault}
 use Rattle.te_model.specs.Counting.{or_else, first_some, first_below, unless}
 use Rattle.te_model.specs.Network.{link_count}
 use Rattle.te_model.specs.Certificate.{block_of}
-use Rattle.te_model.specs.Inequalities.{covers_share, failure_at, potentials_failure, shares_failure, keeps_margin, pays_weights, block_failure, of_link}
+use Rattle.te_model.specs.Inequalities.{covers_share, failure_at, potentials_failure, shares_failure, keeps_bounds, pays_weights, block_failure, of_link}
 use Rattle.te_model.proofs.Tests.{unless_none, or_else_none, first_below_none_at, first_failing_none_at}
+use Rattle.te_model.proofs.Failures.{of_link_none}
 use Rattle.te_model.proofs.Searches.{first_below_more, first_below_some, unless_some}
 use Rattle.ratio_checker.specs.declared.shares.Uncovered.{Uncovered}
 use Rattle.ratio_checker.specs.Uncovered.{failure_among, IsFirstUncovered, fault_on}
@@ -72,10 +73,6 @@ module _ (routes : List PairRoutes) (blocks : List Block) (links n : ℕ) where
             (unless_none (covers_share routes (block_of blocks e) n) e (found.before e (omega arith))),
       )
 
-of_link_none : (e : ℕ) (o : Option InequalityFault) → of_link e o ≡ None → o ≡ None
-of_link_none e None is = refl
-of_link_none e (Some f) is = cc
-
 -- where nothing fails of a link, nothing fails of I2
 no_share_fails : (c : Certificate) (e k : ℕ) → first_below e (λ j. of_link j (block_failure c.head (block_of c.blocks j))) ≡ None → k < e →
     shares_failure c.head.routes (block_of c.blocks k) ≡ None
@@ -83,10 +80,10 @@ no_share_fails c e k none below =
     let b = block_of c.blocks k in
     let whole = of_link_none k (block_failure c.head b) (first_below_none_at e (λ j. of_link j (block_failure c.head (block_of c.blocks j))) k none below) in
     let rest = or_else_none (potentials_failure c.head.network b)
-    (first_some (shares_failure c.head.routes b ∷ unless (keeps_margin c.head.set b) (failure_at 3 0) ∷ unless (pays_weights c.head.network b c.head.ratio) (failure_at 4 0) ∷ []))
+    (first_some (shares_failure c.head.routes b ∷ unless (keeps_bounds c.head.set (length c.head.routes) b) (failure_at 3 0) ∷ unless (pays_weights c.head.network b c.head.ratio) (failure_at 4 0) ∷ []))
     whole in
     (or_else_none (shares_failure c.head.routes b)
-    (first_some (unless (keeps_margin c.head.set b) (failure_at 3 0) ∷ unless (pays_weights c.head.network b c.head.ratio) (failure_at 4 0) ∷ [])) rest.1).0
+    (first_some (unless (keeps_bounds c.head.set (length c.head.routes) b) (failure_at 3 0) ∷ unless (pays_weights c.head.network b c.head.ratio) (failure_at 4 0) ∷ [])) rest.1).0
 
 -- what fails of I2 on link e, where nothing fails of the links before it
 pub fault_here : (c : Certificate) (u : Option Uncovered) (e : ℕ) →

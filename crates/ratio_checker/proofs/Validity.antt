@@ -12,9 +12,9 @@ use Rattle.te_model.specs.declared.certificate.Certificate.{Certificate}
 use Rattle.te_model.specs.Network.{node_count}
 use Rattle.te_model.specs.Path.{routes_at, source_of, destination_of}
 use Rattle.te_model.specs.Certificate.{empty_block}
-use Rattle.te_model.specs.Validity.{IsValid, IsValidBlock, fault_at, faults_from, rules, has_sound_paths, is_small, rows_ascend, pair_below}
+use Rattle.te_model.specs.Validity.{IsValid, IsValidBlock, is_small, rows_ascend, pair_below}
 use Rattle.te_model.proofs.ValidParts.{valid_parts}
-use Rattle.te_model.proofs.Tests.{and_true, list_all_weaker, first_some_none_at, first_failing_none_at}
+use Rattle.te_model.proofs.Tests.{and_true, list_all_weaker}
 use Rattle.te_model.proofs.Valid.{rules_hold, valid_limits, block_small}
 use Rattle.ratio_checker.specs.Ascending.{AscendsFrom}
 use Rattle.ratio_checker.specs.Checked.{CanCheckHead, CanCheckBlock}
@@ -30,11 +30,6 @@ never_falls n f step p (suc q) up below =
       | inr ge ↦ let e : p ≡ suc q = omega arith in rw e (omega arith)
     ]
 
--- V4 of each pair
-sound_paths : (c : Certificate) → IsValid c → (p : ℕ) → p < length c.head.routes → has_sound_paths c.head p ≡ true
-sound_paths c valid p below =
-    first_failing_none_at (length c.head.routes) (has_sound_paths c.head) (fault_at 4) p (first_some_none_at (faults_from 1 (rules c)) 3 valid.1) below
-
 pub valid_head : (c : Certificate) → IsValid c → CanCheckHead c.head
 valid_head c valid =
     let rules = rules_hold c valid.1 in
@@ -45,7 +40,7 @@ valid_head c valid =
           let order : pair_below c.head.routes k (suc k) ≡ true = grind (arith, nat_tests) in
           grind (arith, nat_tests));
       paths = λ p below. simple_paths c.head.network (source_of c.head.routes p) (destination_of c.head.routes p) (routes_at c.head.routes p).paths
-          (valid_limits c valid).links (sound_paths c valid p below);
+          (valid_limits c valid).links (rules.paths p below);
     }
 
 rows_in_order : (rows : List Row) (low : ℕ) → rows_ascend rows ≡ true → ((r : Row) (rs : List Row) → rows ≡ r ∷ rs → low ≤ r.source) →

@@ -3,15 +3,15 @@ use Rattle.std.specs.Prelude.{ℕ, ◌≤◌, ◌<◌, length, All, IsTrue}
 use Rattle.te_model.specs.declared.certificate.Block.{Block}
 use Rattle.te_model.specs.declared.certificate.Head.{Head}
 use Rattle.te_model.specs.declared.route.PathShare.{PathShare}
-use Rattle.te_model.specs.declared.limits.TheConstants.{FORMAT_1}
+use Rattle.te_model.specs.declared.limits.TheConstants.{FORMAT_2}
 use Rattle.te_model.specs.Network.{link_count, node_count}
 use Rattle.te_model.specs.Path.{is_distinct, routes_at, source_of}
 use Rattle.te_model.specs.Bounds.{HasSmallNumbers, HasSmallLimits}
 use Rattle.ratio_checker.specs.Ascending.{AscendsFrom}
 
--- a path whose links are within the limit of the format, none of them twice
+-- a path whose links are within the limit of the second format, none of them twice
 pub record IsSimplePath (s : PathShare) : Type 0 where
-  pub links : All (λ h. h < FORMAT_1.links) s.links
+  pub links : All (λ h. h < FORMAT_2.links) s.links
   pub once : IsTrue (is_distinct s.links)
 
 -- the numbers of the head are within their limits, its pairs ascend by their sources, and their paths are simple

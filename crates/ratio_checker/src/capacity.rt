@@ -1,6 +1,6 @@
 //! I4: the capacity of the link, times the ratio, pays for the weights.
 ghost use Rattle.std.specs.Prelude.{◌≡◌, ℕ, ◌^◌, ◌<◌, ◌≤◌};
-ghost use Rattle.te_model.specs.declared.limits.TheConstants.{FORMAT_1};
+ghost use Rattle.te_model.specs.declared.limits.TheConstants.{FORMAT_2};
 ghost use Rattle.te_model.specs.Network.{link_count, capacity_of};
 ghost use Rattle.te_model.specs.Inequalities.{pays_weights};
 ghost use Rattle.te_model.specs.Bounds.{HasSmallNumbers};
@@ -11,7 +11,7 @@ use te_model::{Block, Network, RATIO_UNIT, SHARE_UNIT, ceil_div, weighted_capaci
 #[tactic(auto, using(crate::proofs::Sizes::sizes))]
 pub fn pays_weights(network: &Network, block: &Block, ratio: u64) -> bool
     requires link { block.now.link < link_count network.now }
-    requires links { link_count network.now ≤ FORMAT_1.links }
+    requires links { link_count network.now ≤ FORMAT_2.links }
     requires capacities { (h : ℕ) → capacity_of network.now h ≤ 2 ^ 32 }
     requires capacity { 1 ≤ capacity_of network.now block.now.link }
     requires block { HasSmallNumbers block.now }

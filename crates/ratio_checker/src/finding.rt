@@ -12,8 +12,8 @@ ghost use Rattle.ratio_checker.specs.Finding.{finding_of};
 ghost use Rattle.ratio_checker.specs.Checked.{CanCheckHead, CanCheckBlock};
 
 use crate::blocks::blocks_after;
+use crate::bounds::keeps_bounds;
 use crate::capacity::pays_weights;
-use crate::margin::keeps_margin;
 use crate::potentials::potentials_failure;
 use crate::shares::{fault_on, first_uncovered};
 use te_model::{Block, Certificate, Head, InequalityFault};
@@ -47,7 +47,7 @@ fn block_failure(
     if shares.is_some() {
         return shares;
     }
-    if !keeps_margin(&head.set, block) {
+    if !keeps_bounds(&head.set, head.routes.as_slice().len(), block) {
         return Some(InequalityFault {
             number: 3,
             place: 0,

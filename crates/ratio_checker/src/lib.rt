@@ -2,10 +2,10 @@
 #![tactic(auto)]
 
 mod blocks;
+mod bounds;
 mod capacity;
 pub mod finding;
 mod link_shares;
-mod margin;
 mod potentials;
 mod rows;
 mod shares;

@@ -1,9 +1,12 @@
 //! The shares of a pair on all links at once.
-ghost use Rattle.std.specs.Prelude.{◌≡◌, ℕ, ◌+◌, ◌^◌, ◌<◌, length, slice_index, sum_by, All, IsTrue, if◌then◌else◌};
-ghost use Rattle.te_model.specs.Path.{has_number, is_distinct, weight_on};
+ghost use Rattle.std.specs.Prelude.{◌≡◌, ℕ, ◌+◌, ◌^◌, ◌<◌, length, slice_index, sum_by, All, IsTrue};
+ghost use Rattle.te_model.specs.Path.{amount_on, is_distinct, weight_on};
 ghost use Rattle.ratio_checker.specs.Checked.{IsSimplePath};
 
-use te_model::{MAX_LINKS, PathShare};
+use te_model::{FORMAT_2, PathShare};
+
+/// How many links a network has at most.
+const MOST: usize = FORMAT_2.links as usize;
 
 // Adds the weight of a path to the share on each of its links.
 fn add_weight(shares: &mut [u64], links: &[u32], weight: u64)
@@ -11,7 +14,7 @@ fn add_weight(shares: &mut [u64], links: &[u32], weight: u64)
     requires once { IsTrue (is_distinct links.now) }
     requires room { (h : ℕ) → slice_index shares.old h + weight < 2 ^ 64 }
     ensures length { length shares.new ≡ length shares.old }
-    ensures added { (h : ℕ) → slice_index shares.new h ≡ slice_index shares.old h + (if has_number links.now h then weight else 0) }
+    ensures added { (h : ℕ) → slice_index shares.new h ≡ slice_index shares.old h + amount_on links.now weight h }
 {
     for h in links {
         shares[*h as usize] += weight;
@@ -19,12 +22,12 @@ fn add_weight(shares: &mut [u64], links: &[u32], weight: u64)
 }
 
 // The weights of those paths that hold the link, for each link.
-pub fn shares_by_link(paths: &[PathShare]) -> [u64; MAX_LINKS]
+pub fn shares_by_link(paths: &[PathShare]) -> [u64; MOST]
     requires paths { All IsSimplePath paths.now }
     requires weights { sum_by (λ s. s.weight) paths.now < 2 ^ 64 }
     ensures { (e : ℕ) → slice_index result e ≡ weight_on paths.now e }
 {
-    let mut shares = [0; MAX_LINKS];
+    let mut shares = [0; MOST];
     for path in paths {
         add_weight(&mut shares, path.links.as_slice(), path.weight);
     }

@@ -1,6 +1,6 @@
 //! I1: the potentials of each source start at zero and rise along a link by its weight at most.
 ghost use Rattle.std.specs.Prelude.{◌≡◌, ℕ, ◌+◌, ◌<◌, ◌≤◌, slice_index, nat_le, All};
-ghost use Rattle.te_model.specs.declared.limits.TheConstants.{FORMAT_1};
+ghost use Rattle.te_model.specs.declared.limits.TheConstants.{FORMAT_2};
 ghost use Rattle.te_model.specs.Network.{node_count, link_count, tail_of, head_of};
 ghost use Rattle.te_model.specs.Certificate.{row_of};
 ghost use Rattle.te_model.specs.Inequalities.{row_failure, potentials_failure};
@@ -23,7 +23,7 @@ fn rises_within(network: &Network, weights: &[u64], row: &[u64], h: usize) -> bo
 // Where the row fails first.
 #[tactic(auto, using(crate::proofs::RowFailures::row_failure_found))]
 fn row_failure(network: &Network, block: &Block, row: &Row) -> Option<InequalityFault>
-    requires links { link_count network.now ≤ FORMAT_1.links }
+    requires links { link_count network.now ≤ FORMAT_2.links }
     requires row { row_of block.now.rows row.now.source ≡ row.now }
     ensures { result ≡ row_failure network.now block.now row.now.source }
 {
@@ -50,7 +50,7 @@ fn row_failure(network: &Network, block: &Block, row: &Row) -> Option<Inequality
 
 // Where the potentials fail first: a source without a row has zeros, which never fail.
 pub fn potentials_failure(network: &Network, block: &Block) -> Option<InequalityFault>
-    requires links { link_count network.now ≤ FORMAT_1.links }
+    requires links { link_count network.now ≤ FORMAT_2.links }
     requires ascend { AscendsFrom (λ r. r.source) 0 block.now.rows }
     requires sources { All (λ r. r.source < node_count network.now) block.now.rows }
     ensures { result ≡ potentials_failure network.now block.now }

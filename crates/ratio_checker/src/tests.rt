@@ -1,7 +1,8 @@
 ghost use Rattle.std.specs.Prelude.{◌≡◌, ◌∷◌, [], IfOk};
 ghost use Rattle.te_model.specs.declared.demand.DemandSet.TheVariants.{All};
-ghost use Rattle.te_model.specs.ThreeNodes.{blocks_for_all, block_for_equal, blocks_for_equal, equal_demands, three_nodes_certificate};
-ghost use Rattle.ratio_checker.specs.Samples.{half_block, out_of_reach_certificate, parallel_certificate};
+ghost use Rattle.te_model.specs.ThreeNodes.{blocks_for_all, block_for_double, blocks_for_double, block_for_equal, box_between, double_demands, equal_demands, three_nodes_in};
+ghost use Rattle.te_model.specs.TwoLinks.{half_block, out_of_reach_certificate, parallel_certificate};
+ghost use Rattle.ratio_checker.specs.Samples.{equal_blocks};
 
 use super::*;
 use std::alloc::{AllocError, Global};
@@ -60,6 +61,7 @@ fn parallel(alloc: Global, blocks: Vec<Block>) -> Result<Certificate, AllocError
     };
     Ok(Certificate {
         head: Head {
+            format: 1,
             network: Network {
                 names: Items::new(names),
                 links: Items::new(vec![in alloc; link(0, 1, 10), link(0, 1, 30)]?),
@@ -88,11 +90,12 @@ fn half(alloc: Global, link: u32) -> Result<Block, AllocError>
 
 fn three_nodes(
     alloc: Global,
+    format: u32,
     set: DemandSet,
     ratio: u64,
     blocks: Vec<Block>,
 ) -> Result<Certificate, AllocError>
-    ensures { IfOk result (λ cert. cert ≡ three_nodes_certificate set ratio blocks.items) }
+    ensures { IfOk result (λ cert. cert ≡ three_nodes_in format set ratio blocks.items) }
 {
     let names = vec![in alloc;
         Name::new("a".to_string(alloc)?),
@@ -109,6 +112,7 @@ fn three_nodes(
     };
     Ok(Certificate {
         head: Head {
+            format,
             network: Network {
                 names: Items::new(names),
                 links: Items::new(vec![in alloc;
@@ -127,7 +131,7 @@ fn three_nodes(
 }
 
 fn for_all(alloc: Global, ratio: u64) -> Result<Certificate, AllocError>
-    ensures { IfOk result (λ cert. cert ≡ three_nodes_certificate All ratio blocks_for_all) }
+    ensures { IfOk result (λ cert. cert ≡ three_nodes_in 1 All ratio blocks_for_all) }
 {
     let first = Block {
         link: 0,
@@ -147,7 +151,13 @@ fn for_all(alloc: Global, ratio: u64) -> Result<Certificate, AllocError>
         plus: Items::new(Vec::new(alloc)),
         minus: Items::new(Vec::new(alloc)),
     };
-    three_nodes(alloc, DemandSet::All, ratio, vec![in alloc; first, second]?)
+    three_nodes(
+        alloc,
+        1,
+        DemandSet::All,
+        ratio,
+        vec![in alloc; first, second]?,
+    )
 }
 
 fn equal_block(alloc: Global, link: u32, plus: &[u64], minus: &[u64]) -> Result<Block, AllocError>
@@ -164,9 +174,17 @@ fn equal_block(alloc: Global, link: u32, plus: &[u64], minus: &[u64]) -> Result<
     })
 }
 
+// The blocks for equal demands, the minus of the first being given.
+fn equal(alloc: Global, minus: &[u64]) -> Result<Vec<Block>, AllocError>
+    ensures { IfOk result (λ blocks. blocks.items ≡ equal_blocks minus.now) }
+{
+    let first = equal_block(alloc, 0, &[1, 0], minus)?;
+    let second = equal_block(alloc, 1, &[0, 1], &[1, 0])?;
+    Ok(vec![in alloc; first, second]?)
+}
+
 fn for_equal(alloc: Global, minus: &[u64]) -> Result<Certificate, AllocError>
-    ensures { IfOk result (λ cert. cert ≡ three_nodes_certificate equal_demands 1000000
-        (block_for_equal 0 (1 ∷ 0 ∷ []) minus.now ∷ block_for_equal 1 (0 ∷ 1 ∷ []) (1 ∷ 0 ∷ []) ∷ [])) }
+    ensures { IfOk result (λ cert. cert ≡ three_nodes_in 1 equal_demands 1000000 (equal_blocks minus.now)) }
 {
     let set = DemandSet::Margin {
         num: 1,
@@ -175,9 +193,51 @@ fn for_equal(alloc: Global, minus: &[u64]) -> Result<Certificate, AllocError>
             demand: numbers(alloc, &[10, 10])?,
         },
     };
-    let first = equal_block(alloc, 0, &[1, 0], minus)?;
-    let second = equal_block(alloc, 1, &[0, 1], &[1, 0])?;
-    three_nodes(alloc, set, 1_000_000, vec![in alloc; first, second]?)
+    three_nodes(alloc, 1, set, 1_000_000, equal(alloc, minus)?)
+}
+
+fn between(alloc: Global, lower: &[u64], upper: &[u64]) -> Result<DemandSet, AllocError>
+    ensures { IfOk result (λ set. set ≡ box_between lower.now upper.now) }
+{
+    Ok(DemandSet::Box {
+        lower: Matrix {
+            demand: numbers(alloc, lower)?,
+        },
+        upper: Matrix {
+            demand: numbers(alloc, upper)?,
+        },
+    })
+}
+
+// The blocks for equal demands, where the demands lie between 10 and these.
+fn for_box(alloc: Global, upper: &[u64]) -> Result<Certificate, AllocError>
+    ensures { IfOk result (λ cert. cert ≡ three_nodes_in 2 (box_between (10 ∷ 10 ∷ []) upper.now) 1000000 (equal_blocks (0 ∷ 1 ∷ []))) }
+{
+    let set = between(alloc, &[10, 10], upper)?;
+    three_nodes(alloc, 2, set, 1_000_000, equal(alloc, &[0, 1])?)
+}
+
+fn double_block(alloc: Global, link: u32, plus: &[u64], minus: &[u64]) -> Result<Block, AllocError>
+    ensures { IfOk result (λ block. block ≡ block_for_double link plus.now minus.now) }
+{
+    Ok(Block {
+        link,
+        a: 1_000_000,
+        b: 3,
+        weights: numbers(alloc, &[2, 2, 0, 0])?,
+        rows: Items::new(vec![in alloc; row(alloc, 0, &[0, 0, 2])?, row(alloc, 1, &[0, 0, 2])?]?),
+        plus: numbers(alloc, plus)?,
+        minus: numbers(alloc, minus)?,
+    })
+}
+
+fn for_double(alloc: Global, ratio: u64) -> Result<Certificate, AllocError>
+    ensures { IfOk result (λ cert. cert ≡ three_nodes_in 2 double_demands ratio blocks_for_double) }
+{
+    let set = between(alloc, &[10, 10], &[20, 20])?;
+    let first = double_block(alloc, 0, &[1, 0], &[0, 2])?;
+    let second = double_block(alloc, 1, &[0, 1], &[2, 0])?;
+    three_nodes(alloc, 2, set, ratio, vec![in alloc; first, second]?)
 }
 
 fn out_of_reach(alloc: Global, potential: u64) -> Result<Certificate, AllocError>
@@ -203,6 +263,7 @@ fn out_of_reach(alloc: Global, potential: u64) -> Result<Certificate, AllocError
     };
     Ok(Certificate {
         head: Head {
+            format: 1,
             network: Network {
                 names: Items::new(names),
                 links: Items::new(vec![in alloc; link(0, 1, 10), link(2, 1, 10)]?),
@@ -244,5 +305,15 @@ fn a_node_is_out_of_reach(rt: HostRuntime) -> Result<(), Fail> {
     let alloc = rt.alloc();
     assert_eq!(rt; verdict(&out_of_reach(alloc, 0)?), no(0, 1, 2));
     assert_eq!(rt; verdict(&out_of_reach(alloc, 1)?), Finding::Yes);
+    Ok(())
+}
+
+#[test]
+fn demands_between_bounds(rt: HostRuntime) -> Result<(), Fail> {
+    let alloc = rt.alloc();
+    assert_eq!(rt; verdict(&for_box(alloc, &[10, 10])?), Finding::Yes);
+    assert_eq!(rt; verdict(&for_box(alloc, &[20, 20])?), no(0, 3, 0));
+    assert_eq!(rt; verdict(&for_double(alloc, 1_333_334)?), Finding::Yes);
+    assert_eq!(rt; verdict(&for_double(alloc, 1_333_333)?), no(0, 4, 0));
     Ok(())
 }

@@ -1,6 +1,7 @@
 use Rattle.std.proofs.Common.{◌<◌, slice_index, length, arith}
 use Rattle.std.proofs.lemmas.List.Elements.{All-get_or}
-use Rattle.ratio_checker.proofs.AddedWeights.{none_added, add_step}
+use Rattle.te_model.proofs.Amounts.{amount_on-next}
+use Rattle.ratio_checker.proofs.AddedWeights.{add_step}
 use Rattle.ratio_checker.proofs.link_shares.add_weight.Goals as goal
 
 pub overflow_add-shares : goal.overflow_add-shares
@@ -11,7 +12,7 @@ overflow_add-shares c =
     omega (
       arith,
       c.loop-h.invariant e,
-      none_added links c.args.weight i c.requires.once c.loop-h-test.true,
+      amount_on-next links c.args.weight i c.requires.once c.loop-h-test.true,
       c.requires.room e,
     )
 

@@ -1,6 +1,6 @@
 use Rattle.std.proofs.Common.{◌≡◌, ◌+◌, ℕ, take, slice_index}
-use Rattle.ratio_checker.proofs.AddedWeights.{added_on}
+use Rattle.te_model.specs.Path.{amount_on}
 use Rattle.ratio_checker.proofs.link_shares.add_weight.Given as goal
 
 abbrev pub invariant-loop-h : goal.invariant-loop-h
-invariant-loop-h l = (h : ℕ) → slice_index l.shares h ≡ slice_index l.fn.shares h + added_on (take l.h-index l.links) l.weight h
+invariant-loop-h l = (h : ℕ) → slice_index l.shares h ≡ slice_index l.fn.shares h + amount_on (take l.h-index l.links) l.weight h

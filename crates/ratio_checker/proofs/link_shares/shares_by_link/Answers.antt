@@ -1,10 +1,11 @@
 use Rattle.std.proofs.Common.{arith, refl}
+use Rattle.te_model.specs.declared.limits.TheConstants.{FORMAT_2}
 use Rattle.ratio_checker.proofs.AddedWeights.{zeros}
 use Rattle.ratio_checker.proofs.WeightOn.{weight_on_more_le}
 use Rattle.ratio_checker.proofs.link_shares.shares_by_link.Goals as goal
 
 pub loop-path-init : goal.loop-path-init
-loop-path-init c = record { count = refl; sums = λ e. zeros 512 e }
+loop-path-init c = record { count = refl; sums = λ e. zeros FORMAT_2.links e }
 
 pub add_weight-requires-clause-room : goal.add_weight-requires-clause-room
 add_weight-requires-clause-room c = λ h.

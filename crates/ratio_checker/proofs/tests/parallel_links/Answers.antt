@@ -1,6 +1,6 @@
 use Rattle.std.proofs.Common.{◌∙◌, ap, subst, sym, refl, [], ◌∷◌}
 use Rattle.te_model.specs.Validity.{IsValid}
-use Rattle.ratio_checker.specs.Samples.{parallel_certificate}
+use Rattle.te_model.specs.TwoLinks.{parallel_certificate}
 use Rattle.ratio_checker.proofs.tests.parallel_links.Goals as goal
 
 pub verdict-requires : goal.verdict-requires
