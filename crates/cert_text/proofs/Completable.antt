@@ -1,19 +1,19 @@
 -- Where reading stops at a fault, the lines before it begin the text of something that is read.
-use Rattle.std.proofs.Common.{◌≡◌, ℕ, suc, ◌+◌, ◌-◌, ◌*◌, ◌^◌, ◌<◌, ◌≤◌, Bool, true, false, ◌&&◌, cond, List, [], ◌∷◌, ◌++◌, length, Result, Ok, Err, refl, sym, ap, subst, ◌∙◌, arith, eqb, ltb, get_or, inl, inr, ◌⊎◌, append_assoc}
+use Rattle.std.proofs.Common.{◌≡◌, ℕ, suc, ◌+◌, ◌-◌, ◌*◌, ◌^◌, ◌<◌, ◌≤◌, Bool, true, false, ◌&&◌, cond, List, [], ◌∷◌, ◌++◌, length, Result, Ok, Err, refl, sym, ap, subst, ◌∙◌, arith, eqb, eq-eqb, ltb, get_or, inl, inr, ◌⊎◌, append_assoc}
 use mathlib.Core.Path.{fun_ext}
 use Rattle.std.specs.Prelude.{nat_le}
 use Rattle.std.specs.Char.{is_ascii_digit}
 use Rattle.std.specs.Fmt.{decimal}
 use Rattle.std.specs.Str.{all_ascii_digits}
 use Rattle.std.specs.List.{list_all}
-use Rattle.std.proofs.lemmas.Bool.{cases_lt, eqb-true}
+use Rattle.std.proofs.lemmas.Bool.{cases_lt, eqb-true, and_parts}
 use Rattle.std.proofs.lemmas.Bool.Decides.{nat_tests}
 use Rattle.std.proofs.lemmas.Fmt.{digits_decimal}
 use Rattle.te_model.specs.Network.{is_name_byte}
 use Rattle.cert_text.specs.Place.{Place, place, ◌>>=◌}
 use Rattle.cert_text.specs.Reading.{byte_from, byte_at, line_end_at, digits_from, number_from, number_at, count_at, name_from, name_at}
 use Rattle.te_model.specs.Faults.{line_ends}
-use Rattle.cert_text.proofs.Decimals.{own, begins, both, bind_ok, ok_is, where_ok, number_takes, number_again, name_takes, name_again}
+use Rattle.cert_text.proofs.Decimals.{own, begins, bind_ok, ok_is, where_ok, number_takes, number_again, name_takes, name_again}
 use Rattle.cert_text.proofs.Tokens.{byte_again, IsCount, count_again}
 use Rattle.cert_text.proofs.Local.{quiet, silent, silent_bind}
 
@@ -297,7 +297,7 @@ number_stops n s k e = number_from_stops n s k e
 digits_ends : (ds : List ℕ) → all_ascii_digits ds ≡ true → line_ends ds ≡ 0
 digits_ends [] all = refl
 digits_ends (d ∷ ds) all =
-    let parts = both (is_ascii_digit d) (all_ascii_digits ds) all in
+    let parts = and_parts (is_ascii_digit d) (all_ascii_digits ds) all in
     let first = parts.0 in
     let no_end : eqb d 10 ≡ false = grind (arith, nat_tests) in
     rw no_end (digits_ends ds parts.1)
@@ -305,7 +305,7 @@ digits_ends (d ∷ ds) all =
 letters_ends : (bs : List ℕ) → list_all is_name_byte bs ≡ true → line_ends bs ≡ 0
 letters_ends [] all = refl
 letters_ends (b ∷ bs) all =
-    let parts = both (is_name_byte b) (list_all is_name_byte bs) all in
+    let parts = and_parts (is_name_byte b) (list_all is_name_byte bs) all in
     let first = parts.0 in
     let no_end : eqb b 10 ≡ false = grind (arith, nat_tests) in
     rw no_end (letters_ends bs parts.1)
@@ -414,7 +414,7 @@ name_resumes n s x q e =
     let there : name_at (place n s) ≡ Ok (x, place n q.rest) = ap (λ (bs : List ℕ). name_at (place n bs)) t.parts ∙ name_again n x q.rest t.good t.stop in
     let same : ◌≡◌ {A = List ℕ × Place} (x, q) (x, place n q.rest) = ok_is {A = List ℕ × Place} (x, q) (x, place n q.rest) (sym e ∙ there) in
     let at : q.line ≡ n = ap (λ (y : List ℕ × Place). y.1.line) same in
-    let letters = both (nat_le 1 (length x) && nat_le (length x) 32) (list_all is_name_byte x) t.good in
+    let letters = and_parts (nat_le 1 (length x) && nat_le (length x) 32) (list_all is_name_byte x) t.good in
     let one : line_ends x ≡ 0 = letters_ends x letters.1 in
     record {
       front = x;
@@ -462,74 +462,74 @@ end_completable {a} = record {
         (record { front = []; parts = refl; line = omega arith; stops = refl; opens = empty_opens; again = λ r no. empty_again n r no })
     nothing n (b ∷ bs) x q e = absurd (let some : eqb (length (b ∷ bs)) 0 ≡ false = grind (arith, nat_tests) in let no : Err n ≡ Ok q = rw some at e in cc)
 
--- two ways to read, of which the first is taken where an `a` stands next
-module _ {X : Type 0} (f g : Place → Result (X × Place) ℕ) (cf : IsCompletable no_byte no_byte f) (cg : IsCompletable no_byte no_byte g)
+-- two ways to read, of which the first is taken where this byte stands next
+module _ {X : Type 0} (byte : ℕ) (some : eqb 0 byte ≡ false) (f g : Place → Result (X × Place) ℕ) (cf : IsCompletable no_byte no_byte f) (cg : IsCompletable no_byte no_byte g)
     (nf : (n : ℕ) (x : X) (q : Place) → f (place n []) ≡ Ok (x, q) → ⊥) (ng : (n : ℕ) (x : X) (q : Place) → g (place n []) ≡ Ok (x, q) → ⊥) where
-  fork_resumes : (n b : ℕ) (bs : List ℕ) (x : X) (q : Place) (t : Bool) → eqb b 97 ≡ t → cond t (f (place n (b ∷ bs))) (g (place n (b ∷ bs))) ≡ Ok (x, q)
-      → Resumes no_byte no_byte (λ a. cond (eqb (get_or a.rest 0 0) 97) (f a) (g a)) n (b ∷ bs) x q
+  fork_resumes : (n b : ℕ) (bs : List ℕ) (x : X) (q : Place) (t : Bool) → eqb b byte ≡ t → cond t (f (place n (b ∷ bs))) (g (place n (b ∷ bs))) ≡ Ok (x, q)
+      → Resumes no_byte no_byte (λ a. cond (eqb (get_or a.rest 0 0) byte) (f a) (g a)) n (b ∷ bs) x q
   fork_resumes n b bs x q true is e =
       let one = cf.resumes n (b ∷ bs) x q refl e in
       begun one.front one.parts one.line one.again
     where
       begun : (front : List ℕ) → (b ∷ bs) ≡ front ++ q.rest → q.line ≡ n + line_ends front → ((r : List ℕ) → begins no_byte r ≡ false → f (place n (front ++ r)) ≡ Ok (x, place q.line r))
-          → Resumes no_byte no_byte (λ a. cond (eqb (get_or a.rest 0 0) 97) (f a) (g a)) n (b ∷ bs) x q
+          → Resumes no_byte no_byte (λ a. cond (eqb (get_or a.rest 0 0) byte) (f a) (g a)) n (b ∷ bs) x q
       begun [] parts line again = absurd (nf n x (place q.line []) (again [] refl))
       begun (c ∷ cs) parts line again =
           let same : b ≡ c = cc in
-          let first : eqb c 97 ≡ true = subst (λ (y : ℕ). eqb y 97 ≡ true) same is in
+          let first : eqb c byte ≡ true = subst (λ (y : ℕ). eqb y byte ≡ true) same is in
           record { front = c ∷ cs; parts = parts; line = line; stops = begins_with_none q.rest; opens = λ r no. refl; again = λ r no. rw first (again r no) }
   fork_resumes n b bs x q false is e =
       let one = cg.resumes n (b ∷ bs) x q refl e in
       begun one.front one.parts one.line one.again
     where
       begun : (front : List ℕ) → (b ∷ bs) ≡ front ++ q.rest → q.line ≡ n + line_ends front → ((r : List ℕ) → begins no_byte r ≡ false → g (place n (front ++ r)) ≡ Ok (x, place q.line r))
-          → Resumes no_byte no_byte (λ a. cond (eqb (get_or a.rest 0 0) 97) (f a) (g a)) n (b ∷ bs) x q
+          → Resumes no_byte no_byte (λ a. cond (eqb (get_or a.rest 0 0) byte) (f a) (g a)) n (b ∷ bs) x q
       begun [] parts line again = absurd (ng n x (place q.line []) (again [] refl))
       begun (c ∷ cs) parts line again =
           let same : b ≡ c = cc in
-          let first : eqb c 97 ≡ false = subst (λ (y : ℕ). eqb y 97 ≡ false) same is in
+          let first : eqb c byte ≡ false = subst (λ (y : ℕ). eqb y byte ≡ false) same is in
           record { front = c ∷ cs; parts = parts; line = line; stops = begins_with_none q.rest; opens = λ r no. refl; again = λ r no. rw first (again r no) }
 
-  fork_completes : (n b : ℕ) (bs : List ℕ) (k : ℕ) (t : Bool) → eqb b 97 ≡ t → cond t (f (place n (b ∷ bs))) (g (place n (b ∷ bs))) ≡ Err k
-      → (n ≤ k) × (n < k → Completes no_byte (λ a. cond (eqb (get_or a.rest 0 0) 97) (f a) (g a)) n (b ∷ bs) k)
+  fork_completes : (n b : ℕ) (bs : List ℕ) (k : ℕ) (t : Bool) → eqb b byte ≡ t → cond t (f (place n (b ∷ bs))) (g (place n (b ∷ bs))) ≡ Err k
+      → (n ≤ k) × (n < k → Completes no_byte (λ a. cond (eqb (get_or a.rest 0 0) byte) (f a) (g a)) n (b ∷ bs) k)
   fork_completes n b bs k true is e = let one = cf.completes n (b ∷ bs) k refl e in (one.0, λ lt. let m = one.1 lt in begun lt m m.front m.parts m.lines m.again)
     where
       begun : n < k → (m : Completes no_byte f n (b ∷ bs) k) (front : List ℕ) → (b ∷ bs) ≡ front ++ m.left → n + line_ends front ≡ k
           → ((r : List ℕ) → begins no_byte r ≡ false → f (place n (front ++ (m.more ++ r))) ≡ Ok (m.value, place m.line r))
-          → Completes no_byte (λ a. cond (eqb (get_or a.rest 0 0) 97) (f a) (g a)) n (b ∷ bs) k
+          → Completes no_byte (λ a. cond (eqb (get_or a.rest 0 0) byte) (f a) (g a)) n (b ∷ bs) k
       begun lt m [] parts lines again = absurd (omega arith)
       begun lt m (c ∷ cs) parts lines again =
           let same : b ≡ c = cc in
-          let first : eqb c 97 ≡ true = subst (λ (y : ℕ). eqb y 97 ≡ true) same is in
+          let first : eqb c byte ≡ true = subst (λ (y : ℕ). eqb y byte ≡ true) same is in
           record { front = c ∷ cs; left = m.left; more = m.more; value = m.value; line = m.line; parts = parts; lines = lines; again = λ r no. rw first (again r no) }
   fork_completes n b bs k false is e = let one = cg.completes n (b ∷ bs) k refl e in (one.0, λ lt. let m = one.1 lt in begun lt m m.front m.parts m.lines m.again)
     where
       begun : n < k → (m : Completes no_byte g n (b ∷ bs) k) (front : List ℕ) → (b ∷ bs) ≡ front ++ m.left → n + line_ends front ≡ k
           → ((r : List ℕ) → begins no_byte r ≡ false → g (place n (front ++ (m.more ++ r))) ≡ Ok (m.value, place m.line r))
-          → Completes no_byte (λ a. cond (eqb (get_or a.rest 0 0) 97) (f a) (g a)) n (b ∷ bs) k
+          → Completes no_byte (λ a. cond (eqb (get_or a.rest 0 0) byte) (f a) (g a)) n (b ∷ bs) k
       begun lt m [] parts lines again = absurd (omega arith)
       begun lt m (c ∷ cs) parts lines again =
           let same : b ≡ c = cc in
-          let first : eqb c 97 ≡ false = subst (λ (y : ℕ). eqb y 97 ≡ false) same is in
+          let first : eqb c byte ≡ false = subst (λ (y : ℕ). eqb y byte ≡ false) same is in
           record { front = c ∷ cs; left = m.left; more = m.more; value = m.value; line = m.line; parts = parts; lines = lines; again = λ r no. rw first (again r no) }
 
-  fork_of_none : (n k : ℕ) → g (place n []) ≡ Err k → (n ≤ k) × (n < k → Completes no_byte (λ a. cond (eqb (get_or a.rest 0 0) 97) (f a) (g a)) n [] k)
+  fork_of_none : (n k : ℕ) → g (place n []) ≡ Err k → (n ≤ k) × (n < k → Completes no_byte (λ a. cond (eqb (get_or a.rest 0 0) byte) (f a) (g a)) n [] k)
   fork_of_none n k e = let one = cg.completes n [] k refl e in (one.0, λ lt. let m = one.1 lt in begun lt m m.front m.parts m.lines)
     where
-      begun : n < k → (m : Completes no_byte g n [] k) (front : List ℕ) → [] ≡ front ++ m.left → n + line_ends front ≡ k → Completes no_byte (λ a. cond (eqb (get_or a.rest 0 0) 97) (f a) (g a)) n [] k
+      begun : n < k → (m : Completes no_byte g n [] k) (front : List ℕ) → [] ≡ front ++ m.left → n + line_ends front ≡ k → Completes no_byte (λ a. cond (eqb (get_or a.rest 0 0) byte) (f a) (g a)) n [] k
       begun lt m [] parts lines = absurd (omega arith)
       begun lt m (c ∷ cs) parts lines = absurd cc
 
-  pub fork_completable : (bs : List ℕ) (x : X) (lines : ℕ) → ((n : ℕ) (r : List ℕ) → f (place n (97 ∷ (bs ++ r))) ≡ Ok (x, place (n + lines) r))
-      → IsCompletable no_byte no_byte (λ a. cond (eqb (get_or a.rest 0 0) 97) (f a) (g a))
-  fork_completable bs x lines starts = record { resumes = resumed; completes = completed; starts = λ n. record { more = 97 ∷ bs; value = x; line = n + lines; opens = λ r no. refl; again = λ r no. starts n r } }
+  pub fork_completable : (bs : List ℕ) (x : X) (lines : ℕ) → ((n : ℕ) (r : List ℕ) → f (place n (byte ∷ (bs ++ r))) ≡ Ok (x, place (n + lines) r))
+      → IsCompletable no_byte no_byte (λ a. cond (eqb (get_or a.rest 0 0) byte) (f a) (g a))
+  fork_completable bs x lines starts = record { resumes = resumed; completes = completed; starts = λ n. record { more = byte ∷ bs; value = x; line = n + lines; opens = λ r no. refl; again = λ r no. rw (eq-eqb byte byte refl) (starts n r) } }
     where
-      resumed : (n : ℕ) (s : List ℕ) (y : X) (q : Place) → begins no_byte s ≡ false → cond (eqb (get_or s 0 0) 97) (f (place n s)) (g (place n s)) ≡ Ok (y, q)
-          → Resumes no_byte no_byte (λ a. cond (eqb (get_or a.rest 0 0) 97) (f a) (g a)) n s y q
-      resumed n [] y q free e = absurd (ng n y q e)
-      resumed n (b ∷ s) y q free e = fork_resumes n b s y q (eqb b 97) refl e
+      resumed : (n : ℕ) (s : List ℕ) (y : X) (q : Place) → begins no_byte s ≡ false → cond (eqb (get_or s 0 0) byte) (f (place n s)) (g (place n s)) ≡ Ok (y, q)
+          → Resumes no_byte no_byte (λ a. cond (eqb (get_or a.rest 0 0) byte) (f a) (g a)) n s y q
+      resumed n [] y q free e = absurd (ng n y q (subst (λ (t : Bool). cond t (f (place n [])) (g (place n [])) ≡ Ok (y, q)) some e))
+      resumed n (b ∷ s) y q free e = fork_resumes n b s y q (eqb b byte) refl e
 
-      completed : (n : ℕ) (s : List ℕ) (k : ℕ) → begins no_byte s ≡ false → cond (eqb (get_or s 0 0) 97) (f (place n s)) (g (place n s)) ≡ Err k
-          → (n ≤ k) × (n < k → Completes no_byte (λ a. cond (eqb (get_or a.rest 0 0) 97) (f a) (g a)) n s k)
-      completed n [] k free e = fork_of_none n k e
-      completed n (b ∷ s) k free e = fork_completes n b s k (eqb b 97) refl e
+      completed : (n : ℕ) (s : List ℕ) (k : ℕ) → begins no_byte s ≡ false → cond (eqb (get_or s 0 0) byte) (f (place n s)) (g (place n s)) ≡ Err k
+          → (n ≤ k) × (n < k → Completes no_byte (λ a. cond (eqb (get_or a.rest 0 0) byte) (f a) (g a)) n s k)
+      completed n [] k free e = fork_of_none n k (subst (λ (t : Bool). cond t (f (place n [])) (g (place n [])) ≡ Err k) some e)
+      completed n (b ∷ s) k free e = fork_completes n b s k (eqb b byte) refl e

@@ -6,7 +6,7 @@ use Rattle.std.specs.Char.{is_ascii_digit}
 use Rattle.std.specs.Fmt.{decimal}
 use Rattle.std.specs.Str.{all_ascii_digits}
 use Rattle.std.specs.List.{list_all}
-use Rattle.std.proofs.lemmas.Bool.{ltb-true, lt-ltb, eqb-false, cases_lt, leb-true, le-leb}
+use Rattle.std.proofs.lemmas.Bool.{ltb-true, lt-ltb, eqb-false, cases_lt, leb-true, le-leb, and_parts}
 use Rattle.std.proofs.lemmas.Bool.Decides.{nat_tests}
 use Rattle.std.proofs.lemmas.Str.Parse.{IsNumeralModel, numerals_by_fold}
 use Rattle.std.proofs.lemmas.Fmt.{digits_decimal, digits_value-decimal, decimal-digits_value, decimal_nonempty, first_decimal, decimal_digit}
@@ -33,16 +33,12 @@ begins test (b ∷ bs) = test b
 abbrev pub begins_with_digit : List ℕ → Bool
 begins_with_digit bs = begins is_ascii_digit bs
 
-pub both : (a b : Bool) → (a && b) ≡ true → (a ≡ true) × (b ≡ true)
-both true b e = (refl, e)
-both false b e = absurd cc
-
 pub digits_again : (ds : List ℕ) (k v : ℕ) (r : List ℕ) → all_ascii_digits ds ≡ true → (v ≡ 0 → ds ≡ []) → read_on v ds < 2 ^ 64 → begins_with_digit r ≡ false
     → digits_from k v (ds ++ r) ≡ Ok (read_on v ds, place k r)
 digits_again [] k v [] all lead small stop = refl
 digits_again [] k v (b ∷ bs) all lead small stop = rw stop refl
 digits_again (c ∷ cs) k v r all lead small stop =
-    let parts = both (is_ascii_digit c) (all_ascii_digits cs) all in
+    let parts = and_parts (is_ascii_digit c) (all_ascii_digits cs) all in
     let nonzero : v ≢ 0 = λ e. absurd (let no : c ∷ cs ≡ [] = lead e in cc) in
     let tested : eqb v 0 ≡ false = grind (arith, nat_tests) in
     let w = v * 10 + (c - 48) in
@@ -129,7 +125,7 @@ again_from : (ds : List ℕ) (k n : ℕ) (r : List ℕ) → all_ascii_digits ds 
     → (0 < n → 48 < get_or ds 0 0) → (n ≡ 0 → length ds ≡ 1) → begins_with_digit r ≡ false → number_from k (ds ++ r) ≡ Ok (n, place k r)
 again_from [] k n r all value some small lead one stop = absurd (omega arith)
 again_from (b ∷ bs) k n r all value some small lead one stop =
-    let parts = both (is_ascii_digit b) (all_ascii_digits bs) all in
+    let parts = and_parts (is_ascii_digit b) (all_ascii_digits bs) all in
     let alone : b - 48 ≡ 0 → bs ≡ [] = λ z. only bs (elim (cases_lt 0 n) [ inl pos ↦ absurd (let h = lead pos in omega arith) | inr none ↦ one (omega arith) ]) in
     let same : read_on (b - 48) bs ≡ n = ap (λ (x : ℕ). read_on x bs) (sym (zero-add (b - 48))) ∙ value in
     let fits : read_on (b - 48) bs < 2 ^ 64 = omega (arith, same) in
@@ -193,7 +189,7 @@ pub letters_again : (t : List ℕ) (k : ℕ) (front r : List ℕ) → list_all i
 letters_again [] k front [] all short stop = ap (λ (x : List ℕ). Ok (x, place k [])) (sym (append-nil front))
 letters_again [] k front (b ∷ bs) all short stop = rw stop (ap (λ (x : List ℕ). Ok (x, place k (b ∷ bs))) (sym (append-nil front)))
 letters_again (c ∷ cs) k front r all short stop =
-    let parts = both (is_name_byte c) (list_all is_name_byte cs) all in
+    let parts = and_parts (is_name_byte c) (list_all is_name_byte cs) all in
     let room : eqb (length front) 32 ≡ false = grind (arith, nat_tests) in
     let fits : length (front ++ c ∷ []) + length cs ≤ 32 = omega (arith, length-append front (c ∷ [])) in
     rw (parts.0, room) (letters_again cs k (front ++ c ∷ []) r parts.1 fits stop ∙ ap (λ (x : List ℕ). Ok (x, place k r)) (append_assoc front (c ∷ []) cs))
@@ -233,8 +229,8 @@ name_takes p name q e =
 pub name_again : (k : ℕ) (name r : List ℕ) → is_name name ≡ true → begins_with_letter r ≡ false → name_at (place k (name ++ r)) ≡ Ok (name, place k r)
 unfolding name_at
 name_again k name r ok stop =
-    let a = both (nat_le 1 (length name) && nat_le (length name) 32) (list_all is_name_byte name) ok in
-    let b = both (nat_le 1 (length name)) (nat_le (length name) 32) a.0 in
+    let a = and_parts (nat_le 1 (length name) && nat_le (length name) 32) (list_all is_name_byte name) ok in
+    let b = and_parts (nat_le 1 (length name)) (nat_le (length name) 32) a.0 in
     let low = leb-true 1 (length name) b.0 in
     let high = leb-true (length name) 32 b.1 in
     let some : eqb (length name) 0 ≡ false = grind (arith, nat_tests) in

@@ -1,13 +1,14 @@
 -- A number that is too wide for its field is refused by the same rule, at the same place, as the greatest number that the
 -- field holds.
-use Rattle.std.proofs.Common.{◌≡◌, ℕ, zero, suc, ◌+◌, ◌-◌, ◌^◌, ◌<◌, ◌≤◌, Bool, true, false, ◌&&◌, ◌||◌, not, List, [], ◌∷◌, length, map, get_or, Option, Some, None, refl, sym, ap, ◌∙◌, arith, eqb, ltb, leb, inl, inr}
+use Rattle.std.proofs.Common.{◌≡◌, ℕ, zero, suc, ◌+◌, ◌-◌, ◌^◌, ◌<◌, ◌≤◌, Bool, true, false, ◌&&◌, ◌||◌, not, cond, List, [], ◌∷◌, length, map, get_or, Option, Some, None, refl, sym, ap, ◌∙◌, arith, eqb, ltb, leb, inl, inr}
 use Rattle.std.specs.List.{list_all}
 use Rattle.std.proofs.Math.ListN.{get_or-map}
 use Rattle.std.proofs.lemmas.List.{length-map}
 use Rattle.std.proofs.lemmas.List.Folds.{list_all-map}
 use Rattle.std.proofs.lemmas.Bool.{cases_lt, ltb-true, le-leb}
 use Rattle.std.proofs.lemmas.Bool.Decides.{nat_tests}
-use Rattle.te_model.specs.declared.limits.TheConstants.{FORMAT_1}
+use Rattle.te_model.specs.declared.limits.TheConstants.{FORMAT_1, FORMAT_2}
+use Rattle.te_model.specs.Formats.{limits_of}
 use Rattle.te_model.specs.declared.network.Link.{Link}
 use Rattle.te_model.specs.declared.network.Network.{Network}
 use Rattle.te_model.specs.declared.route.PathShare.{PathShare}
@@ -21,7 +22,8 @@ use Rattle.te_model.specs.Counting.{or_else, unless}
 use Rattle.te_model.specs.Network.{node_count, link_count, no_link, link_at, tail_of, head_of, is_new_name, is_sound_link}
 use Rattle.te_model.specs.Path.{chains, nodes_visited, is_distinct, is_path, no_routes, routes_at, source_of, destination_of}
 use Rattle.te_model.specs.Certificate.{empty_block}
-use Rattle.te_model.specs.Validity.{pair_below, follows_previous, is_sound_pair, has_sound_paths, has_ascending_paths, has_whole_weight, with_first, has_margin_numbers, has_base_number, has_ratio, block_at, has_block_numbers, follows, link_before, is_sound_block, sound_at, rows_ascend, is_small, has_small_numbers, small_at, fault_at, rule_fault, first_rule}
+use Rattle.te_model.specs.Shape.{is_count}
+use Rattle.te_model.specs.Validity.{pair_below, follows_previous, is_sound_pair, has_sound_paths, has_ascending_paths, has_whole_weight, with_first, has_margin_numbers, has_pair_bounds, has_ratio, block_at, has_block_numbers, follows, link_before, is_sound_block, sound_at, rows_ascend, is_small, has_small_numbers, small_at, fault_at, rule_fault, first_rule}
 use Rattle.te_model.proofs.Tests.{and_true, or_else_none, first_failing_none_at}
 use Rattle.te_model.proofs.Searches.{first_below-same}
 use Rattle.cert_text.specs.Reading.{kept}
@@ -332,7 +334,7 @@ fault_9 c = rule_fault 9 (length c.blocks) (small_at c)
 later_faults : Head → Option RuleFault → Option RuleFault → Option RuleFault
 later_faults h eight nine =
     or_else (rule_fault 5 (length h.routes) (has_ascending_paths h)) (or_else (rule_fault 6 (length h.routes) (has_whole_weight h))
-    (or_else (rule_fault 7 (1 + length h.routes) (with_first (has_margin_numbers h.set) (has_base_number h.set))) (or_else eight (or_else nine None))))
+    (or_else (rule_fault 7 (1 + length h.routes) (with_first (has_margin_numbers h.set) (has_pair_bounds h.set))) (or_else eight (or_else nine None))))
 
 all_faults : Certificate → Option RuleFault
 all_faults c =
@@ -383,7 +385,7 @@ module _ (h : Head) (nodes : node_count h.network ≤ widest) (links : link_coun
   head_whole two three four =
       made h (keep_network h.network) (map keep_pair h.routes) (network_whole h.network nodes (links_sound two)) (routes_whole h nodes links (pairs_sound three) (paths_sound four))
     where
-      made : (h : Head) (net : Network) (routes : List PairRoutes) → net ≡ h.network → routes ≡ h.routes → ◌≡◌ {A = Head} (record { network = net; routes = routes; set = h.set; ratio = h.ratio }) h
+      made : (h : Head) (net : Network) (routes : List PairRoutes) → net ≡ h.network → routes ≡ h.routes → ◌≡◌ {A = Head} (record { format = h.format; network = net; routes = routes; set = h.set; ratio = h.ratio }) h
       made h net routes e f = rw (e, f) refl
 
   fault_8_kept : (blocks : List Block) → fault_8 (record { head = h; blocks = map keep_block blocks }) ≡ fault_8 (record { head = h; blocks = blocks })
@@ -427,14 +429,22 @@ module _ (h : Head) (nodes : node_count h.network ≤ widest) (links : link_coun
       (λ three. same_then (fault_4 (keep_head h)) (fault_4 h) after due (fault_4_kept two three)
       (λ four. later_kept blocks (head_whole two three four)))))
 
-few_nodes : (c : Certificate) → FitsFormat FORMAT_1 c → node_count c.head.network ≤ widest
-few_nodes c fits = let within = fits.head.network.nodes in let few : node_count c.head.network ≤ 64 = grind (arith, nat_tests) in omega arith
+few_nodes : (c : Certificate) → FitsFormat c → node_count c.head.network ≤ widest
+few_nodes c fits = either (eqb c.head.format 2) fits.head.network.nodes
+  where
+    either : (t : Bool) → is_count 2 (cond t FORMAT_2 FORMAT_1).nodes (node_count c.head.network) ≡ true → node_count c.head.network ≤ widest
+    either true within = let few : node_count c.head.network ≤ FORMAT_2.nodes = grind (arith, nat_tests) in omega arith
+    either false within = let few : node_count c.head.network ≤ FORMAT_1.nodes = grind (arith, nat_tests) in omega arith
 
-few_links : (c : Certificate) → FitsFormat FORMAT_1 c → link_count c.head.network ≤ widest
-few_links c fits = let within = fits.head.network.links in let few : link_count c.head.network ≤ 512 = grind (arith, nat_tests) in omega arith
+few_links : (c : Certificate) → FitsFormat c → link_count c.head.network ≤ widest
+few_links c fits = either (eqb c.head.format 2) fits.head.network.links
+  where
+    either : (t : Bool) → is_count 1 (cond t FORMAT_2 FORMAT_1).links (link_count c.head.network) ≡ true → link_count c.head.network ≤ widest
+    either true within = let few : link_count c.head.network ≤ FORMAT_2.links = grind (arith, nat_tests) in omega arith
+    either false within = let few : link_count c.head.network ≤ FORMAT_1.links = grind (arith, nat_tests) in omega arith
 
 -- what is kept of a certificate fails first where the certificate does
-pub first_rule_kept : (c : Certificate) → FitsFormat FORMAT_1 c → first_rule (keep_certificate c) ≡ first_rule c
+pub first_rule_kept : (c : Certificate) → FitsFormat c → first_rule (keep_certificate c) ≡ first_rule c
 first_rule_kept c fits =
     all_faults_are (keep_certificate c) ∙ all_faults_kept c.head (few_nodes c fits) (few_links c fits) c.blocks ∙ sym (all_faults_are c)
 
@@ -449,7 +459,7 @@ none_fails c none =
     let e = or_else_none (fault_4 h) _ d.1 in
     let f = or_else_none (rule_fault 5 (length h.routes) (has_ascending_paths h)) _ e.1 in
     let g = or_else_none (rule_fault 6 (length h.routes) (has_whole_weight h)) _ f.1 in
-    let i = or_else_none (rule_fault 7 (1 + length h.routes) (with_first (has_margin_numbers h.set) (has_base_number h.set))) _ g.1 in
+    let i = or_else_none (rule_fault 7 (1 + length h.routes) (with_first (has_margin_numbers h.set) (has_pair_bounds h.set))) _ g.1 in
     let j = or_else_none (fault_8 c) _ i.1 in
     (b.0, d.0, e.0, j.0, (or_else_none (fault_9 c) None j.1).0)
 
@@ -462,7 +472,7 @@ unfolding fault_9
 blocks_small c none k lt = first_failing_none_at (length c.blocks) (small_at c) (fault_at 9) k none lt
 
 -- a valid certificate is kept as it is
-pub valid_kept : (c : Certificate) → FitsFormat FORMAT_1 c → first_rule c ≡ None → keep_certificate c ≡ c
+pub valid_kept : (c : Certificate) → FitsFormat c → first_rule c ≡ None → keep_certificate c ≡ c
 valid_kept c fits valid =
     let none = none_fails c (sym (all_faults_are c) ∙ valid) in
     let nodes = few_nodes c fits in

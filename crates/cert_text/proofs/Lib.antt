@@ -14,3 +14,4 @@ pub mod Steady
 pub mod Shaped
 pub mod KeptRules
 pub mod Outcomes
+pub mod SmallMargins

@@ -242,13 +242,14 @@ word_local (b ∷ bs) one =
     same_local (λ p. byte_at b p >>= silent (word_at bs)) (silent (word_at (b ∷ bs))) (λ p. regroup_silent (byte_at b p) (word_at bs))
     (then_silent (byte_at b) (silent (word_at bs)) (byte_local b first) (word_local bs others))
 
-pub fork_local : {X : Type 0} (f g : Place → Result (X × Place) ℕ) → IsLocal f → IsLocal g → IsLocal (λ a. cond (eqb (get_or a.rest 0 0) 97) (f a) (g a))
-fork_local f g lf lg n [] v w = vacuous n v w _ _ (chosen (eqb (get_or v 0 0) 97))
+-- two ways to read, of which the first is taken where this byte stands next
+pub fork_local : {X : Type 0} (byte : ℕ) (f g : Place → Result (X × Place) ℕ) → IsLocal f → IsLocal g → IsLocal (λ a. cond (eqb (get_or a.rest 0 0) byte) (f a) (g a))
+fork_local byte f g lf lg n [] v w = vacuous n v w _ _ (chosen (eqb (get_or v 0 0) byte))
   where
     chosen : (t : Bool) → IsFrom n (cond t (f (place n v)) (g (place n v)))
     chosen true = (lf n [] v v).0
     chosen false = (lg n [] v v).0
-fork_local f g lf lg n (x ∷ u) v w = chosen (eqb x 97)
+fork_local byte f g lf lg n (x ∷ u) v w = chosen (eqb x byte)
   where
     chosen : (t : Bool) → IsFrom n (cond t (f (place n (x ∷ (u ++ v)))) (g (place n (x ∷ (u ++ v))))) × GoesSame (n + line_ends (x ∷ u)) v w (cond t (f (place n (x ∷ (u ++ v)))) (g (place n (x ∷ (u ++ v))))) (cond t (f (place n (x ∷ (u ++ w)))) (g (place n (x ∷ (u ++ w)))))
     chosen true = lf n (x ∷ u) v w

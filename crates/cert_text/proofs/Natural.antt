@@ -6,10 +6,11 @@ use Rattle.te_model.specs.declared.certificate.Head.{Head}
 use Rattle.te_model.specs.declared.certificate.Certificate.{Certificate}
 use Rattle.te_model.specs.declared.demand.DemandSet.{DemandSet}
 use Rattle.te_model.specs.declared.limits.Limits.{Limits}
+use Rattle.te_model.specs.Formats.{limits_of}
 use Rattle.cert_text.specs.declared.limits.Counts.{Counts}
 use Rattle.cert_text.specs.Place.{Place, ◌>>=◌}
 use Rattle.cert_text.specs.Reading.{kept, byte_at, word_at, line_end_at, number_at, narrow_at, next_number_at, next_narrow_at, next_count_at, many_at}
-use Rattle.cert_text.specs.Grammar.{counted_at, link_line_at, network_at, path_at, pair_at, routes_at, set_at, ratio_at, head_at, number_line_at, row_at, sides_at, block_at, opening_at, closing_at, certificate_at, counts_of, name_line_at}
+use Rattle.cert_text.specs.Grammar.{counted_at, link_line_at, network_at, path_at, pair_at, routes_at, set_at, ratio_at, head_at, number_line_at, row_at, sides_at, block_at, format_at, opening_at, closing_at, certificate_at, counts_of, name_line_at}
 use Rattle.cert_text.specs.Kept.{keep_link, keep_network, keep_path, keep_pair, keep_head, keep_row, keep_block, keep_certificate}
 use Rattle.cert_text.proofs.Tokens.{exact}
 
@@ -90,7 +91,7 @@ head_kept limits p =
     bind_kept _ _ keep_network keep_head _ _ (network_kept limits p) (λ network.
     bind_kept _ _ (map keep_pair) keep_head _ _ (routes_kept limits network.1) (λ routes.
     rw (len_map keep_pair routes.0)
-    (bind_same (set_at (length routes.0) routes.1) keep_head _ _ (λ (set : DemandSet × Place).
+    (bind_same (set_at limits (length routes.0) routes.1) keep_head _ _ (λ (set : DemandSet × Place).
     bind_same (ratio_at set.1) keep_head _ _ (λ ratio. refl)))))
 
 pub row_kept : (nodes : ℕ) (p : Place) → row_at kept nodes p ≡ carry keep_row (row_at exact nodes p)
@@ -110,18 +111,17 @@ block_kept limits counts p =
     bind_same (line_end_at n.1) keep_block _ _ (λ e.
     bind_same (number_line_at counts.links e) keep_block _ _ (λ (weights : List ℕ × Place).
     bind_kept _ _ (map keep_row) keep_block _ _ (many_kept keep_row (row_at kept counts.nodes) (row_at exact counts.nodes) (row_kept counts.nodes) n.0 weights.1) (λ rows.
-    bind_same (sides_at counts.margin counts.pairs rows.1) keep_block _ _ (λ sides. refl))))))))
+    bind_same (sides_at counts.bounded counts.pairs rows.1) keep_block _ _ (λ sides. refl))))))))
 
 abbrev keep_opening : Head × ℕ → Head × ℕ
 keep_opening x = (keep_head x.0, x.1)
 
-pub opening_kept : (limits : Limits) (p : Place) → opening_at limits kept p ≡ carry keep_opening (opening_at limits exact p)
+pub opening_kept : (p : Place) → opening_at kept p ≡ carry keep_opening (opening_at exact p)
 unfolding opening_at
-opening_kept limits p =
-    bind_same (word_at (codes "yates-ratio 1") p) keep_opening _ _ (λ a.
-    bind_same (line_end_at a) keep_opening _ _ (λ e.
-    bind_kept _ _ keep_head keep_opening _ _ (head_kept limits e) (λ head.
-    bind_same (counted_at (codes "blocks ") 0 limits.links head.1) keep_opening _ _ (λ (n : ℕ × Place). refl))))
+opening_kept p =
+    bind_same (format_at p) keep_opening _ _ (λ (format : ℕ × Place).
+    bind_kept _ _ keep_head keep_opening _ _ (head_kept (limits_of format.0) format.1) (λ head.
+    bind_same (counted_at (codes "blocks ") 0 (limits_of format.0).links head.1) keep_opening _ _ (λ (n : ℕ × Place). refl)))
 
 counts_kept : (h : Head) → counts_of (keep_head h) ≡ counts_of h
 counts_kept h = rw (len_map keep_link h.network.links, len_map keep_pair h.routes) refl
@@ -129,15 +129,22 @@ counts_kept h = rw (len_map keep_link h.network.links, len_map keep_pair h.route
 abbrev made : Head → List Block → Place → Result (Certificate × Place) ℕ
 made h bs e = Ok (record { head = h; blocks = bs }, e)
 
-pub certificate_kept : (limits : Limits) (p : Place) → certificate_at limits kept p ≡ carry keep_certificate (certificate_at limits exact p)
+-- the blocks of a head, and the last line
+abbrev blocks_at : (ℕ → ℕ) → Counts → (Head × ℕ) × Place → Result (List Block × Place) ℕ
+blocks_at keep counts opened = many_at opened.0.1 (block_at (limits_of opened.0.0.format) keep counts) opened.1
+
+abbrev closed : Head → List Block × Place → Result (Certificate × Place) ℕ
+closed h blocks = closing_at blocks.1 >>= λ e. made h blocks.0 e
+
+pub certificate_kept : (p : Place) → certificate_at kept p ≡ carry keep_certificate (certificate_at exact p)
 unfolding certificate_at
-certificate_kept limits p =
-    bind_kept (opening_at limits exact p) (opening_at limits kept p) keep_opening keep_certificate
-    (λ opened. many_at opened.0.1 (block_at limits kept (counts_of opened.0.0)) opened.1 >>= λ blocks. closing_at blocks.1 >>= λ e. Ok (record { head = opened.0.0; blocks = blocks.0 }, e))
-    (λ opened. many_at opened.0.1 (block_at limits exact (counts_of opened.0.0)) opened.1 >>= λ blocks. closing_at blocks.1 >>= λ e. Ok (record { head = opened.0.0; blocks = blocks.0 }, e))
-    (opening_kept limits p)
-    (λ opened. ap (λ (counts : Counts). many_at opened.0.1 (block_at limits kept counts) opened.1 >>= λ blocks. closing_at blocks.1 >>= λ e. made (keep_head opened.0.0) blocks.0 e) (counts_kept opened.0.0)
-    ∙ bind_kept (many_at opened.0.1 (block_at limits exact (counts_of opened.0.0)) opened.1) (many_at opened.0.1 (block_at limits kept (counts_of opened.0.0)) opened.1) (map keep_block) keep_certificate
-    (λ blocks. closing_at blocks.1 >>= λ e. made (keep_head opened.0.0) blocks.0 e) (λ blocks. closing_at blocks.1 >>= λ e. made opened.0.0 blocks.0 e)
-    (many_kept keep_block (block_at limits kept (counts_of opened.0.0)) (block_at limits exact (counts_of opened.0.0)) (block_kept limits (counts_of opened.0.0)) opened.0.1 opened.1)
+certificate_kept p =
+    bind_kept (opening_at exact p) (opening_at kept p) keep_opening keep_certificate
+    (λ opened. blocks_at kept (counts_of opened.0.0) opened >>= closed opened.0.0)
+    (λ opened. blocks_at exact (counts_of opened.0.0) opened >>= closed opened.0.0)
+    (opening_kept p)
+    (λ opened. ap (λ (counts : Counts). blocks_at kept counts opened >>= closed (keep_head opened.0.0)) (counts_kept opened.0.0)
+    ∙ bind_kept (blocks_at exact (counts_of opened.0.0) opened) (blocks_at kept (counts_of opened.0.0) opened) (map keep_block) keep_certificate
+    (closed (keep_head opened.0.0)) (closed opened.0.0)
+    (many_kept keep_block (block_at (limits_of opened.0.0.format) kept (counts_of opened.0.0)) (block_at (limits_of opened.0.0.format) exact (counts_of opened.0.0)) (block_kept (limits_of opened.0.0.format) (counts_of opened.0.0)) opened.0.1 opened.1)
     (λ blocks. bind_same (closing_at blocks.1) keep_certificate (λ e. made (keep_head opened.0.0) (map keep_block blocks.0) e) (λ e. made opened.0.0 blocks.0 e) (λ e. refl)))

@@ -3,7 +3,6 @@ use Rattle.std.proofs.Common.{◌≡◌, ℕ, List, [], Some, None, Result, Ok, 
 use Rattle.std.specs.Prelude.{IfOk, MatchResult}
 use Rattle.te_model.specs.declared.certificate.Certificate.{Certificate}
 use Rattle.te_model.specs.declared.certificate.RuleFault.{RuleFault}
-use Rattle.te_model.specs.declared.limits.TheConstants.{FORMAT_1}
 use Rattle.te_model.specs.Validity.{first_rule}
 use Rattle.te_model.specs.Text.{text, Spells}
 use Rattle.te_model.specs.Faults.{IsShapeFault, IsRuleFault}
@@ -23,17 +22,17 @@ use Rattle.cert_text.proofs.Laws.{read_is_text, text_is_read, fault_is, one_faul
 
 -- what is read of the bytes
 abbrev pub read_of : List ℕ → Result (Certificate × Place) ℕ
-read_of bytes = certificate_at FORMAT_1 kept (place 1 bytes)
+read_of bytes = certificate_at kept (place 1 bytes)
 
 -- what is read of a text is what is kept of its certificate
-what_is_read : (bytes : List ℕ) (e c : Certificate) (q : Place) → FitsFormat FORMAT_1 e → bytes ≡ text e → read_of bytes ≡ Ok (c, q) → c ≡ keep_certificate e
+what_is_read : (bytes : List ℕ) (e c : Certificate) (q : Place) → FitsFormat e → bytes ≡ text e → read_of bytes ≡ Ok (c, q) → c ≡ keep_certificate e
 what_is_read bytes e c q fits same read =
     let again = text_is_read e fits in
     let both : Ok (c, q) ≡ Ok (keep_certificate e, place again.0 []) = sym read ∙ ap read_of same ∙ again.1 in
     ap (λ (y : Certificate × Place). y.0) (ok_is {A = Certificate × Place} (c, q) (keep_certificate e, place again.0 []) both)
 
 -- a text is read without a fault
-no_fault : (bytes : List ℕ) (e : Certificate) (k : ℕ) → FitsFormat FORMAT_1 e → bytes ≡ text e → ¬ (read_of bytes ≡ Err k)
+no_fault : (bytes : List ℕ) (e : Certificate) (k : ℕ) → FitsFormat e → bytes ≡ text e → ¬ (read_of bytes ≡ Err k)
 no_fault bytes e k fits same fault =
     let again = text_is_read e fits in
     let both : Err k ≡ Ok (keep_certificate e, place again.0 []) = sym fault ∙ ap read_of same ∙ again.1 in
@@ -46,38 +45,38 @@ is_spelled bytes (Ok c) h =
     let fits = was.1 in
     let valid : first_rule was.0 ≡ None = sym (first_rule_kept was.0 fits) ∙ ap first_rule (sym was.3) ∙ h.2 in
     let same : was.0 ≡ c = sym (valid_kept was.0 fits valid) ∙ sym was.3 in
-    subst (λ (y : Certificate). Spells bytes y) same ((fits_shaped FORMAT_1 was.0 fits, valid), was.2)
+    subst (λ (y : Certificate). Spells bytes y) same ((fits_shaped was.0 fits, valid), was.2)
 
 pub is_accepted : (bytes : List ℕ) (r : Result Certificate CertFault) → IsAnswer r (read_of bytes) → (c : Certificate) → Spells bytes c → GivesOrMemory r (Ok c)
 is_accepted bytes (Ok x) h c s =
-    let fits = shaped_fits FORMAT_1 c s.0.0 in
+    let fits = shaped_fits c s.0.0 in
     let read : x ≡ keep_certificate c = what_is_read bytes c x h.0 fits s.1 h.1 in
     inl (ap (λ (y : Certificate). Ok y) (read ∙ valid_kept c fits s.0.1))
 is_accepted bytes (Err faults.Memory) h c s = inr refl
-is_accepted bytes (Err (faults.Shape k)) h c s = absurd (no_fault bytes c k (shaped_fits FORMAT_1 c s.0.0) s.1 h)
+is_accepted bytes (Err (faults.Shape k)) h c s = absurd (no_fault bytes c k (shaped_fits c s.0.0) s.1 h)
 is_accepted bytes (Err (faults.Rule f)) h c s =
-    let fits = shaped_fits FORMAT_1 c s.0.0 in
+    let fits = shaped_fits c s.0.0 in
     let read : h.0 ≡ keep_certificate c = what_is_read bytes c h.0 h.1 fits s.1 h.2 in
     let fault : None ≡ Some f = sym s.0.1 ∙ ap first_rule (sym (read ∙ valid_kept c fits s.0.1)) ∙ h.3 in
     absurd cc
 
-pub is_shape_fault : (bytes : List ℕ) (r : Result Certificate CertFault) → IsAnswer r (read_of bytes) → (k : ℕ) → r ≡ Err (faults.Shape k) → IsShapeFault FORMAT_1 bytes k
+pub is_shape_fault : (bytes : List ℕ) (r : Result Certificate CertFault) → IsAnswer r (read_of bytes) → (k : ℕ) → r ≡ Err (faults.Shape k) → IsShapeFault bytes k
 is_shape_fault bytes (Ok c) h k e = absurd cc
 is_shape_fault bytes (Err faults.Memory) h k e = absurd cc
 is_shape_fault bytes (Err (faults.Rule f)) h k e = absurd cc
-is_shape_fault bytes (Err (faults.Shape j)) h k e = let same : j ≡ k = cc in subst (IsShapeFault FORMAT_1 bytes) same (fault_is bytes j h)
+is_shape_fault bytes (Err (faults.Shape j)) h k e = let same : j ≡ k = cc in subst (IsShapeFault bytes) same (fault_is bytes j h)
 
-pub is_misshaped : (bytes : List ℕ) (r : Result Certificate CertFault) → IsAnswer r (read_of bytes) → (k : ℕ) → IsShapeFault FORMAT_1 bytes k → GivesOrMemory r (Err (faults.Shape k))
+pub is_misshaped : (bytes : List ℕ) (r : Result Certificate CertFault) → IsAnswer r (read_of bytes) → (k : ℕ) → IsShapeFault bytes k → GivesOrMemory r (Err (faults.Shape k))
 is_misshaped bytes (Ok c) h k fault =
     let was = read_is_text bytes c h.0 h.1 in
-    absurd (fault.no_file was.0 (fits_shaped FORMAT_1 was.0 was.1) was.2)
+    absurd (fault.no_file was.0 (fits_shaped was.0 was.1) was.2)
 is_misshaped bytes (Err faults.Memory) h k fault = inr refl
 is_misshaped bytes (Err (faults.Shape j)) h k fault = inl (ap (λ (i : ℕ). Err (faults.Shape i)) (one_fault bytes j k (fault_is bytes j h) fault))
 is_misshaped bytes (Err (faults.Rule f)) h k fault =
     let was = read_is_text bytes h.0 h.1 h.2 in
-    absurd (fault.no_file was.0 (fits_shaped FORMAT_1 was.0 was.1) was.2)
+    absurd (fault.no_file was.0 (fits_shaped was.0 was.1) was.2)
 
-pub is_rule_fault : (bytes : List ℕ) (r : Result Certificate CertFault) → IsAnswer r (read_of bytes) → (f : RuleFault) → r ≡ Err (faults.Rule f) → IsRuleFault FORMAT_1 bytes f
+pub is_rule_fault : (bytes : List ℕ) (r : Result Certificate CertFault) → IsAnswer r (read_of bytes) → (f : RuleFault) → r ≡ Err (faults.Rule f) → IsRuleFault bytes f
 is_rule_fault bytes (Ok c) h f e = absurd cc
 is_rule_fault bytes (Err faults.Memory) h f e = absurd cc
 is_rule_fault bytes (Err (faults.Shape k)) h f e = absurd cc
@@ -85,18 +84,18 @@ is_rule_fault bytes (Err (faults.Rule g)) h f e =
     let same : g ≡ f = cc in
     let was = read_is_text bytes h.0 h.1 h.2 in
     let first : first_rule was.0 ≡ Some g = sym (first_rule_kept was.0 was.1) ∙ ap first_rule (sym was.3) ∙ h.3 in
-    subst (IsRuleFault FORMAT_1 bytes) same (record { spelled = was.0; shaped = fits_shaped FORMAT_1 was.0 was.1; file = was.2; first = first })
+    subst (IsRuleFault bytes) same (record { spelled = was.0; shaped = fits_shaped was.0 was.1; file = was.2; first = first })
 
-pub is_invalid : (bytes : List ℕ) (r : Result Certificate CertFault) → IsAnswer r (read_of bytes) → (f : RuleFault) → IsRuleFault FORMAT_1 bytes f → GivesOrMemory r (Err (faults.Rule f))
+pub is_invalid : (bytes : List ℕ) (r : Result Certificate CertFault) → IsAnswer r (read_of bytes) → (f : RuleFault) → IsRuleFault bytes f → GivesOrMemory r (Err (faults.Rule f))
 is_invalid bytes (Ok c) h f fault =
-    let fits = shaped_fits FORMAT_1 fault.spelled fault.shaped in
+    let fits = shaped_fits fault.spelled fault.shaped in
     let read : c ≡ keep_certificate fault.spelled = what_is_read bytes fault.spelled c h.0 fits fault.file h.1 in
     let both : None ≡ Some f = sym h.2 ∙ ap first_rule read ∙ first_rule_kept fault.spelled fits ∙ fault.first in
     absurd cc
 is_invalid bytes (Err faults.Memory) h f fault = inr refl
-is_invalid bytes (Err (faults.Shape k)) h f fault = absurd (no_fault bytes fault.spelled k (shaped_fits FORMAT_1 fault.spelled fault.shaped) fault.file h)
+is_invalid bytes (Err (faults.Shape k)) h f fault = absurd (no_fault bytes fault.spelled k (shaped_fits fault.spelled fault.shaped) fault.file h)
 is_invalid bytes (Err (faults.Rule g)) h f fault =
-    let fits = shaped_fits FORMAT_1 fault.spelled fault.shaped in
+    let fits = shaped_fits fault.spelled fault.shaped in
     let read : h.0 ≡ keep_certificate fault.spelled = what_is_read bytes fault.spelled h.0 h.1 fits fault.file h.2 in
     let both : Some g ≡ Some f = sym h.3 ∙ ap first_rule read ∙ first_rule_kept fault.spelled fits ∙ fault.first in
     let same : g ≡ f = cc in

@@ -1,10 +1,11 @@
 -- The productions of the grammar: what each takes is its text, and its text is read again.
-use Rattle.std.proofs.Common.{◌≡◌, ℕ, ◌+◌, ◌≤◌, Bool, true, false, cond, List, [], ◌∷◌, ◌++◌, length, map, Ok, refl, sym, ap, subst, ◌∙◌, arith, eqb, get_or, append_assoc}
+use Rattle.std.proofs.Common.{◌≡◌, ℕ, ◌+◌, ◌≤◌, Bool, true, false, cond, List, [], ◌∷◌, ◌++◌, length, map, Ok, refl, sym, ap, subst, ◌∙◌, arith, lit<, eqb, get_or, append_assoc}
 use Rattle.std.proofs.lemmas.List.{append-nil}
 use Rattle.std.specs.Prelude.{codes}
 use Rattle.std.specs.Fmt.{decimal}
 use Rattle.std.specs.List.{flat_map, join_with_byte}
 use Rattle.std.proofs.lemmas.Bool.Decides.{nat_tests}
+use Rattle.std.proofs.lemmas.Fmt.{decimal_digit}
 use Rattle.std.proofs.lemmas.List.Concat.{flat_map-append}
 use Rattle.te_model.specs.declared.network.Link.{Link}
 use Rattle.te_model.specs.declared.network.Network.{Network}
@@ -12,16 +13,18 @@ use Rattle.te_model.specs.declared.route.PathShare.{PathShare}
 use Rattle.te_model.specs.declared.route.PairRoutes.{PairRoutes}
 use Rattle.te_model.specs.declared.certificate.Row.{Row}
 use Rattle.te_model.specs.declared.demand.DemandSet.{DemandSet}
-use Rattle.te_model.specs.declared.demand.DemandSet.TheVariants.{All, Margin}
+use Rattle.te_model.specs.declared.demand.DemandSet.TheVariants.{All, Margin, Box}
 use Rattle.te_model.specs.Text.{numbers, words, link_line, path_line}
 use Rattle.te_model.specs.declared.limits.Limits.{Limits}
+use Rattle.te_model.specs.declared.limits.TheConstants.{FORMAT_1, FORMAT_2}
+use Rattle.te_model.specs.Formats.{limits_of}
 use Rattle.cert_text.specs.Place.{Place, place, ◌>>=◌}
-use Rattle.cert_text.specs.Reading.{word_at, line_end_at, number_at, count_at, narrow_at, next_number_at, next_narrow_at, next_count_at, many_at, name_at}
-use Rattle.cert_text.specs.Grammar.{counted_at, listing_at, name_line_at, link_line_at, network_at, path_at, pair_at, routes_at, row_at, ratio_at, all_at, margin_at, set_at}
+use Rattle.cert_text.specs.Reading.{byte_at, word_at, line_end_at, number_at, count_at, narrow_at, next_number_at, next_narrow_at, next_count_at, many_at, name_at}
+use Rattle.cert_text.specs.Grammar.{counted_at, listing_at, name_line_at, link_line_at, network_at, path_at, pair_at, routes_at, row_at, ratio_at, all_at, margin_at, box_at, has_boxes, bounds_at, set_at, digit_at, format_at}
 use Rattle.cert_text.specs.Fits.{IsWord, IsNamed, FitsLink, FitsNetwork, FitsPath, FitsPair, FitsRoutes, FitsList, FitsRow, FitsSet}
-use Rattle.cert_text.specs.Pieces.{spaced, ended, counted_text, listing_text, link_text, path_text, pair_text, network_text, row_text, routes_text, set_text}
+use Rattle.cert_text.specs.Pieces.{spaced, ended, counted_text, listing_text, link_text, path_text, pair_text, network_text, row_text, routes_text, set_text, format_text}
 use Rattle.cert_text.proofs.Decimals.{bind_ok, ok_is, name_takes, name_again, number_again, begins_with_digit}
-use Rattle.cert_text.proofs.Tokens.{exact, word_takes, word_again, line_end_takes, line_end_again, Took, word_takes_number, narrow_takes, narrow_again, IsCount, count_takes, count_again, next_number_takes, next_number_again, next_narrow_takes, next_narrow_again, next_count_takes, next_count_again, many_takes, Again, many_again}
+use Rattle.cert_text.proofs.Tokens.{exact, byte_takes, word_takes, word_again, line_end_takes, line_end_again, Took, word_takes_number, narrow_takes, narrow_again, IsCount, count_takes, count_again, next_number_takes, next_number_again, next_narrow_takes, next_narrow_again, next_count_takes, next_count_again, many_takes, Again, many_again}
 
 -- limits below 2 ^ 64 that leave something
 pub record HasRoom (limits : Limits) : Type 0 where
@@ -34,6 +37,14 @@ pub record HasRoom (limits : Limits) : Type 0 where
   pub some_links : IsCount 1 limits.links 1
   pub some_paths : IsCount 1 limits.paths 1
   pub some_hops : IsCount 1 limits.hops 1
+
+-- either format has room
+pub room_of : (format : ℕ) → HasRoom (limits_of format)
+room_of format = either (eqb format 2)
+  where
+    either : (t : Bool) → HasRoom (cond t FORMAT_2 FORMAT_1)
+    either true = record { nodes = lit< tt; links = lit< tt; pairs = lit< tt; paths = lit< tt; hops = lit< tt; some_nodes = refl; some_links = refl; some_paths = refl; some_hops = refl }
+    either false = record { nodes = lit< tt; links = lit< tt; pairs = lit< tt; paths = lit< tt; hops = lit< tt; some_nodes = refl; some_links = refl; some_paths = refl; some_hops = refl }
 
 pub count_word : (low high n : ℕ) → IsCount low high n → IsWord high → IsWord n
 count_word low high n within room = let le : n ≤ high = grind (arith, nat_tests) in omega arith
@@ -336,14 +347,15 @@ all_takes p x q e =
 abbrev pub after_set : DemandSet → List ℕ
 after_set All = codes "all" ++ 10 ∷ []
 after_set (Margin num den base) = codes "margin " ++ (decimal num ++ (spaced den ++ ((10 ∷ []) ++ listing_text (codes "base") base.demand)))
+after_set (Box lower upper) = codes "box" ++ ((10 ∷ []) ++ (listing_text (codes "lower") lower.demand ++ listing_text (codes "upper") upper.demand))
 
 margin_text : (num den : ℕ) (xs r : List ℕ) → (codes "margin " ++ (decimal num ++ (spaced den ++ ((10 ∷ []) ++ listing_text (codes "base") xs)))) ++ r
     ≡ codes "margin " ++ (decimal num ++ (spaced den ++ ((10 ∷ []) ++ (listing_text (codes "base") xs ++ r))))
 margin_text num den xs r = simp append_assoc
 
-pub margin_takes : (pairs : ℕ) (p : Place) (x : DemandSet) (q : Place) → margin_at pairs p ≡ Ok (x, q) → Took after_set (FitsSet pairs) p x q
+margin_takes : (limits : Limits) (no_boxes : has_boxes limits ≡ false) (pairs : ℕ) (p : Place) (x : DemandSet) (q : Place) → margin_at pairs p ≡ Ok (x, q) → Took after_set (FitsSet limits pairs) p x q
 unfolding margin_at
-margin_takes pairs p x q e =
+margin_takes limits no_boxes pairs p x q e =
     let s0 = bind_ok (word_at (codes "margin ") p) (λ a. number_at a >>= λ num. next_number_at num.1 >>= λ den. line_end_at den.1 >>= λ e. listing_at (codes "base") pairs e >>= λ base. Ok (Margin num.0 den.0 (record { demand = base.0 }), base.1)) (x, q) e in
     let t0 = word_takes (codes "margin ") p s0.0 s0.1 in
     let s1 = bind_ok (number_at s0.0) (λ num. next_number_at num.1 >>= λ den. line_end_at den.1 >>= λ e. listing_at (codes "base") pairs e >>= λ base. Ok (Margin num.0 den.0 (record { demand = base.0 }), base.1)) (x, q) s0.2 in
@@ -358,33 +370,98 @@ margin_takes pairs p x q e =
     let whole : p.rest ≡ after_set made ++ s4.0.1.rest =
     t0 ∙ ap (λ (r : List ℕ). codes "margin " ++ r) (t1.parts ∙ ap (λ (r : List ℕ). decimal s1.0.0 ++ r) (t2.parts ∙ ap (λ (r : List ℕ). spaced s2.0.0 ++ r) (t3 ∙ ap (λ (r : List ℕ). (10 ∷ []) ++ r) t4.parts)))
     ∙ sym (margin_text s1.0.0 s2.0.0 s4.0.0 s4.0.1.rest) in
-    subst (λ (y : DemandSet × Place). Took after_set (FitsSet pairs) p y.0 y.1) (ok_is {A = DemandSet × Place} (made, s4.0.1) (x, q) s4.2)
-    (record { parts = whole; good = (t1.good, t2.good, t4.good) })
+    subst (λ (y : DemandSet × Place). Took after_set (FitsSet limits pairs) p y.0 y.1) (ok_is {A = DemandSet × Place} (made, s4.0.1) (x, q) s4.2)
+    (record { parts = whole; good = (no_boxes, t1.good, t2.good, t4.good) })
 
-chosen_set : (pairs : ℕ) (p : Place) (x : DemandSet) (q : Place) (t : Bool) → cond t (all_at p) (margin_at pairs p) ≡ Ok (x, q) → Took after_set (FitsSet pairs) p x q
-chosen_set pairs p x q true e =
+box_takes : (limits : Limits) (boxes : has_boxes limits ≡ true) (pairs : ℕ) (p : Place) (x : DemandSet) (q : Place) → box_at pairs p ≡ Ok (x, q) → Took after_set (FitsSet limits pairs) p x q
+unfolding box_at
+box_takes limits boxes pairs p x q e =
+    let s0 = bind_ok (word_at (codes "box") p) (λ a. line_end_at a >>= λ e. listing_at (codes "lower") pairs e >>= λ lower. listing_at (codes "upper") pairs lower.1 >>= λ upper. Ok (Box (record { demand = lower.0 }) (record { demand = upper.0 }), upper.1)) (x, q) e in
+    let t0 = word_takes (codes "box") p s0.0 s0.1 in
+    let s1 = bind_ok (line_end_at s0.0) (λ e. listing_at (codes "lower") pairs e >>= λ lower. listing_at (codes "upper") pairs lower.1 >>= λ upper. Ok (Box (record { demand = lower.0 }) (record { demand = upper.0 }), upper.1)) (x, q) s0.2 in
+    let t1 = line_end_takes s0.0 s1.0 s1.1 in
+    let s2 = bind_ok (listing_at (codes "lower") pairs s1.0) (λ lower. listing_at (codes "upper") pairs lower.1 >>= λ upper. Ok (Box (record { demand = lower.0 }) (record { demand = upper.0 }), upper.1)) (x, q) s1.2 in
+    let t2 = listing_takes (codes "lower") pairs s1.0 s2.0.0 s2.0.1 s2.1 in
+    let s3 = bind_ok (listing_at (codes "upper") pairs s2.0.1) (λ upper. Ok (Box (record { demand = s2.0.0 }) (record { demand = upper.0 }), upper.1)) (x, q) s2.2 in
+    let t3 = listing_takes (codes "upper") pairs s2.0.1 s3.0.0 s3.0.1 s3.1 in
+    let made : DemandSet = Box (record { demand = s2.0.0 }) (record { demand = s3.0.0 }) in
+    let whole : p.rest ≡ after_set made ++ s3.0.1.rest =
+    t0 ∙ ap (λ (r : List ℕ). codes "box" ++ r) (t1 ∙ ap (λ (r : List ℕ). (10 ∷ []) ++ r) (t2.parts ∙ ap (λ (r : List ℕ). listing_text (codes "lower") s2.0.0 ++ r) t3.parts))
+    ∙ sym (regroup_four (codes "box") (10 ∷ []) (listing_text (codes "lower") s2.0.0) (listing_text (codes "upper") s3.0.0) s3.0.1.rest) in
+    subst (λ (y : DemandSet × Place). Took after_set (FitsSet limits pairs) p y.0 y.1) (ok_is {A = DemandSet × Place} (made, s3.0.1) (x, q) s3.2)
+    (record { parts = whole; good = (boxes, t2.good, t3.good) })
+
+bounds_takes : (limits : Limits) (pairs : ℕ) (p : Place) (x : DemandSet) (q : Place) (t : Bool) → has_boxes limits ≡ t → cond t (box_at pairs p) (margin_at pairs p) ≡ Ok (x, q) → Took after_set (FitsSet limits pairs) p x q
+bounds_takes limits pairs p x q true is e = box_takes limits is pairs p x q e
+bounds_takes limits pairs p x q false is e = margin_takes limits is pairs p x q e
+
+chosen_set : (limits : Limits) (pairs : ℕ) (p : Place) (x : DemandSet) (q : Place) (t : Bool) → cond t (all_at p) (bounds_at limits pairs p) ≡ Ok (x, q) → Took after_set (FitsSet limits pairs) p x q
+chosen_set limits pairs p x q true e =
     let t = all_takes p x q e in
-    subst (λ (y : DemandSet). Took after_set (FitsSet pairs) p y q) t.1 (record { parts = t.0; good = tt })
-chosen_set pairs p x q false e = margin_takes pairs p x q e
+    subst (λ (y : DemandSet). Took after_set (FitsSet limits pairs) p y q) t.1 (record { parts = t.0; good = tt })
+chosen_set limits pairs p x q false e = bounds_takes limits pairs p x q (has_boxes limits) refl e
 
 set_is : (x : DemandSet) → set_text x ≡ codes "set " ++ after_set x
 set_is All = refl
 set_is (Margin num den base) = refl
+set_is (Box lower upper) = refl
 
-pub set_takes : (pairs : ℕ) (p : Place) (x : DemandSet) (q : Place) → set_at pairs p ≡ Ok (x, q) → Took set_text (FitsSet pairs) p x q
+pub set_takes : (limits : Limits) (pairs : ℕ) (p : Place) (x : DemandSet) (q : Place) → set_at limits pairs p ≡ Ok (x, q) → Took set_text (FitsSet limits pairs) p x q
 unfolding set_at
-set_takes pairs p x q e =
-    let s0 = bind_ok (word_at (codes "set ") p) (λ a. cond (eqb (get_or a.rest 0 0) 97) (all_at a) (margin_at pairs a)) (x, q) e in
+set_takes limits pairs p x q e =
+    let s0 = bind_ok (word_at (codes "set ") p) (λ a. cond (eqb (get_or a.rest 0 0) 97) (all_at a) (bounds_at limits pairs a)) (x, q) e in
     let t0 = word_takes (codes "set ") p s0.0 s0.1 in
-    let t1 = chosen_set pairs s0.0 x q (eqb (get_or s0.0.rest 0 0) 97) s0.2 in
+    let t1 = chosen_set limits pairs s0.0 x q (eqb (get_or s0.0.rest 0 0) 97) s0.2 in
     record { parts = t0 ∙ ap (λ (r : List ℕ). codes "set " ++ r) t1.parts ∙ ap (λ (t : List ℕ). t ++ q.rest) (sym (set_is x)); good = t1.good }
 
-pub set_again : (pairs : ℕ) (x : DemandSet) (k : ℕ) (r : List ℕ) → FitsSet pairs x → Again (set_at pairs) (set_text x) x r k
-unfolding set_at all_at margin_at
-set_again pairs All k r fits = (k + 1, refl)
-set_again pairs (Margin num den base) k r fits =
+pub set_again : (limits : Limits) (pairs : ℕ) (x : DemandSet) (k : ℕ) (r : List ℕ) → FitsSet limits pairs x → Again (set_at limits pairs) (set_text x) x r k
+unfolding set_at all_at margin_at box_at
+set_again limits pairs All k r fits = (k + 1, refl)
+set_again limits pairs (Margin num den base) k r fits =
     let rest = listing_text (codes "base") base.demand ++ r in
-    let a1 = number_again k num (spaced den ++ (10 ∷ rest)) fits.0 refl in
-    let a2 = next_number_again k den (10 ∷ rest) fits.1 refl in
-    let a3 = listing_again (codes "base") pairs base.demand (k + 1) r fits.2 in
-    (a3.0, ap (λ (bs : List ℕ). set_at pairs (place k (codes "set " ++ bs))) (margin_text num den base.demand r) ∙ rw (a1, a2, a3.1) refl)
+    let a1 = number_again k num (spaced den ++ (10 ∷ rest)) fits.1 refl in
+    let a2 = next_number_again k den (10 ∷ rest) fits.2 refl in
+    let a3 = listing_again (codes "base") pairs base.demand (k + 1) r fits.3 in
+    (a3.0, ap (λ (bs : List ℕ). set_at limits pairs (place k (codes "set " ++ bs))) (margin_text num den base.demand r) ∙ rw (fits.0, a1, a2, a3.1) refl)
+set_again limits pairs (Box lower upper) k r fits =
+    let a1 = listing_again (codes "lower") pairs lower.demand (k + 1) (listing_text (codes "upper") upper.demand ++ r) fits.1 in
+    let a2 = listing_again (codes "upper") pairs upper.demand a1.0 r fits.2 in
+    (a2.0, ap (λ (bs : List ℕ). set_at limits pairs (place k (codes "set " ++ bs))) (regroup_four (codes "box") (10 ∷ []) (listing_text (codes "lower") lower.demand) (listing_text (codes "upper") upper.demand) r) ∙ rw (fits.0, a1.1, a2.1) refl)
+
+-- ---- the first line
+
+-- the number of a format
+abbrev pub IsFormat : ℕ → Type 0
+IsFormat format = (limits_of format).format ≡ format
+
+digit_takes : (format : ℕ) → decimal format ≡ (48 + format) ∷ [] → IsFormat format → (p : Place) (x : ℕ) (q : Place) → digit_at format p ≡ Ok (x, q) → Took (λ f. decimal f ++ 10 ∷ []) IsFormat p x q
+unfolding digit_at
+digit_takes format digit known p x q e =
+    let s0 = bind_ok (byte_at (48 + format) p) (λ a. line_end_at a >>= λ e. Ok (format, e)) (x, q) e in
+    let t0 = byte_takes (48 + format) p s0.0 s0.1 in
+    let s1 = bind_ok (line_end_at s0.0) (λ e. Ok (format, e)) (x, q) s0.2 in
+    let t1 = line_end_takes s0.0 s1.0 s1.1 in
+    let whole : p.rest ≡ (decimal format ++ 10 ∷ []) ++ s1.0.rest =
+    t0 ∙ ap (λ (r : List ℕ). (48 + format) ∷ r) t1 ∙ ap (λ (d : List ℕ). (d ++ 10 ∷ []) ++ s1.0.rest) (sym digit) in
+    subst (λ (y : ℕ × Place). Took (λ f. decimal f ++ 10 ∷ []) IsFormat p y.0 y.1) (ok_is {A = ℕ × Place} (format, s1.0) (x, q) s1.2)
+    (record { parts = whole; good = known })
+
+pub format_takes : (p : Place) (x : ℕ) (q : Place) → format_at p ≡ Ok (x, q) → Took format_text IsFormat p x q
+unfolding format_at
+format_takes p x q e =
+    let s0 = bind_ok (word_at (codes "yates-ratio ") p) (λ a. cond (eqb (get_or a.rest 0 0) 50) (digit_at 2 a) (digit_at 1 a)) (x, q) e in
+    let t0 = word_takes (codes "yates-ratio ") p s0.0 s0.1 in
+    let t1 = chosen s0.0 (eqb (get_or s0.0.rest 0 0) 50) s0.2 in
+    record { parts = t0 ∙ ap (λ (r : List ℕ). codes "yates-ratio " ++ r) t1.parts ∙ sym (append_assoc (codes "yates-ratio ") (decimal x ++ 10 ∷ []) q.rest); good = t1.good }
+  where
+    chosen : (a : Place) (t : Bool) → cond t (digit_at 2 a) (digit_at 1 a) ≡ Ok (x, q) → Took (λ f. decimal f ++ 10 ∷ []) IsFormat a x q
+    chosen a true h = digit_takes 2 (decimal_digit 2 (lit< tt)) refl a x q h
+    chosen a false h = digit_takes 1 (decimal_digit 1 (lit< tt)) refl a x q h
+
+pub format_again : (x k : ℕ) (r : List ℕ) → IsFormat x → Again format_at (format_text x) x r k
+unfolding format_at digit_at
+format_again x k r known = either (eqb x 2) known
+  where
+    either : (t : Bool) → (cond t FORMAT_2 FORMAT_1).format ≡ x → Again format_at (format_text x) x r k
+    either true is = subst (λ (y : ℕ). Again format_at (format_text y) y r k) is (k + 1, rw (decimal_digit 2 (lit< tt)) refl)
+    either false is = subst (λ (y : ℕ). Again format_at (format_text y) y r k) is (k + 1, rw (decimal_digit 1 (lit< tt)) refl)

@@ -1,15 +1,17 @@
 -- What te_model's test of shape says, piece by piece: a certificate is rightly shaped exactly where it fits its format.
-use Rattle.std.proofs.Common.{◌≡◌, ℕ, ◌^◌, Bool, true, ◌&&◌, List, [], ◌∷◌, length, refl, eqb, eq-eqb}
+use Rattle.std.proofs.Common.{◌≡◌, ℕ, ◌^◌, ◌⊎◌, Bool, true, false, ◌&&◌, cond, List, [], ◌∷◌, length, refl, sym, ap, subst, ◌∙◌, inl, inr, eqb, eq-eqb}
 use Rattle.std.specs.List.{list_all, AllByRecursion}
 use Rattle.std.proofs.lemmas.Bool.{ltb-true, lt-ltb, eqb-true}
 use Rattle.std.proofs.lemmas.List.{nil_from_length}
 use Rattle.te_model.specs.declared.limits.Limits.{Limits}
+use Rattle.te_model.specs.declared.limits.TheConstants.{FORMAT_1, FORMAT_2}
+use Rattle.te_model.specs.Formats.{limits_of}
 use Rattle.te_model.specs.declared.network.Link.{Link}
 use Rattle.te_model.specs.declared.network.Network.{Network}
 use Rattle.te_model.specs.declared.route.PathShare.{PathShare}
 use Rattle.te_model.specs.declared.route.PairRoutes.{PairRoutes}
 use Rattle.te_model.specs.declared.demand.DemandSet.{DemandSet}
-use Rattle.te_model.specs.declared.demand.DemandSet.TheVariants.{All, Margin}
+use Rattle.te_model.specs.declared.demand.DemandSet.TheVariants.{All, Margin, Box}
 use Rattle.te_model.specs.declared.certificate.Row.{Row}
 use Rattle.te_model.specs.declared.certificate.Block.{Block}
 use Rattle.te_model.specs.declared.certificate.Head.{Head}
@@ -17,7 +19,7 @@ use Rattle.te_model.specs.declared.certificate.Certificate.{Certificate}
 use Rattle.te_model.specs.Network.{node_count, link_count, is_name}
 use Rattle.te_model.specs.Shape.{is_count, is_word, are_words, is_row_of, is_shaped_link, is_shaped_network, is_shaped_path, is_shaped_pair, is_shaped_set, is_shaped_head, is_shaped_row, has_one_each, is_shaped_block, is_shaped}
 use Rattle.te_model.proofs.Tests.{and_true}
-use Rattle.cert_text.specs.Grammar.{counts_of, is_margin}
+use Rattle.cert_text.specs.Grammar.{counts_of, has_boxes, has_bounds}
 use Rattle.cert_text.specs.Fits.{IsWord, AreWords, IsNamed, FitsLink, FitsNetwork, FitsPath, FitsPair, FitsList, FitsSet, FitsHead, FitsRow, FitsSides, FitsBlock, FitsFormat}
 
 -- ---- tests of several parts
@@ -92,38 +94,55 @@ test_pair : (limits : Limits) (r : PairRoutes) → FitsPair limits r → is_shap
 test_pair limits r fits =
     rw (test_word r.pair.src fits.src, test_word r.pair.dst fits.dst, fits.paths, test_all (is_shaped_path limits) (FitsPath limits) (test_path limits) r.paths fits.each_path) refl
 
-set_of : (pairs : ℕ) (s : DemandSet) → is_shaped_set pairs s ≡ true → FitsSet pairs s
-set_of pairs All e = tt
-set_of pairs (Margin num den base) e =
-    let f = and_3 (is_word num) (is_word den) (is_row_of pairs base.demand) e in
-    (word_of num f.0, word_of den f.1, list_of pairs base.demand f.2)
+-- a format's number is 1 or 2
+number_of_format : (f : ℕ) → f ≡ (limits_of f).format → (f ≡ 1) ⊎ (f ≡ 2)
+number_of_format f known = either (eqb f 2) known
+  where
+    either : (t : Bool) → f ≡ (cond t FORMAT_2 FORMAT_1).format → (f ≡ 1) ⊎ (f ≡ 2)
+    either true is = inr is
+    either false is = inl is
 
-test_set : (pairs : ℕ) (s : DemandSet) → FitsSet pairs s → is_shaped_set pairs s ≡ true
-test_set pairs All fits = refl
-test_set pairs (Margin num den base) fits = rw (test_word num fits.0, test_word den fits.1, test_list pairs base.demand fits.2) refl
+set_of : (limits : Limits) (pairs : ℕ) (s : DemandSet) → is_shaped_set limits pairs s ≡ true → FitsSet limits pairs s
+set_of limits pairs All e = tt
+set_of limits pairs (Margin num den base) e =
+    let f = and_4 (eqb limits.format 1) (is_word num) (is_word den) (is_row_of pairs base.demand) e in
+    let first : limits.format ≡ 1 = eqb-true limits.format 1 f.0 in
+    (ap (λ (n : ℕ). eqb n 2) first, word_of num f.1, word_of den f.2, list_of pairs base.demand f.3)
+set_of limits pairs (Box lower upper) e =
+    let f = and_3 (has_boxes limits) (is_row_of pairs lower.demand) (is_row_of pairs upper.demand) e in
+    (f.0, list_of pairs lower.demand f.1, list_of pairs upper.demand f.2)
+
+test_set : (limits : Limits) (pairs : ℕ) (s : DemandSet) → (limits.format ≡ 1) ⊎ (limits.format ≡ 2) → FitsSet limits pairs s → is_shaped_set limits pairs s ≡ true
+test_set limits pairs All known fits = refl
+test_set limits pairs (Margin num den base) (inl first) fits = rw (eq-eqb limits.format 1 first, test_word num fits.1, test_word den fits.2, test_list pairs base.demand fits.3) refl
+test_set limits pairs (Margin num den base) (inr second) fits = absurd (let no : true ≡ false = sym (eq-eqb limits.format 2 second) ∙ fits.0 in cc)
+test_set limits pairs (Box lower upper) known fits = rw (fits.0, test_list pairs lower.demand fits.1, test_list pairs upper.demand fits.2) refl
 
 head_of : (limits : Limits) (h : Head) → is_shaped_head limits h ≡ true → FitsHead limits h
 head_of limits h e =
+    let format = eqb h.format limits.format in
     let net = is_shaped_network limits h.network in
     let pairs = is_count 0 limits.pairs (length h.routes) in
     let each = list_all (is_shaped_pair limits) h.routes in
-    let set = is_shaped_set (length h.routes) h.set in
-    let f = and_true (net && pairs && each && set) (is_word h.ratio) e in
-    let g = and_4 net pairs each set f.0 in
+    let set = is_shaped_set limits (length h.routes) h.set in
+    let f = and_3 (format && net && pairs && each) set (is_word h.ratio) e in
+    let g = and_4 format net pairs each f.0 in
     record {
-      network = network_of limits h.network g.0;
-      routes = record { pairs = g.1; each_pair = all_of (is_shaped_pair limits) (FitsPair limits) (pair_of limits) h.routes g.2 };
-      set = set_of (length h.routes) h.set g.3;
-      ratio = word_of h.ratio f.1;
+      format = eqb-true h.format limits.format g.0;
+      network = network_of limits h.network g.1;
+      routes = record { pairs = g.2; each_pair = all_of (is_shaped_pair limits) (FitsPair limits) (pair_of limits) h.routes g.3 };
+      set = set_of limits (length h.routes) h.set f.1;
+      ratio = word_of h.ratio f.2;
     }
 
-test_head : (limits : Limits) (h : Head) → FitsHead limits h → is_shaped_head limits h ≡ true
-test_head limits h fits =
+test_head : (limits : Limits) (h : Head) → (limits.format ≡ 1) ⊎ (limits.format ≡ 2) → FitsHead limits h → is_shaped_head limits h ≡ true
+test_head limits h known fits =
     rw (
+      eq-eqb h.format limits.format fits.format,
       test_network limits h.network fits.network,
       fits.routes.pairs,
       test_all (is_shaped_pair limits) (FitsPair limits) (test_pair limits) h.routes fits.routes.each_pair,
-      test_set (length h.routes) h.set fits.set,
+      test_set limits (length h.routes) h.set known fits.set,
       test_word h.ratio fits.ratio,
     ) refl
 
@@ -135,17 +154,20 @@ row_of nodes r e = let f = and_true (is_word r.source) (is_row_of nodes r.potent
 test_row : (nodes : ℕ) (r : Row) → FitsRow nodes r → is_shaped_row nodes r ≡ true
 test_row nodes r fits = rw (test_word r.source fits.source, test_list nodes r.potential fits.potential) refl
 
-sides_of : (s : DemandSet) (pairs : ℕ) (plus minus : List ℕ) → has_one_each s pairs plus ≡ true → has_one_each s pairs minus ≡ true → FitsSides (is_margin s) pairs plus minus
+sides_of : (s : DemandSet) (pairs : ℕ) (plus minus : List ℕ) → has_one_each s pairs plus ≡ true → has_one_each s pairs minus ≡ true → FitsSides (has_bounds s) pairs plus minus
 sides_of All pairs plus minus p m = (nil_from_length plus (eqb-true (length plus) 0 p), nil_from_length minus (eqb-true (length minus) 0 m))
 sides_of (Margin num den base) pairs plus minus p m = (list_of pairs plus p, list_of pairs minus m)
+sides_of (Box lower upper) pairs plus minus p m = (list_of pairs plus p, list_of pairs minus m)
 
-test_plus : (s : DemandSet) (pairs : ℕ) (plus minus : List ℕ) → FitsSides (is_margin s) pairs plus minus → has_one_each s pairs plus ≡ true
+test_plus : (s : DemandSet) (pairs : ℕ) (plus minus : List ℕ) → FitsSides (has_bounds s) pairs plus minus → has_one_each s pairs plus ≡ true
 test_plus All pairs plus minus fits = rw fits.0 refl
 test_plus (Margin num den base) pairs plus minus fits = test_list pairs plus fits.0
+test_plus (Box lower upper) pairs plus minus fits = test_list pairs plus fits.0
 
-test_minus : (s : DemandSet) (pairs : ℕ) (plus minus : List ℕ) → FitsSides (is_margin s) pairs plus minus → has_one_each s pairs minus ≡ true
+test_minus : (s : DemandSet) (pairs : ℕ) (plus minus : List ℕ) → FitsSides (has_bounds s) pairs plus minus → has_one_each s pairs minus ≡ true
 test_minus All pairs plus minus fits = rw fits.1 refl
 test_minus (Margin num den base) pairs plus minus fits = test_list pairs minus fits.1
+test_minus (Box lower upper) pairs plus minus fits = test_list pairs minus fits.1
 
 block_of : (limits : Limits) (h : Head) (b : Block) → is_shaped_block limits h b ≡ true → FitsBlock limits (counts_of h) b
 block_of limits h b e =
@@ -183,11 +205,14 @@ test_block limits h b fits =
       test_minus h.set (length h.routes) b.plus b.minus fits.sides,
     ) refl
 
-pub shaped_fits : (limits : Limits) (c : Certificate) → is_shaped limits c ≡ true → FitsFormat limits c
-shaped_fits limits c e =
+pub shaped_fits : (c : Certificate) → is_shaped (limits_of c.head.format) c ≡ true → FitsFormat c
+shaped_fits c e =
+    let limits = limits_of c.head.format in
     let f = and_3 (is_shaped_head limits c.head) (is_count 0 limits.links (length c.blocks)) (list_all (is_shaped_block limits c.head) c.blocks) e in
     record { head = head_of limits c.head f.0; count = f.1; blocks = all_of (is_shaped_block limits c.head) (FitsBlock limits (counts_of c.head)) (block_of limits c.head) c.blocks f.2 }
 
-pub fits_shaped : (limits : Limits) (c : Certificate) → FitsFormat limits c → is_shaped limits c ≡ true
-fits_shaped limits c fits =
-    rw (test_head limits c.head fits.head, fits.count, test_all (is_shaped_block limits c.head) (FitsBlock limits (counts_of c.head)) (test_block limits c.head) c.blocks fits.blocks) refl
+pub fits_shaped : (c : Certificate) → FitsFormat c → is_shaped (limits_of c.head.format) c ≡ true
+fits_shaped c fits =
+    let limits = limits_of c.head.format in
+    let known : (limits.format ≡ 1) ⊎ (limits.format ≡ 2) = subst (λ (f : ℕ). (f ≡ 1) ⊎ (f ≡ 2)) fits.head.format (number_of_format c.head.format fits.head.format) in
+    rw (test_head limits c.head known fits.head, fits.count, test_all (is_shaped_block limits c.head) (FitsBlock limits (counts_of c.head)) (test_block limits c.head) c.blocks fits.blocks) refl

@@ -6,14 +6,15 @@ use Rattle.std.specs.Char.{is_ascii_digit}
 use Rattle.std.proofs.lemmas.Bool.Decides.{nat_tests}
 use Rattle.te_model.specs.Network.{is_name_byte}
 use Rattle.te_model.specs.declared.demand.DemandSet.{DemandSet}
-use Rattle.te_model.specs.declared.demand.DemandSet.TheVariants.{All, Margin}
+use Rattle.te_model.specs.declared.demand.DemandSet.TheVariants.{All, Margin, Box}
 use Rattle.te_model.specs.declared.limits.Limits.{Limits}
+use Rattle.te_model.specs.Formats.{limits_of}
 use Rattle.cert_text.specs.declared.limits.Counts.{Counts}
 use Rattle.cert_text.specs.Place.{Place, place, ◌>>=◌}
 use Rattle.cert_text.specs.Reading.{byte_at, word_at, line_end_at, number_at, count_at, narrow_at, next_number_at, next_narrow_at, next_count_at, many_at, name_at}
-use Rattle.cert_text.specs.Grammar.{counted_at, listing_at, name_line_at, link_line_at, network_at, path_at, pair_at, routes_at, all_at, margin_at, set_at, ratio_at, head_at, number_line_at, row_at, sides_at, block_at, opening_at, closing_at, certificate_at, counts_of}
+use Rattle.cert_text.specs.Grammar.{counted_at, listing_at, name_line_at, link_line_at, network_at, path_at, pair_at, routes_at, all_at, margin_at, box_at, has_boxes, bounds_at, set_at, ratio_at, head_at, number_line_at, row_at, sides_at, block_at, digit_at, format_at, opening_at, closing_at, certificate_at, counts_of}
 use Rattle.cert_text.proofs.Tokens.{IsCount}
-use Rattle.cert_text.proofs.Productions.{HasRoom}
+use Rattle.cert_text.proofs.Productions.{HasRoom, room_of}
 use Rattle.cert_text.proofs.Local.{IsLocal, silent, quiet, then_local, then_silent, done_local, same_local, byte_local, line_end_local, number_local, count_local, name_local, fork_local, end_local, regroup_silent, is_one_line}
 use Rattle.cert_text.proofs.Completable.{IsCompletable, no_byte, each_byte, then_completable, then_silent_completable, done_completable, same_completable, byte_completable, line_end_completable, number_completable, count_completable, name_completable, fork_completable, end_completable}
 
@@ -175,28 +176,47 @@ margin_steady pairs =
     (λ den. then_silent_steady line_end_at (λ p. listing_at (codes "base") pairs p >>= λ base. Ok (Margin num den (record { demand = base.0 }), base.1)) (line_end_steady refl)
     (then_steady (listing_at (codes "base") pairs) (λ base p. Ok (Margin num den (record { demand = base }), p)) (listing_steady (codes "base") pairs refl) (λ base. done_steady (Margin num den (record { demand = base })))))))
 
+pub box_steady : (pairs : ℕ) → IsSteady no_byte no_byte (box_at pairs)
+unfolding box_at
+box_steady pairs =
+    then_silent_steady (word_at (codes "box")) (λ p. line_end_at p >>= λ e. listing_at (codes "lower") pairs e >>= λ lower. listing_at (codes "upper") pairs lower.1 >>= λ upper. Ok (Box (record { demand = lower.0 }) (record { demand = upper.0 }), upper.1)) (word_steady (codes "box") refl)
+    (then_silent_steady line_end_at (λ p. listing_at (codes "lower") pairs p >>= λ lower. listing_at (codes "upper") pairs lower.1 >>= λ upper. Ok (Box (record { demand = lower.0 }) (record { demand = upper.0 }), upper.1)) (line_end_steady refl)
+    (then_steady (listing_at (codes "lower") pairs) (λ lower p. listing_at (codes "upper") pairs p >>= λ upper. Ok (Box (record { demand = lower }) (record { demand = upper.0 }), upper.1)) (listing_steady (codes "lower") pairs refl)
+    (λ lower. then_steady (listing_at (codes "upper") pairs) (λ upper p. Ok (Box (record { demand = lower }) (record { demand = upper }), p)) (listing_steady (codes "upper") pairs refl) (λ upper. done_steady (Box (record { demand = lower }) (record { demand = upper }))))))
+
+bounds_steady : (limits : Limits) (pairs : ℕ) → IsSteady no_byte no_byte (bounds_at limits pairs)
+bounds_steady limits pairs = either (has_boxes limits)
+  where
+    either : (t : Bool) → IsSteady no_byte no_byte (λ p. cond t (box_at pairs p) (margin_at pairs p))
+    either true = box_steady pairs
+    either false = margin_steady pairs
+
 -- nothing is read where nothing stands
 all_of_nothing : (n : ℕ) (x : DemandSet) (q : Place) → all_at (place n []) ≡ Ok (x, q) → ⊥
 unfolding all_at
 all_of_nothing n x q e = cc
 
-margin_of_nothing : (pairs n : ℕ) (x : DemandSet) (q : Place) → margin_at pairs (place n []) ≡ Ok (x, q) → ⊥
-unfolding margin_at
-margin_of_nothing pairs n x q e = cc
+bounds_of_nothing : (limits : Limits) (pairs n : ℕ) (x : DemandSet) (q : Place) → bounds_at limits pairs (place n []) ≡ Ok (x, q) → ⊥
+unfolding margin_at box_at
+bounds_of_nothing limits pairs n x q e = either (has_boxes limits) e
+  where
+    either : (t : Bool) → cond t (box_at pairs (place n [])) (margin_at pairs (place n [])) ≡ Ok (x, q) → ⊥
+    either true h = cc
+    either false h = cc
 
 all_starts : (n : ℕ) (r : List ℕ) → all_at (place n (codes "all" ++ (10 ∷ r))) ≡ Ok (All, place (n + 1) r)
 unfolding all_at
 all_starts n r = refl
 
-all_or_margin_steady : (pairs : ℕ) → IsSteady no_byte no_byte (λ a. cond (eqb (get_or a.rest 0 0) 97) (all_at a) (margin_at pairs a))
-all_or_margin_steady pairs = record {
-  local = fork_local all_at (margin_at pairs) all_steady.local (margin_steady pairs).local;
-  completable = fork_completable all_at (margin_at pairs) all_steady.completable (margin_steady pairs).completable all_of_nothing (margin_of_nothing pairs) (codes "ll" ++ 10 ∷ []) All 1 all_starts;
+all_or_bounds_steady : (limits : Limits) (pairs : ℕ) → IsSteady no_byte no_byte (λ a. cond (eqb (get_or a.rest 0 0) 97) (all_at a) (bounds_at limits pairs a))
+all_or_bounds_steady limits pairs = record {
+  local = fork_local 97 all_at (bounds_at limits pairs) all_steady.local (bounds_steady limits pairs).local;
+  completable = fork_completable 97 refl all_at (bounds_at limits pairs) all_steady.completable (bounds_steady limits pairs).completable all_of_nothing (bounds_of_nothing limits pairs) (codes "ll" ++ 10 ∷ []) All 1 all_starts;
 }
 
-pub set_steady : (pairs : ℕ) → IsSteady no_byte no_byte (set_at pairs)
+pub set_steady : (limits : Limits) (pairs : ℕ) → IsSteady no_byte no_byte (set_at limits pairs)
 unfolding set_at
-set_steady pairs = then_silent_steady (word_at (codes "set ")) (λ a. cond (eqb (get_or a.rest 0 0) 97) (all_at a) (margin_at pairs a)) (word_steady (codes "set ") refl) (all_or_margin_steady pairs)
+set_steady limits pairs = then_silent_steady (word_at (codes "set ")) (λ a. cond (eqb (get_or a.rest 0 0) 97) (all_at a) (bounds_at limits pairs a)) (word_steady (codes "set ") refl) (all_or_bounds_steady limits pairs)
 
 pub ratio_steady : IsSteady no_byte no_byte (ratio_at)
 unfolding ratio_at
@@ -208,10 +228,10 @@ ratio_steady =
 pub head_steady : (limits : Limits) (room : HasRoom limits) (keep : ℕ → ℕ) → IsSteady no_byte no_byte (head_at limits keep)
 unfolding head_at
 head_steady limits room keep =
-    then_steady (network_at limits keep) (λ network p. routes_at limits keep p >>= λ routes. set_at (length routes.0) routes.1 >>= λ set. ratio_at set.1 >>= λ ratio. Ok (record { network = network; routes = routes.0; set = set.0; ratio = ratio.0 }, ratio.1)) (network_steady limits room keep)
-    (λ network. then_steady (routes_at limits keep) (λ routes p. set_at (length routes) p >>= λ set. ratio_at set.1 >>= λ ratio. Ok (record { network = network; routes = routes; set = set.0; ratio = ratio.0 }, ratio.1)) (routes_steady limits room keep)
-    (λ routes. then_steady (set_at (length routes)) (λ set p. ratio_at p >>= λ ratio. Ok (record { network = network; routes = routes; set = set; ratio = ratio.0 }, ratio.1)) (set_steady (length routes))
-    (λ set. then_steady ratio_at (λ ratio p. Ok (record { network = network; routes = routes; set = set; ratio = ratio }, p)) ratio_steady (λ ratio. done_steady (record { network = network; routes = routes; set = set; ratio = ratio })))))
+    then_steady (network_at limits keep) (λ network p. routes_at limits keep p >>= λ routes. set_at limits (length routes.0) routes.1 >>= λ set. ratio_at set.1 >>= λ ratio. Ok (record { format = limits.format; network = network; routes = routes.0; set = set.0; ratio = ratio.0 }, ratio.1)) (network_steady limits room keep)
+    (λ network. then_steady (routes_at limits keep) (λ routes p. set_at limits (length routes) p >>= λ set. ratio_at set.1 >>= λ ratio. Ok (record { format = limits.format; network = network; routes = routes; set = set.0; ratio = ratio.0 }, ratio.1)) (routes_steady limits room keep)
+    (λ routes. then_steady (set_at limits (length routes)) (λ set p. ratio_at p >>= λ ratio. Ok (record { format = limits.format; network = network; routes = routes; set = set; ratio = ratio.0 }, ratio.1)) (set_steady limits (length routes))
+    (λ set. then_steady ratio_at (λ ratio p. Ok (record { format = limits.format; network = network; routes = routes; set = set; ratio = ratio }, p)) ratio_steady (λ ratio. done_steady (record { format = limits.format; network = network; routes = routes; set = set; ratio = ratio })))))
 
 pub number_line_steady : (n : ℕ) → IsSteady no_byte no_byte (number_line_at n)
 unfolding number_line_at
@@ -227,7 +247,7 @@ row_steady keep nodes =
     (λ source. then_steady (many_at nodes next_number_at) (λ potential p. line_end_at p >>= λ e. Ok (record { source = source; potential = potential }, e)) (many_steady next_number_at (next_number_steady refl) nodes)
     (λ potential. then_silent_steady line_end_at (λ p. Ok (record { source = source; potential = potential }, p)) (line_end_steady refl) (done_steady (record { source = source; potential = potential }))))
 
-pub sides_steady : (margin : Bool) (pairs : ℕ) → IsSteady no_byte no_byte (sides_at margin pairs)
+pub sides_steady : (bounded : Bool) (pairs : ℕ) → IsSteady no_byte no_byte (sides_at bounded pairs)
 unfolding sides_at
 sides_steady false pairs = done_steady ([], [])
 sides_steady true pairs = then_steady (listing_at (codes "plus") pairs) (λ plus p. listing_at (codes "minus") pairs p >>= λ minus. Ok ((plus, minus.0), minus.1)) (listing_steady (codes "plus") pairs refl)
@@ -236,22 +256,45 @@ sides_steady true pairs = then_steady (listing_at (codes "plus") pairs) (λ plus
 pub block_steady : (limits : Limits) (room : HasRoom limits) (keep : ℕ → ℕ) (counts : Counts) → IsSteady no_byte no_byte (block_at limits keep counts)
 unfolding block_at
 block_steady limits room keep counts =
-    then_steady (narrow_at keep) (λ link p. next_number_at p >>= λ a. next_number_at a.1 >>= λ b. next_count_at 0 limits.nodes b.1 >>= λ n. line_end_at n.1 >>= λ e. number_line_at counts.links e >>= λ weights. many_at n.0 (row_at keep counts.nodes) weights.1 >>= λ rows. sides_at counts.margin counts.pairs rows.1 >>= λ sides. Ok (record { link = link; a = a.0; b = b.0; weights = weights.0; rows = rows.0; plus = sides.0.0; minus = sides.0.1 }, sides.1)) (narrow_steady keep)
-    (λ link. then_steady next_number_at (λ a p. next_number_at p >>= λ b. next_count_at 0 limits.nodes b.1 >>= λ n. line_end_at n.1 >>= λ e. number_line_at counts.links e >>= λ weights. many_at n.0 (row_at keep counts.nodes) weights.1 >>= λ rows. sides_at counts.margin counts.pairs rows.1 >>= λ sides. Ok (record { link = link; a = a; b = b.0; weights = weights.0; rows = rows.0; plus = sides.0.0; minus = sides.0.1 }, sides.1)) (next_number_steady refl)
-    (λ a. then_steady next_number_at (λ b p. next_count_at 0 limits.nodes p >>= λ n. line_end_at n.1 >>= λ e. number_line_at counts.links e >>= λ weights. many_at n.0 (row_at keep counts.nodes) weights.1 >>= λ rows. sides_at counts.margin counts.pairs rows.1 >>= λ sides. Ok (record { link = link; a = a; b = b; weights = weights.0; rows = rows.0; plus = sides.0.0; minus = sides.0.1 }, sides.1)) (next_number_steady refl)
-    (λ b. then_steady (next_count_at 0 limits.nodes) (λ n p. line_end_at p >>= λ e. number_line_at counts.links e >>= λ weights. many_at n (row_at keep counts.nodes) weights.1 >>= λ rows. sides_at counts.margin counts.pairs rows.1 >>= λ sides. Ok (record { link = link; a = a; b = b; weights = weights.0; rows = rows.0; plus = sides.0.0; minus = sides.0.1 }, sides.1)) (next_count_steady 0 limits.nodes (none_within limits.nodes) (omega arith))
-    (λ n. then_silent_steady line_end_at (λ p. number_line_at counts.links p >>= λ weights. many_at n (row_at keep counts.nodes) weights.1 >>= λ rows. sides_at counts.margin counts.pairs rows.1 >>= λ sides. Ok (record { link = link; a = a; b = b; weights = weights.0; rows = rows.0; plus = sides.0.0; minus = sides.0.1 }, sides.1)) (line_end_steady refl)
-    (then_steady (number_line_at counts.links) (λ weights p. many_at n (row_at keep counts.nodes) p >>= λ rows. sides_at counts.margin counts.pairs rows.1 >>= λ sides. Ok (record { link = link; a = a; b = b; weights = weights; rows = rows.0; plus = sides.0.0; minus = sides.0.1 }, sides.1)) (number_line_steady counts.links)
-    (λ weights. then_steady (many_at n (row_at keep counts.nodes)) (λ rows p. sides_at counts.margin counts.pairs p >>= λ sides. Ok (record { link = link; a = a; b = b; weights = weights; rows = rows; plus = sides.0.0; minus = sides.0.1 }, sides.1)) (many_steady (row_at keep counts.nodes) (row_steady keep counts.nodes) n)
-    (λ rows. then_steady (sides_at counts.margin counts.pairs) (λ sides p. Ok (record { link = link; a = a; b = b; weights = weights; rows = rows; plus = sides.0; minus = sides.1 }, p)) (sides_steady counts.margin counts.pairs) (λ sides. done_steady (record { link = link; a = a; b = b; weights = weights; rows = rows; plus = sides.0; minus = sides.1 })))))))))
+    then_steady (narrow_at keep) (λ link p. next_number_at p >>= λ a. next_number_at a.1 >>= λ b. next_count_at 0 limits.nodes b.1 >>= λ n. line_end_at n.1 >>= λ e. number_line_at counts.links e >>= λ weights. many_at n.0 (row_at keep counts.nodes) weights.1 >>= λ rows. sides_at counts.bounded counts.pairs rows.1 >>= λ sides. Ok (record { link = link; a = a.0; b = b.0; weights = weights.0; rows = rows.0; plus = sides.0.0; minus = sides.0.1 }, sides.1)) (narrow_steady keep)
+    (λ link. then_steady next_number_at (λ a p. next_number_at p >>= λ b. next_count_at 0 limits.nodes b.1 >>= λ n. line_end_at n.1 >>= λ e. number_line_at counts.links e >>= λ weights. many_at n.0 (row_at keep counts.nodes) weights.1 >>= λ rows. sides_at counts.bounded counts.pairs rows.1 >>= λ sides. Ok (record { link = link; a = a; b = b.0; weights = weights.0; rows = rows.0; plus = sides.0.0; minus = sides.0.1 }, sides.1)) (next_number_steady refl)
+    (λ a. then_steady next_number_at (λ b p. next_count_at 0 limits.nodes p >>= λ n. line_end_at n.1 >>= λ e. number_line_at counts.links e >>= λ weights. many_at n.0 (row_at keep counts.nodes) weights.1 >>= λ rows. sides_at counts.bounded counts.pairs rows.1 >>= λ sides. Ok (record { link = link; a = a; b = b; weights = weights.0; rows = rows.0; plus = sides.0.0; minus = sides.0.1 }, sides.1)) (next_number_steady refl)
+    (λ b. then_steady (next_count_at 0 limits.nodes) (λ n p. line_end_at p >>= λ e. number_line_at counts.links e >>= λ weights. many_at n (row_at keep counts.nodes) weights.1 >>= λ rows. sides_at counts.bounded counts.pairs rows.1 >>= λ sides. Ok (record { link = link; a = a; b = b; weights = weights.0; rows = rows.0; plus = sides.0.0; minus = sides.0.1 }, sides.1)) (next_count_steady 0 limits.nodes (none_within limits.nodes) (omega arith))
+    (λ n. then_silent_steady line_end_at (λ p. number_line_at counts.links p >>= λ weights. many_at n (row_at keep counts.nodes) weights.1 >>= λ rows. sides_at counts.bounded counts.pairs rows.1 >>= λ sides. Ok (record { link = link; a = a; b = b; weights = weights.0; rows = rows.0; plus = sides.0.0; minus = sides.0.1 }, sides.1)) (line_end_steady refl)
+    (then_steady (number_line_at counts.links) (λ weights p. many_at n (row_at keep counts.nodes) p >>= λ rows. sides_at counts.bounded counts.pairs rows.1 >>= λ sides. Ok (record { link = link; a = a; b = b; weights = weights; rows = rows.0; plus = sides.0.0; minus = sides.0.1 }, sides.1)) (number_line_steady counts.links)
+    (λ weights. then_steady (many_at n (row_at keep counts.nodes)) (λ rows p. sides_at counts.bounded counts.pairs p >>= λ sides. Ok (record { link = link; a = a; b = b; weights = weights; rows = rows; plus = sides.0.0; minus = sides.0.1 }, sides.1)) (many_steady (row_at keep counts.nodes) (row_steady keep counts.nodes) n)
+    (λ rows. then_steady (sides_at counts.bounded counts.pairs) (λ sides p. Ok (record { link = link; a = a; b = b; weights = weights; rows = rows; plus = sides.0; minus = sides.1 }, p)) (sides_steady counts.bounded counts.pairs) (λ sides. done_steady (record { link = link; a = a; b = b; weights = weights; rows = rows; plus = sides.0; minus = sides.1 })))))))))
 
-pub opening_steady : (limits : Limits) (room : HasRoom limits) (keep : ℕ → ℕ) → IsSteady no_byte no_byte (opening_at limits keep)
+digit_steady : (format : ℕ) → eqb (48 + format) 10 ≡ false → IsSteady no_byte no_byte (digit_at format)
+unfolding digit_at
+digit_steady format no_end =
+    then_silent_steady (byte_at (48 + format)) (λ p. line_end_at p >>= λ e. Ok (format, e)) (byte_steady (48 + format) refl no_end)
+    (then_silent_steady line_end_at (λ p. Ok (format, p)) (line_end_steady refl) (done_steady format))
+
+digit_of_nothing : (format n x : ℕ) (q : Place) → digit_at format (place n []) ≡ Ok (x, q) → ⊥
+unfolding digit_at
+digit_of_nothing format n x q e = cc
+
+digit_starts : (n : ℕ) (r : List ℕ) → digit_at 2 (place n (50 ∷ ((10 ∷ []) ++ r))) ≡ Ok (2, place (n + 1) r)
+unfolding digit_at
+digit_starts n r = refl
+
+either_format_steady : IsSteady no_byte no_byte (λ a. cond (eqb (get_or a.rest 0 0) 50) (digit_at 2 a) (digit_at 1 a))
+either_format_steady = record {
+  local = fork_local 50 (digit_at 2) (digit_at 1) (digit_steady 2 refl).local (digit_steady 1 refl).local;
+  completable = fork_completable 50 refl (digit_at 2) (digit_at 1) (digit_steady 2 refl).completable (digit_steady 1 refl).completable (digit_of_nothing 2) (digit_of_nothing 1) (10 ∷ []) 2 1 digit_starts;
+}
+
+format_steady : IsSteady no_byte no_byte format_at
+unfolding format_at
+format_steady = then_silent_steady (word_at (codes "yates-ratio ")) (λ a. cond (eqb (get_or a.rest 0 0) 50) (digit_at 2 a) (digit_at 1 a)) (word_steady (codes "yates-ratio ") refl) either_format_steady
+
+pub opening_steady : (keep : ℕ → ℕ) → IsSteady no_byte no_byte (opening_at keep)
 unfolding opening_at
-opening_steady limits room keep =
-    then_silent_steady (word_at (codes "yates-ratio 1")) (λ p. line_end_at p >>= λ e. head_at limits keep e >>= λ head. counted_at (codes "blocks ") 0 limits.links head.1 >>= λ n. Ok ((head.0, n.0), n.1)) (word_steady (codes "yates-ratio 1") refl)
-    (then_silent_steady line_end_at (λ p. head_at limits keep p >>= λ head. counted_at (codes "blocks ") 0 limits.links head.1 >>= λ n. Ok ((head.0, n.0), n.1)) (line_end_steady refl)
-    (then_steady (head_at limits keep) (λ head p. counted_at (codes "blocks ") 0 limits.links p >>= λ n. Ok ((head, n.0), n.1)) (head_steady limits room keep)
-    (λ head. then_steady (counted_at (codes "blocks ") 0 limits.links) (λ n p. Ok ((head, n), p)) (counted_steady (codes "blocks ") 0 limits.links refl (none_within limits.links) (omega arith)) (λ n. done_steady ((head, n))))))
+opening_steady keep =
+    then_steady format_at (λ format p. head_at (limits_of format) keep p >>= λ head. counted_at (codes "blocks ") 0 (limits_of format).links head.1 >>= λ n. Ok ((head.0, n.0), n.1)) format_steady
+    (λ format. then_steady (head_at (limits_of format) keep) (λ head p. counted_at (codes "blocks ") 0 (limits_of format).links p >>= λ n. Ok ((head, n.0), n.1)) (head_steady (limits_of format) (room_of format) keep)
+    (λ head. then_steady (counted_at (codes "blocks ") 0 (limits_of format).links) (λ n p. Ok ((head, n), p)) (counted_steady (codes "blocks ") 0 (limits_of format).links refl (none_within (limits_of format).links) (omega arith)) (λ n. done_steady ((head, n)))))
 
 abbrev last : Place → Result Place ℕ
 last e = cond (eqb (length e.rest) 0) (Ok e) (Err e.line)
@@ -265,9 +308,9 @@ unfolding closing_at
 closing_steady = same_steady (λ p. word_at (codes "end") p >>= λ a. line_end_at a >>= silent last) (silent (λ p. word_at (codes "end") p >>= λ a. line_end_at a >>= last)) (λ p. regroup_three (word_at (codes "end") p) line_end_at last)
     (then_silent_steady (word_at (codes "end")) (λ a. line_end_at a >>= silent last) (word_steady (codes "end") refl) (then_silent_steady line_end_at (silent last) (line_end_steady refl) end_steady))
 
-pub certificate_steady : (limits : Limits) (room : HasRoom limits) (keep : ℕ → ℕ) → IsSteady no_byte each_byte (certificate_at limits keep)
+pub certificate_steady : (keep : ℕ → ℕ) → IsSteady no_byte each_byte (certificate_at keep)
 unfolding certificate_at
-certificate_steady limits room keep =
-    then_steady (opening_at limits keep) (λ opened p. many_at opened.1 (block_at limits keep (counts_of opened.0)) p >>= λ blocks. closing_at blocks.1 >>= λ e. Ok (record { head = opened.0; blocks = blocks.0 }, e)) (opening_steady limits room keep)
-    (λ opened. then_steady (many_at opened.1 (block_at limits keep (counts_of opened.0))) (λ blocks p. closing_at p >>= λ e. Ok (record { head = opened.0; blocks = blocks }, e)) (many_steady (block_at limits keep (counts_of opened.0)) (block_steady limits room keep (counts_of opened.0)) opened.1)
+certificate_steady keep =
+    then_steady (opening_at keep) (λ opened p. many_at opened.1 (block_at (limits_of opened.0.format) keep (counts_of opened.0)) p >>= λ blocks. closing_at blocks.1 >>= λ e. Ok (record { head = opened.0; blocks = blocks.0 }, e)) (opening_steady keep)
+    (λ opened. then_steady (many_at opened.1 (block_at (limits_of opened.0.format) keep (counts_of opened.0))) (λ blocks p. closing_at p >>= λ e. Ok (record { head = opened.0; blocks = blocks }, e)) (many_steady (block_at (limits_of opened.0.format) keep (counts_of opened.0)) (block_steady (limits_of opened.0.format) (room_of opened.0.format) keep (counts_of opened.0)) opened.1)
     (λ blocks. then_silent_steady closing_at (λ p. Ok (record { head = opened.0; blocks = blocks }, p)) closing_steady (done_steady (record { head = opened.0; blocks = blocks }))))

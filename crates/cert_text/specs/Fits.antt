@@ -1,4 +1,4 @@
--- What has a text in a format: its lists have the lengths that are due, its names are names, and its numbers are below 2 ^ 64.
+-- What has a text in its format: its lists have the lengths that are due, its names are names, and its numbers are below 2 ^ 64.
 use Rattle.std.specs.Prelude.{◌≡◌, ℕ, ◌<◌, ◌^◌, Bool, true, false, List, [], length}
 use Rattle.std.specs.List.{AllByRecursion}
 use Rattle.te_model.specs.declared.network.Link.{Link}
@@ -10,12 +10,13 @@ use Rattle.te_model.specs.declared.certificate.Block.{Block}
 use Rattle.te_model.specs.declared.certificate.Head.{Head}
 use Rattle.te_model.specs.declared.certificate.Certificate.{Certificate}
 use Rattle.te_model.specs.declared.demand.DemandSet.{DemandSet}
-use Rattle.te_model.specs.declared.demand.DemandSet.TheVariants.{All, Margin}
+use Rattle.te_model.specs.declared.demand.DemandSet.TheVariants.{All, Margin, Box}
 use Rattle.te_model.specs.Network.{is_name}
 use Rattle.te_model.specs.Shape.{is_count}
 use Rattle.te_model.specs.declared.limits.Limits.{Limits}
 use Rattle.cert_text.specs.declared.limits.Counts.{Counts}
-use Rattle.cert_text.specs.Grammar.{counts_of}
+use Rattle.te_model.specs.Formats.{limits_of}
+use Rattle.cert_text.specs.Grammar.{has_boxes, counts_of}
 
 -- a number of 64 bits
 abbrev pub IsWord : ℕ → Type 0
@@ -66,16 +67,18 @@ pub record FitsList (n : ℕ) (ns : List ℕ) : Type 0 where
   pub count : length ns ≡ n
   pub words : AreWords ns
 
--- a margin has a base of one number for each pair
-abbrev pub FitsSet : ℕ → DemandSet → Type 0
-FitsSet pairs All = Unit {0}
-FitsSet pairs (Margin num den base) = IsWord num × IsWord den × FitsList pairs base.demand
+-- a margin has a base of one number for each pair; a box, in the format that has boxes, two bounds
+abbrev pub FitsSet : Limits → ℕ → DemandSet → Type 0
+FitsSet limits pairs All = Unit {0}
+FitsSet limits pairs (Margin num den base) = (has_boxes limits ≡ false) × IsWord num × IsWord den × FitsList pairs base.demand
+FitsSet limits pairs (Box lower upper) = (has_boxes limits ≡ true) × FitsList pairs lower.demand × FitsList pairs upper.demand
 
--- the network, the pairs, the set and the ratio
+-- the format of the limits, the network, the pairs, the set and the ratio
 pub record FitsHead (limits : Limits) (h : Head) : Type 0 where
+  pub format : h.format ≡ limits.format
   pub network : FitsNetwork limits h.network
   pub routes : FitsRoutes limits h.routes
-  pub set : FitsSet (length h.routes) h.set
+  pub set : FitsSet limits (length h.routes) h.set
   pub ratio : IsWord h.ratio
 
 -- a source, and a potential for each node
@@ -83,7 +86,7 @@ pub record FitsRow (nodes : ℕ) (r : Row) : Type 0 where
   pub source : IsWord r.source
   pub potential : FitsList nodes r.potential
 
--- plus and minus have one number for each pair where the set is a margin, and none where it is all
+-- plus and minus have one number for each pair where the set has bounds, and none where it is all
 abbrev pub FitsSides : Bool → ℕ → List ℕ → List ℕ → Type 0
 FitsSides false pairs plus minus = (plus ≡ []) × (minus ≡ [])
 FitsSides true pairs plus minus = FitsList pairs plus × FitsList pairs minus
@@ -96,10 +99,10 @@ pub record FitsBlock (limits : Limits) (counts : Counts) (block : Block) : Type 
   pub count : is_count 0 limits.nodes (length block.rows) ≡ true
   pub weights : FitsList counts.links block.weights
   pub rows : AllByRecursion (FitsRow counts.nodes) block.rows
-  pub sides : FitsSides counts.margin counts.pairs block.plus block.minus
+  pub sides : FitsSides counts.bounded counts.pairs block.plus block.minus
 
--- a head, and blocks whose count is within the limits
-pub record FitsFormat (limits : Limits) (c : Certificate) : Type 0 where
-  pub head : FitsHead limits c.head
-  pub count : is_count 0 limits.links (length c.blocks) ≡ true
-  pub blocks : AllByRecursion (FitsBlock limits (counts_of c.head)) c.blocks
+-- a head, and blocks whose count is within the limits of the head's format
+pub record FitsFormat (c : Certificate) : Type 0 where
+  pub head : FitsHead (limits_of c.head.format) c.head
+  pub count : is_count 0 (limits_of c.head.format).links (length c.blocks) ≡ true
+  pub blocks : AllByRecursion (FitsBlock (limits_of c.head.format) (counts_of c.head)) c.blocks

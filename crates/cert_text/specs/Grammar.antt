@@ -1,5 +1,5 @@
--- The grammar of a certificate, from left to right.
-use Rattle.std.specs.Prelude.{ℕ, ◌-◌, Bool, true, false, List, [], ◌∷◌, length, Result, Ok, Err, slice_index, ◌==◌, codes, if◌then◌else◌}
+-- The grammar of a certificate of either format, from left to right.
+use Rattle.std.specs.Prelude.{ℕ, ◌+◌, ◌-◌, Bool, true, false, List, [], ◌∷◌, length, Result, Ok, Err, slice_index, ◌==◌, codes, if◌then◌else◌}
 use Rattle.te_model.specs.declared.network.Link.{Link}
 use Rattle.te_model.specs.declared.network.Network.{Network}
 use Rattle.te_model.specs.declared.route.PathShare.{PathShare}
@@ -9,11 +9,12 @@ use Rattle.te_model.specs.declared.certificate.Block.{Block}
 use Rattle.te_model.specs.declared.certificate.Head.{Head}
 use Rattle.te_model.specs.declared.certificate.Certificate.{Certificate}
 use Rattle.te_model.specs.declared.demand.DemandSet.{DemandSet}
-use Rattle.te_model.specs.declared.demand.DemandSet.TheVariants.{All, Margin}
+use Rattle.te_model.specs.declared.demand.DemandSet.TheVariants.{All, Margin, Box}
 use Rattle.te_model.specs.declared.limits.Limits.{Limits}
+use Rattle.te_model.specs.Formats.{limits_of}
 use Rattle.cert_text.specs.declared.limits.Counts.{Counts}
 use Rattle.cert_text.specs.Place.{Place, ◌>>=◌}
-use Rattle.cert_text.specs.Reading.{word_at, line_end_at, number_at, count_at, narrow_at, next_number_at, next_narrow_at, next_count_at, many_at, name_at}
+use Rattle.cert_text.specs.Reading.{byte_at, word_at, line_end_at, number_at, count_at, narrow_at, next_number_at, next_narrow_at, next_count_at, many_at, name_at}
 
 -- a word and a number within a range, on a line of their own
 unfoldable pub counted_at : List ℕ → ℕ → ℕ → Place → Result (ℕ × Place) ℕ
@@ -91,11 +92,26 @@ margin_at pairs p = do
   base ← listing_at (codes "base") pairs e
   Ok (Margin num.0 den.0 (record { demand = base.0 }), base.1)
 
--- all matrices, where an `a` stands next, and else a margin
-unfoldable pub set_at : ℕ → Place → Result (DemandSet × Place) ℕ
-set_at pairs p = do
+unfoldable pub box_at : ℕ → Place → Result (DemandSet × Place) ℕ
+box_at pairs p = do
+  a ← word_at (codes "box") p
+  e ← line_end_at a
+  lower ← listing_at (codes "lower") pairs e
+  upper ← listing_at (codes "upper") pairs lower.1
+  Ok (Box (record { demand = lower.0 }) (record { demand = upper.0 }), upper.1)
+
+-- whether a set with bounds is a box: in the second format, and a margin in the first
+abbrev pub has_boxes : Limits → Bool
+has_boxes limits = limits.format == 2
+
+abbrev pub bounds_at : Limits → ℕ → Place → Result (DemandSet × Place) ℕ
+bounds_at limits pairs p = if has_boxes limits then box_at pairs p else margin_at pairs p
+
+-- all matrices, where an `a` stands next, and else the set with bounds that the format has
+unfoldable pub set_at : Limits → ℕ → Place → Result (DemandSet × Place) ℕ
+set_at limits pairs p = do
   a ← word_at (codes "set ") p
-  if slice_index a.rest 0 == 97 then all_at a else margin_at pairs a
+  if slice_index a.rest 0 == 97 then all_at a else bounds_at limits pairs a
 
 unfoldable pub ratio_at : Place → Result (ℕ × Place) ℕ
 ratio_at p = do
@@ -108,9 +124,9 @@ unfoldable pub head_at : Limits → (ℕ → ℕ) → Place → Result (Head × 
 head_at limits keep p = do
   network ← network_at limits keep p
   routes ← routes_at limits keep network.1
-  set ← set_at (length routes.0) routes.1
+  set ← set_at limits (length routes.0) routes.1
   ratio ← ratio_at set.1
-  Ok (record { network = network.0; routes = routes.0; set = set.0; ratio = ratio.0 }, ratio.1)
+  Ok (record { format = limits.format; network = network.0; routes = routes.0; set = set.0; ratio = ratio.0 }, ratio.1)
 
 -- one number or more, on a line of their own
 unfoldable pub number_line_at : ℕ → Place → Result (List ℕ × Place) ℕ
@@ -127,7 +143,7 @@ row_at keep nodes p = do
   e ← line_end_at potential.1
   Ok (record { source = source.0; potential = potential.0 }, e)
 
--- the lines `plus` and `minus` of a margin
+-- the lines `plus` and `minus`, where the set has bounds
 unfoldable pub sides_at : Bool → ℕ → Place → Result ((List ℕ × List ℕ) × Place) ℕ
 sides_at false pairs p = Ok (([], []), p)
 sides_at true pairs p = do
@@ -144,16 +160,17 @@ block_at limits keep counts p = do
   e ← line_end_at n.1
   weights ← number_line_at counts.links e
   rows ← many_at n.0 (row_at keep counts.nodes) weights.1
-  sides ← sides_at counts.margin counts.pairs rows.1
+  sides ← sides_at counts.bounded counts.pairs rows.1
   Ok (record { link = link.0; a = a.0; b = b.0; weights = weights.0; rows = rows.0; plus = sides.0.0; minus = sides.0.1 }, sides.1)
 
-abbrev pub is_margin : DemandSet → Bool
-is_margin All = false
-is_margin (Margin num den base) = true
+abbrev pub has_bounds : DemandSet → Bool
+has_bounds All = false
+has_bounds (Margin num den base) = true
+has_bounds (Box lower upper) = true
 
 -- what the lines of a block are counted by
 abbrev pub counts_of : Head → Counts
-counts_of h = record { nodes = length h.network.names; links = length h.network.links; pairs = length h.routes; margin = is_margin h.set }
+counts_of h = record { nodes = length h.network.names; links = length h.network.links; pairs = length h.routes; bounded = has_bounds h.set }
 
 -- the last line, after which nothing stands
 unfoldable pub closing_at : Place → Result Place ℕ
@@ -162,18 +179,30 @@ closing_at p = do
   e ← line_end_at a
   if length e.rest == 0 then Ok e else Err e.line
 
--- the first line, the head and the count of the blocks
-unfoldable pub opening_at : Limits → (ℕ → ℕ) → Place → Result ((Head × ℕ) × Place) ℕ
-opening_at limits keep p = do
-  a ← word_at (codes "yates-ratio 1") p
+-- the digit of a format, which ends the first line
+unfoldable pub digit_at : ℕ → Place → Result (ℕ × Place) ℕ
+digit_at format p = do
+  a ← byte_at (48 + format) p
   e ← line_end_at a
-  head ← head_at limits keep e
-  n ← counted_at (codes "blocks ") 0 limits.links head.1
+  Ok (format, e)
+
+-- the first line, and the number of the format: 2 where a `2` stands next, and else 1, whose digit is then due
+unfoldable pub format_at : Place → Result (ℕ × Place) ℕ
+format_at p = do
+  a ← word_at (codes "yates-ratio ") p
+  if slice_index a.rest 0 == 50 then digit_at 2 a else digit_at 1 a
+
+-- the first line, which gives the limits, the head and the count of the blocks
+unfoldable pub opening_at : (ℕ → ℕ) → Place → Result ((Head × ℕ) × Place) ℕ
+opening_at keep p = do
+  format ← format_at p
+  head ← head_at (limits_of format.0) keep format.1
+  n ← counted_at (codes "blocks ") 0 (limits_of format.0).links head.1
   Ok ((head.0, n.0), n.1)
 
-unfoldable pub certificate_at : Limits → (ℕ → ℕ) → Place → Result (Certificate × Place) ℕ
-certificate_at limits keep p = do
-  opened ← opening_at limits keep p
-  blocks ← many_at opened.0.1 (block_at limits keep (counts_of opened.0.0)) opened.1
+unfoldable pub certificate_at : (ℕ → ℕ) → Place → Result (Certificate × Place) ℕ
+certificate_at keep p = do
+  opened ← opening_at keep p
+  blocks ← many_at opened.0.1 (block_at (limits_of opened.0.0.format) keep (counts_of opened.0.0)) opened.1
   e ← closing_at blocks.1
   Ok (record { head = opened.0.0; blocks = blocks.0 }, e)

@@ -26,9 +26,9 @@ keep_path s = record { links = map kept s.links; weight = s.weight }
 abbrev pub keep_pair : PairRoutes → PairRoutes
 keep_pair r = record { pair = record { src = kept r.pair.src; dst = kept r.pair.dst }; paths = map keep_path r.paths }
 
--- a head: the numbers of a margin and the ratio have 64 bits
+-- a head: the format is kept as it is, and the numbers of its set and the ratio have 64 bits
 abbrev pub keep_head : Head → Head
-keep_head h = record { network = keep_network h.network; routes = map keep_pair h.routes; set = h.set; ratio = h.ratio }
+keep_head h = record { format = h.format; network = keep_network h.network; routes = map keep_pair h.routes; set = h.set; ratio = h.ratio }
 
 -- a row: potentials have 64 bits
 abbrev pub keep_row : Row → Row

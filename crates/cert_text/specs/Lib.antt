@@ -7,3 +7,4 @@ pub mod Answer
 pub mod Outcome
 pub mod Kept
 pub mod Pieces
+pub mod SmallMargin

@@ -11,9 +11,9 @@ use Rattle.te_model.specs.declared.certificate.Block.{Block}
 use Rattle.te_model.specs.declared.certificate.Head.{Head}
 use Rattle.te_model.specs.declared.certificate.Certificate.{Certificate}
 use Rattle.te_model.specs.declared.demand.DemandSet.{DemandSet}
-use Rattle.te_model.specs.declared.demand.DemandSet.TheVariants.{All, Margin}
+use Rattle.te_model.specs.declared.demand.DemandSet.TheVariants.{All, Margin, Box}
 use Rattle.te_model.specs.Text.{numbers, link_line, path_line, pair_lines, row_line, network_lines}
-use Rattle.cert_text.specs.Grammar.{is_margin}
+use Rattle.cert_text.specs.Grammar.{has_bounds}
 
 -- a space and a number in decimal
 abbrev pub spaced : ℕ → List ℕ
@@ -55,10 +55,11 @@ row_text r = ended (row_line r)
 abbrev pub routes_text : List PairRoutes → List ℕ
 routes_text rs = counted_text (codes "pairs ") (length rs) ++ flat_map pair_text rs
 
--- the set of demands: all, or the margin and its base
+-- the set of demands: all, the margin and its base, or the box and its bounds
 abbrev pub set_text : DemandSet → List ℕ
 set_text All = codes "set all" ++ 10 ∷ []
 set_text (Margin num den base) = codes "set margin " ++ (decimal num ++ (spaced den ++ ((10 ∷ []) ++ listing_text (codes "base") base.demand)))
+set_text (Box lower upper) = codes "set box" ++ ((10 ∷ []) ++ (listing_text (codes "lower") lower.demand ++ listing_text (codes "upper") upper.demand))
 
 -- what stands before the blocks, but for the first line
 abbrev pub head_text : Head → List ℕ
@@ -68,19 +69,23 @@ head_text h = network_text h.network ++ (routes_text h.routes ++ (set_text h.set
 abbrev pub number_line : List ℕ → List ℕ
 number_line xs = ended (numbers xs)
 
--- the lines plus and minus, which a margin has
+-- the lines plus and minus, which a set with bounds has
 abbrev pub sides_text : Bool → List ℕ × List ℕ → List ℕ
 sides_text false sides = []
 sides_text true sides = listing_text (codes "plus") sides.0 ++ listing_text (codes "minus") sides.1
 
--- a block: its first line, the weights, the rows, and the lines of a margin
+-- a block: its first line, the weights, the rows, and where the set has bounds plus and minus
 abbrev pub block_text : Bool → Block → List ℕ
-block_text margin b = number_line (b.link ∷ b.a ∷ b.b ∷ length b.rows ∷ []) ++ (number_line b.weights ++ (flat_map row_text b.rows ++ sides_text margin (b.plus, b.minus)))
+block_text bounded b = number_line (b.link ∷ b.a ∷ b.b ∷ length b.rows ∷ []) ++ (number_line b.weights ++ (flat_map row_text b.rows ++ sides_text bounded (b.plus, b.minus)))
+
+-- the first line, which names the format
+abbrev pub format_text : ℕ → List ℕ
+format_text format = counted_text (codes "yates-ratio ") format
 
 -- the first line, the head and the count of the blocks
 abbrev pub opening_text : Head × ℕ → List ℕ
-opening_text x = codes "yates-ratio 1" ++ ((10 ∷ []) ++ (head_text x.0 ++ counted_text (codes "blocks ") x.1))
+opening_text x = format_text x.0.format ++ (head_text x.0 ++ counted_text (codes "blocks ") x.1)
 
 -- the whole file, part by part
 abbrev pub certificate_text : Certificate → List ℕ
-certificate_text c = opening_text (c.head, length c.blocks) ++ (flat_map (block_text (is_margin c.head.set)) c.blocks ++ (codes "end" ++ 10 ∷ []))
+certificate_text c = opening_text (c.head, length c.blocks) ++ (flat_map (block_text (has_bounds c.head.set)) c.blocks ++ (codes "end" ++ 10 ∷ []))

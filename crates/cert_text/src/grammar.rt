@@ -1,11 +1,14 @@
 //! Reading a certificate's parts, line by line. What is handed out is shaped whether or not the content is told.
-ghost use Rattle.std.specs.Prelude.{◌≡◌, ◌+◌, ◌<◌, ◌≤◌, ◌^◌, ◌++◌, length, Ok, [], codes, true, IfOk};
+//!
+//! The first line names the format, whose limits the lines after it keep.
+ghost use Rattle.std.specs.Prelude.{◌≡◌, ◌+◌, ◌<◌, ◌≤◌, ◌^◌, ◌++◌, length, Ok, [], codes, true, false, IfOk};
 ghost use Rattle.cert_text.specs.Place.{Place, place, Reads, Passes, Appends};
 ghost use Rattle.cert_text.specs.Reading.{kept, many_at, next_narrow_at};
 ghost use Rattle.te_model.specs.Shape.{is_count};
 ghost use Rattle.cert_text.specs.Listed.{IsListOf};
 ghost use Rattle.cert_text.specs.Fits.{IsWord, IsNamed, FitsLink, FitsNetwork, FitsPath, FitsPair, FitsRoutes, FitsList, FitsSet, FitsHead, FitsRow, FitsSides, FitsBlock};
-ghost use Rattle.cert_text.specs.Grammar.{counted_at, listing_at, name_line_at, link_line_at, network_at, path_at, pair_at, routes_at, all_at, margin_at, set_at, ratio_at, head_at, number_line_at, row_at, sides_at, block_at, closing_at, opening_at, certificate_at, counts_of};
+ghost use Rattle.cert_text.specs.Grammar.{counted_at, listing_at, name_line_at, link_line_at, network_at, path_at, pair_at, routes_at, all_at, margin_at, set_at, ratio_at, head_at, number_line_at, row_at, sides_at, block_at, closing_at, opening_at, certificate_at, counts_of, box_at, has_boxes, bounds_at, has_bounds, digit_at, format_at};
+ghost use Rattle.te_model.specs.Formats.{limits_of};
 
 use crate::cursor::Cursor;
 use crate::fault::Stop;
@@ -14,7 +17,7 @@ use crate::reader::Reader;
 use std::alloc::Global;
 use te_model::{
     Block, Certificate, DemandSet, Head, Items, Limits, Link, Matrix, Name, Network, Pair,
-    PairRoutes, PathShare, Row,
+    PairRoutes, PathShare, Row, limits_of,
 };
 
 // A word and a number within the range, on a line of their own.
@@ -238,8 +241,14 @@ fn all<C: Cursor>(r: &mut Reader<C>) -> Result<DemandSet, Stop>
 }
 
 #[tactic(auto, unfolding(crate::specs::Grammar::margin_at))]
-fn margin<C: Cursor>(r: &mut Reader<C>, alloc: Global, pairs: u64) -> Result<DemandSet, Stop>
-    ensures fits { IfOk result (λ x. FitsSet pairs x) }
+fn margin<C: Cursor>(
+    r: &mut Reader<C>,
+    alloc: Global,
+    limits: &Limits,
+    pairs: u64,
+) -> Result<DemandSet, Stop>
+    requires { has_boxes limits.now ≡ false }
+    ensures fits { IfOk result (λ x. FitsSet limits.now pairs x) }
     ensures told { C.is_told r.new.source → C.is_told r.old.source }
     ensures reads { C.is_told r.new.source → Reads result (place r.new.line (C.rest r.new.source))
         (margin_at pairs (place r.old.line (C.rest r.old.source))) }
@@ -256,19 +265,49 @@ fn margin<C: Cursor>(r: &mut Reader<C>, alloc: Global, pairs: u64) -> Result<Dem
     })
 }
 
-// All matrices, where an `a` stands next, and else a margin.
-#[tactic(auto, unfolding(crate::specs::Grammar::set_at))]
-fn set<C: Cursor>(r: &mut Reader<C>, alloc: Global, pairs: u64) -> Result<DemandSet, Stop>
-    ensures fits { IfOk result (λ x. FitsSet pairs x) }
+#[tactic(auto, unfolding(crate::specs::Grammar::box_at))]
+fn bounds<C: Cursor>(
+    r: &mut Reader<C>,
+    alloc: Global,
+    limits: &Limits,
+    pairs: u64,
+) -> Result<DemandSet, Stop>
+    requires { has_boxes limits.now ≡ true }
+    ensures fits { IfOk result (λ x. FitsSet limits.now pairs x) }
     ensures told { C.is_told r.new.source → C.is_told r.old.source }
     ensures reads { C.is_told r.new.source → Reads result (place r.new.line (C.rest r.new.source))
-        (set_at pairs (place r.old.line (C.rest r.old.source))) }
+        (box_at pairs (place r.old.line (C.rest r.old.source))) }
+{
+    r.word(b"box")?;
+    r.end_line()?;
+    let lower = listing(r, alloc, b"lower", pairs)?;
+    let upper = listing(r, alloc, b"upper", pairs)?;
+    Ok(DemandSet::Box {
+        lower: Matrix { demand: lower },
+        upper: Matrix { demand: upper },
+    })
+}
+
+// All matrices, where an `a` stands next, and else the set with bounds that the format has.
+#[tactic(auto, unfolding(crate::specs::Grammar::set_at))]
+fn set<C: Cursor>(
+    r: &mut Reader<C>,
+    alloc: Global,
+    limits: &Limits,
+    pairs: u64,
+) -> Result<DemandSet, Stop>
+    ensures fits { IfOk result (λ x. FitsSet limits.now pairs x) }
+    ensures told { C.is_told r.new.source → C.is_told r.old.source }
+    ensures reads { C.is_told r.new.source → Reads result (place r.new.line (C.rest r.new.source))
+        (set_at limits.now pairs (place r.old.line (C.rest r.old.source))) }
 {
     r.word(b"set ")?;
     if r.is_next(b'a') {
         all(r)
+    } else if limits.format == 2 {
+        bounds(r, alloc, limits, pairs)
     } else {
-        margin(r, alloc, pairs)
+        margin(r, alloc, limits, pairs)
     }
 }
 
@@ -294,9 +333,10 @@ fn head<C: Cursor>(r: &mut Reader<C>, alloc: Global, limits: &Limits) -> Result<
     let network = network(r, alloc, limits)?;
     let routes = routes(r, alloc, limits)?;
     let pairs = routes.as_slice().len() as u64;
-    let set = set(r, alloc, pairs)?;
+    let set = set(r, alloc, limits, pairs)?;
     let ratio = ratio(r)?;
     Ok(Head {
+        format: limits.format,
         network,
         routes,
         set,
@@ -358,20 +398,20 @@ fn rows<C: Cursor>(
     Ok(Items::new(items))
 }
 
-// The lines `plus` and `minus` of a margin.
+// The lines `plus` and `minus`, where the set has bounds.
 #[tactic(auto, unfolding(crate::specs::Grammar::sides_at))]
 fn sides<C: Cursor>(
     r: &mut Reader<C>,
     alloc: Global,
-    margin: bool,
+    bounded: bool,
     pairs: u64,
 ) -> Result<(Items<u64>, Items<u64>), Stop>
-    ensures fits { IfOk result (λ x. FitsSides margin pairs x.0 x.1) }
+    ensures fits { IfOk result (λ x. FitsSides bounded pairs x.0 x.1) }
     ensures told { C.is_told r.new.source → C.is_told r.old.source }
     ensures reads { C.is_told r.new.source → Reads result (place r.new.line (C.rest r.new.source))
-        (sides_at margin pairs (place r.old.line (C.rest r.old.source))) }
+        (sides_at bounded pairs (place r.old.line (C.rest r.old.source))) }
 {
-    if !margin {
+    if !bounded {
         return Ok((Items::new(Vec::new(alloc)), Items::new(Vec::new(alloc))));
     }
     let plus = listing(r, alloc, b"plus", pairs)?;
@@ -399,7 +439,7 @@ fn block<C: Cursor>(
     r.end_line()?;
     let weights = number_line(r, alloc, counts.links)?;
     let rows = rows(r, alloc, count, counts.nodes)?;
-    let (plus, minus) = sides(r, alloc, counts.margin, counts.pairs)?;
+    let (plus, minus) = sides(r, alloc, counts.bounded, counts.pairs)?;
     Ok(Block {
         link,
         a,
@@ -444,21 +484,44 @@ fn closing<C: Cursor>(r: &mut Reader<C>) -> Result<(), Stop>
     r.at_end()
 }
 
-// The first line, the head and the count of the blocks.
-#[tactic(auto, unfolding(crate::specs::Grammar::opening_at))]
-fn opening<C: Cursor>(
-    r: &mut Reader<C>,
-    alloc: Global,
-    limits: &Limits,
-) -> Result<(Head, u64), Stop>
-    ensures fits { IfOk result (λ x. FitsHead limits.now x.0) }
+// The digit of the format, which ends the first line.
+#[tactic(auto, unfolding(crate::specs::Grammar::digit_at))]
+fn digit<C: Cursor>(r: &mut Reader<C>, format: u8) -> Result<u32, Stop>
+    requires { format < 10 }
     ensures told { C.is_told r.new.source → C.is_told r.old.source }
     ensures reads { C.is_told r.new.source → Reads result (place r.new.line (C.rest r.new.source))
-        (opening_at limits.now kept (place r.old.line (C.rest r.old.source))) }
+        (digit_at format (place r.old.line (C.rest r.old.source))) }
 {
-    r.word(b"yates-ratio 1")?;
+    r.byte(b'0' + format)?;
     r.end_line()?;
-    let head = head(r, alloc, limits)?;
+    Ok(u32::from(format))
+}
+
+// The first line, and the number of the format: 2 where a `2` stands next, and else 1, whose digit is then due.
+#[tactic(auto, unfolding(crate::specs::Grammar::format_at))]
+fn format<C: Cursor>(r: &mut Reader<C>) -> Result<u32, Stop>
+    ensures told { C.is_told r.new.source → C.is_told r.old.source }
+    ensures reads { C.is_told r.new.source → Reads result (place r.new.line (C.rest r.new.source))
+        (format_at (place r.old.line (C.rest r.old.source))) }
+{
+    r.word(b"yates-ratio ")?;
+    if r.is_next(b'2') {
+        digit(r, 2)
+    } else {
+        digit(r, 1)
+    }
+}
+
+// The first line, which gives the limits, the head and the count of the blocks.
+#[tactic(auto, unfolding(crate::specs::Grammar::opening_at))]
+fn opening<C: Cursor>(r: &mut Reader<C>, alloc: Global) -> Result<(Head, u64), Stop>
+    ensures fits { IfOk result (λ x. FitsHead (limits_of x.0.format) x.0) }
+    ensures told { C.is_told r.new.source → C.is_told r.old.source }
+    ensures reads { C.is_told r.new.source → Reads result (place r.new.line (C.rest r.new.source))
+        (opening_at kept (place r.old.line (C.rest r.old.source))) }
+{
+    let limits = limits_of(format(r)?);
+    let head = head(r, alloc, &limits)?;
     let count = counted(r, b"blocks ", 0, limits.links)?;
     Ok((head, count))
 }
@@ -471,24 +534,21 @@ fn counts_of_head(head: &Head) -> Counts
         nodes: head.network.names.as_slice().len() as u64,
         links: head.network.links.as_slice().len() as u64,
         pairs: head.routes.as_slice().len() as u64,
-        margin: matches!(head.set, DemandSet::Margin { .. }),
+        bounded: !matches!(head.set, DemandSet::All),
     }
 }
 
-/// A whole certificate, whether or not its rules hold.
+/// A whole certificate of either format, whether or not its rules hold.
 #[tactic(auto, unfolding(crate::specs::Grammar::certificate_at))]
-pub fn certificate<C: Cursor>(
-    r: &mut Reader<C>,
-    alloc: Global,
-    limits: &Limits,
-) -> Result<Certificate, Stop>
+pub fn certificate<C: Cursor>(r: &mut Reader<C>, alloc: Global) -> Result<Certificate, Stop>
     ensures told { C.is_told r.new.source → C.is_told r.old.source }
     ensures reads { C.is_told r.new.source → Reads result (place r.new.line (C.rest r.new.source))
-        (certificate_at limits.now kept (place r.old.line (C.rest r.old.source))) }
+        (certificate_at kept (place r.old.line (C.rest r.old.source))) }
 {
-    let (head, count) = opening(r, alloc, limits)?;
+    let (head, count) = opening(r, alloc)?;
+    let limits = limits_of(head.format);
     let counts = counts_of_head(&head);
-    let blocks = blocks(r, alloc, count, limits, &counts)?;
+    let blocks = blocks(r, alloc, count, &limits, &counts)?;
     closing(r)?;
     Ok(Certificate { head, blocks })
 }

@@ -1,4 +1,4 @@
-//! The text of certificates: reading and printing.
+//! The text of certificates of both formats: reading, printing, and from the first format to the second.
 #![tactic(auto)]
 
 mod cursor;
@@ -11,7 +11,9 @@ mod reading;
 pub mod spelling;
 #[cfg(test)]
 mod tests;
+mod upgrading;
 
 pub use fault::CertFault;
 pub use printing::print;
 pub use reading::read;
+pub use upgrading::upgrade;

@@ -6,5 +6,6 @@ pub struct Counts {
     pub nodes: u64,
     pub links: u64,
     pub pairs: u64,
-    pub margin: bool,
+    /// Whether the demand set has bounds, so that each block has `plus` and `minus`.
+    pub bounded: bool,
 }

@@ -1,8 +1,8 @@
 //! Printing a certificate: each part is put at the end of one buffer.
 ghost use Rattle.std.specs.Prelude.{◌≡◌, ◌++◌, ◌∷◌, [], OnOk, IfOk, codes, length};
 ghost use Rattle.std.specs.List.{flat_map};
-ghost use Rattle.cert_text.specs.Pieces.{listing_text, counted_text, link_text, row_text, ended, network_text, path_text, pair_text, routes_text, set_text, head_text, number_line as number_line_text, sides_text, block_text, certificate_text};
-ghost use Rattle.cert_text.specs.Grammar.{is_margin};
+ghost use Rattle.cert_text.specs.Pieces.{listing_text, counted_text, link_text, row_text, ended, network_text, path_text, pair_text, routes_text, set_text, format_text, head_text, number_line as number_line_text, sides_text, block_text, certificate_text};
+ghost use Rattle.cert_text.specs.Grammar.{has_bounds};
 ghost use Rattle.te_model.specs.Text.{text};
 
 use itoa::{Buffer, Integer};
@@ -146,6 +146,12 @@ fn set_lines(out: &mut Vec<u8>, set: &DemandSet) -> Result<(), AllocError>
             end_line(out)?;
             listing(out, b"base", base.demand.as_slice())
         }
+        DemandSet::Box { lower, upper } => {
+            out.extend_from_slice(b"set box")?;
+            end_line(out)?;
+            listing(out, b"lower", lower.demand.as_slice())?;
+            listing(out, b"upper", upper.demand.as_slice())
+        }
     }
 }
 
@@ -193,10 +199,10 @@ fn row_lines(out: &mut Vec<u8>, rows: &[Row]) -> Result<(), AllocError>
     Ok(())
 }
 
-fn sides(out: &mut Vec<u8>, margin: bool, block: &Block) -> Result<(), AllocError>
-    ensures { OnOk result (out.new.items ≡ out.old.items ++ sides_text margin (block.now.plus, block.now.minus)) }
+fn sides(out: &mut Vec<u8>, bounded: bool, block: &Block) -> Result<(), AllocError>
+    ensures { OnOk result (out.new.items ≡ out.old.items ++ sides_text bounded (block.now.plus, block.now.minus)) }
 {
-    if margin {
+    if bounded {
         listing(out, b"plus", block.plus.as_slice())?;
         listing(out, b"minus", block.minus.as_slice())?;
     }
@@ -213,38 +219,44 @@ fn block_line(out: &mut Vec<u8>, block: &Block) -> Result<(), AllocError>
     end_line(out)
 }
 
-fn block_lines(out: &mut Vec<u8>, margin: bool, block: &Block) -> Result<(), AllocError>
-    ensures { OnOk result (out.new.items ≡ out.old.items ++ block_text margin block.now) }
+fn block_lines(out: &mut Vec<u8>, bounded: bool, block: &Block) -> Result<(), AllocError>
+    ensures { OnOk result (out.new.items ≡ out.old.items ++ block_text bounded block.now) }
 {
     block_line(out, block)?;
     number_line(out, block.weights.as_slice())?;
     row_lines(out, block.rows.as_slice())?;
-    sides(out, margin, block)
+    sides(out, bounded, block)
 }
 
-fn all_blocks(out: &mut Vec<u8>, margin: bool, blocks: &[Block]) -> Result<(), AllocError>
-    ensures { OnOk result (out.new.items ≡ out.old.items ++ flat_map (block_text margin) blocks.now) }
+fn all_blocks(out: &mut Vec<u8>, bounded: bool, blocks: &[Block]) -> Result<(), AllocError>
+    ensures { OnOk result (out.new.items ≡ out.old.items ++ flat_map (block_text bounded) blocks.now) }
 {
     for block in blocks {
-        block_lines(out, margin, block)?;
+        block_lines(out, bounded, block)?;
     }
     Ok(())
 }
 
-fn has_margin(set: &DemandSet) -> bool
-    ensures { result ≡ is_margin set.now }
+fn is_bounded(set: &DemandSet) -> bool
+    ensures { result ≡ has_bounds set.now }
 {
-    matches!(set, DemandSet::Margin { .. })
+    !matches!(set, DemandSet::All)
+}
+
+fn first_line(out: &mut Vec<u8>, format: u32) -> Result<(), AllocError>
+    ensures { OnOk result (out.new.items ≡ out.old.items ++ format_text format) }
+{
+    counted(out, b"yates-ratio ", u64::from(format))
 }
 
 fn whole(out: &mut Vec<u8>, cert: &Certificate) -> Result<(), AllocError>
     ensures { OnOk result (out.new.items ≡ out.old.items ++ certificate_text cert.now) }
 {
-    let margin = has_margin(&cert.head.set);
-    out.extend_from_slice(b"yates-ratio 1\n")?;
+    let bounded = is_bounded(&cert.head.set);
+    first_line(out, cert.head.format)?;
     head_lines(out, &cert.head)?;
     counted(out, b"blocks ", cert.blocks.as_slice().len() as u64)?;
-    all_blocks(out, margin, cert.blocks.as_slice())?;
+    all_blocks(out, bounded, cert.blocks.as_slice())?;
     out.extend_from_slice(b"end\n")?;
     Ok(())
 }

@@ -14,15 +14,15 @@ use crate::fault::{CertFault, Stop};
 use crate::grammar;
 use crate::reader::Reader;
 use std::alloc::Global;
-use te_model::{Certificate, FORMAT_1, RuleFault, first_rule};
+use te_model::{Certificate, RuleFault, first_rule};
 
 // The certificate whose lines these are, whether or not its rules hold. A number that is too large for its field is
 // kept as the greatest one, which the rules refuse.
 fn shape(alloc: Global, bytes: &[u8]) -> Result<Certificate, CertFault>
-    ensures exact { IsShaped result (certificate_at FORMAT_1 kept (place 1 bytes.now)) }
+    ensures exact { IsShaped result (certificate_at kept (place 1 bytes.now)) }
 {
     let mut reader = Reader::new(Bytes::new(bytes));
-    match grammar::certificate(&mut reader, alloc, &FORMAT_1) {
+    match grammar::certificate(&mut reader, alloc) {
         Ok(cert) => Ok(cert),
         Err(Stop::Shape(line)) => Err(CertFault::Shape(line)),
         Err(Stop::Memory) => Err(CertFault::Memory),
@@ -40,22 +40,22 @@ fn keep_valid(cert: Certificate) -> Result<Certificate, CertFault>
     }
 }
 
-/// Reads the file of a certificate, of the first format. The answer is determined by the bytes:
+/// Reads the file of a certificate of either format, up to the limits of its own. The answer is determined by the bytes:
 ///
 /// - the certificate, where it is valid and the bytes are its text;
-/// - `Shape(line)`, where the bytes are no file of the format: the first line, counted from 1, that is missing, unended
-///   or of another form than is due after the lines before it, or that stands after `end`;
+/// - `Shape(line)`, where the bytes are no file of either format: the first line, counted from 1, that is missing,
+///   unended or of another form than is due after the lines before it, or that stands after `end`;
 /// - `Rule(fault)`, where the file has the right shape and a rule fails: the failing rule of the least number, at its
 ///   least place;
 /// - `Memory`, where memory runs out.
 pub fn read(alloc: Global, bytes: &[u8]) -> Result<Certificate, CertFault>
     ensures spelled { IfOk result (λ c. Spells bytes.now c) }
     ensures accepted { (c : Certificate) → Spells bytes.now c → GivesOrMemory result (Ok c) }
-    ensures shape { (k : ℕ) → result ≡ Err (CertFault.Shape k) → IsShapeFault FORMAT_1 bytes.now k }
-    ensures misshaped { (k : ℕ) → IsShapeFault FORMAT_1 bytes.now k →
+    ensures shape { (k : ℕ) → result ≡ Err (CertFault.Shape k) → IsShapeFault bytes.now k }
+    ensures misshaped { (k : ℕ) → IsShapeFault bytes.now k →
         GivesOrMemory result (Err (CertFault.Shape k)) }
-    ensures rule { (f : RuleFault) → result ≡ Err (CertFault.Rule f) → IsRuleFault FORMAT_1 bytes.now f }
-    ensures invalid { (f : RuleFault) → IsRuleFault FORMAT_1 bytes.now f →
+    ensures rule { (f : RuleFault) → result ≡ Err (CertFault.Rule f) → IsRuleFault bytes.now f }
+    ensures invalid { (f : RuleFault) → IsRuleFault bytes.now f →
         GivesOrMemory result (Err (CertFault.Rule f)) }
 {
     let cert = shape(alloc, bytes)?;

@@ -1,6 +1,6 @@
 //! Laws of the texts of certificates. A law of the definitions is the contract of a function that does nothing.
 ghost use Rattle.std.specs.Prelude.{◌≡◌, ℕ, ◌++◌, ◌⊎◌, List, [], IsTrue, IfOk, Ok};
-ghost use Rattle.te_model.specs.declared.limits.TheConstants.{FORMAT_1};
+ghost use Rattle.te_model.specs.Formats.{limits_of};
 ghost use Rattle.te_model.specs.declared.certificate.Certificate.{Certificate};
 ghost use Rattle.te_model.specs.declared.certificate.RuleFault.{RuleFault};
 ghost use Rattle.te_model.specs.Shape.{is_shaped};
@@ -15,10 +15,11 @@ use crate::reading::read;
 use std::alloc::Global;
 use te_model::Certificate;
 
-/// No two certificates have one text, and no text begins another: where the text of one certificate begins with that of another,
+/// No two certificates, of whichever formats, have one text, and no text begins another: where the text of one certificate begins with that of another,
 /// nothing stands after it, and the two are one.
 pub fn text_begins_no_other()
-    ensures shaped { (c : Certificate) → (d : Certificate) → (r : List ℕ) → IsTrue (is_shaped FORMAT_1 c) → IsTrue (is_shaped FORMAT_1 d) →
+    ensures shaped { (c : Certificate) → (d : Certificate) → (r : List ℕ) →
+        IsTrue (is_shaped (limits_of c.head.format) c) → IsTrue (is_shaped (limits_of d.head.format) d) →
         text d ≡ text c ++ r → (c ≡ d) × (r ≡ []) }
     ensures valid { (c : Certificate) → (d : Certificate) → (r : List ℕ) → IsValid c → IsValid d →
         text d ≡ text c ++ r → (c ≡ d) × (r ≡ []) }
@@ -27,19 +28,19 @@ pub fn text_begins_no_other()
 /// Bytes are read in one way: they spell one valid certificate, or have one fault of shape, or one fault of a rule.
 pub fn bytes_are_read_one_way()
     ensures some { (bytes : List ℕ) → ((c : Certificate) × Spells bytes c) ⊎
-        (((k : ℕ) × IsShapeFault FORMAT_1 bytes k) ⊎ ((f : RuleFault) × IsRuleFault FORMAT_1 bytes f)) }
+        (((k : ℕ) × IsShapeFault bytes k) ⊎ ((f : RuleFault) × IsRuleFault bytes f)) }
     ensures one_certificate { (bytes : List ℕ) → (c : Certificate) → (d : Certificate) →
         Spells bytes c → Spells bytes d → c ≡ d }
     ensures one_line { (bytes : List ℕ) → (j : ℕ) → (k : ℕ) →
-        IsShapeFault FORMAT_1 bytes j → IsShapeFault FORMAT_1 bytes k → j ≡ k }
+        IsShapeFault bytes j → IsShapeFault bytes k → j ≡ k }
     ensures one_rule { (bytes : List ℕ) → (f : RuleFault) → (g : RuleFault) →
-        IsRuleFault FORMAT_1 bytes f → IsRuleFault FORMAT_1 bytes g → f ≡ g }
+        IsRuleFault bytes f → IsRuleFault bytes g → f ≡ g }
     ensures spelled_or_misshaped { (bytes : List ℕ) → (c : Certificate) → (k : ℕ) →
-        Spells bytes c → IsShapeFault FORMAT_1 bytes k → ⊥ }
+        Spells bytes c → IsShapeFault bytes k → ⊥ }
     ensures spelled_or_ruled { (bytes : List ℕ) → (c : Certificate) → (f : RuleFault) →
-        Spells bytes c → IsRuleFault FORMAT_1 bytes f → ⊥ }
+        Spells bytes c → IsRuleFault bytes f → ⊥ }
     ensures misshaped_or_ruled { (bytes : List ℕ) → (k : ℕ) → (f : RuleFault) →
-        IsShapeFault FORMAT_1 bytes k → IsRuleFault FORMAT_1 bytes f → ⊥ }
+        IsShapeFault bytes k → IsRuleFault bytes f → ⊥ }
 {}
 
 /// Prints the certificate and reads it back: what [`print`] writes, [`read`] takes for the same certificate.
