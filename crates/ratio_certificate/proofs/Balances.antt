@@ -1,11 +1,11 @@
 -- A greater number never balances more easily.
-use Rattle.std.proofs.Common.{◌≡◌, ℕ, ◌*◌, ◌^◌, ◌<◌, ◌≤◌, true, false, Bool, List, length, arith, slice_index, refl}
+use Rattle.std.proofs.Common.{◌≡◌, ℕ, ◌*◌, ◌^◌, ◌<◌, ◌≤◌, true, false, Bool, arith, refl}
 use Rattle.std.proofs.lemmas.Bool.{leb-true, le-leb}
 use Rattle.std.proofs.Math.Nat.{mul-le-mul_left}
 use Rattle.std.proofs.lemmas.Nat.{mul-le}
 use Rattle.te_model.specs.declared.units.TheConstants.{SHARE_UNIT}
 use Rattle.te_model.proofs.Sums.{sum_below-le, sum_below-same}
-use Rattle.routing.proofs.Quotients.{quotient_up-enough, quotient_up-least}
+use Rattle.te_model.proofs.Quotients.{quotient_up-enough, quotient_up-least}
 use Rattle.ratio_certificate.specs.Best.{asked, added, taken_back, balances}
 
 pub asked-le : (b c s : ℕ) → b ≤ c → asked b s ≤ asked c s
@@ -24,56 +24,48 @@ added-le shares distance b c p less = omega (arith, asked-le b c (shares p) less
 taken_back-le : (shares distance : ℕ → ℕ) (b c p : ℕ) → b ≤ c → taken_back shares distance c p ≤ taken_back shares distance b p
 taken_back-le shares distance b c p less = omega (arith, asked-le b c (shares p) less)
 
-pub balances_fewer : (num den : ℕ) (base : List ℕ) (shares distance : ℕ → ℕ) (b c : ℕ) → b ≤ c →
-    balances num den base shares distance c ≡ true → balances num den base shares distance b ≡ true
-balances_fewer num den base shares distance b c less is =
+pub balances_fewer : (lower upper : ℕ → ℕ) (n : ℕ) (shares distance : ℕ → ℕ) (b c : ℕ) → b ≤ c →
+    balances lower upper n shares distance c ≡ true → balances lower upper n shares distance b ≡ true
+balances_fewer lower upper n shares distance b c less is =
     let gain =
-    sum_below-le (length base) (λ p. slice_index base p * (num * num) * added shares distance b p)
-    (λ p. slice_index base p * (num * num) * added shares distance c p)
-    (λ p below. mul-le-mul_left (slice_index base p * (num * num)) (added-le shares distance b c p less))
+    sum_below-le n (λ p. upper p * added shares distance b p) (λ p. upper p * added shares distance c p)
+    (λ p below. mul-le-mul_left (upper p) (added-le shares distance b c p less))
     in
     let loss =
-    sum_below-le (length base) (λ p. slice_index base p * (den * den) * taken_back shares distance c p)
-    (λ p. slice_index base p * (den * den) * taken_back shares distance b p)
-    (λ p below. mul-le-mul_left (slice_index base p * (den * den)) (taken_back-le shares distance b c p less))
+    sum_below-le n (λ p. lower p * taken_back shares distance c p) (λ p. lower p * taken_back shares distance b p)
+    (λ p below. mul-le-mul_left (lower p) (taken_back-le shares distance b c p less))
     in
     let between = leb-true _ _ is in
     le-leb _ _ (omega (arith, gain, loss, between))
 
 -- where a number does not balance, no greater one does
-pub balances_no_more : (num den : ℕ) (base : List ℕ) (shares distance : ℕ → ℕ) (b c : ℕ) → b ≤ c →
-    balances num den base shares distance b ≡ false → balances num den base shares distance c ≡ false
-balances_no_more num den base shares distance b c less out = go (balances num den base shares distance c) refl
+pub balances_no_more : (lower upper : ℕ → ℕ) (n : ℕ) (shares distance : ℕ → ℕ) (b c : ℕ) → b ≤ c →
+    balances lower upper n shares distance b ≡ false → balances lower upper n shares distance c ≡ false
+balances_no_more lower upper n shares distance b c less out = go (balances lower upper n shares distance c) refl
   where
-    go : (t : Bool) → balances num den base shares distance c ≡ t → t ≡ false
+    go : (t : Bool) → balances lower upper n shares distance c ≡ t → t ≡ false
     go false is = refl
-    go true is = let is_b = balances_fewer num den base shares distance b c less is in cc
+    go true is = let is_b = balances_fewer lower upper n shares distance b c less is in cc
 
 -- the same shares and distances balance the same
-pub balances-same : (num den : ℕ) (base : List ℕ) (shares distance shares' distance' : ℕ → ℕ) (b : ℕ) →
-    ((p : ℕ) → p < length base → shares p ≡ shares' p) → ((p : ℕ) → p < length base → distance p ≡ distance' p) →
-    balances num den base shares distance b ≡ balances num den base shares' distance' b
-balances-same num den base shares distance shares' distance' b same_share same_distance =
+pub balances-same : (lower upper : ℕ → ℕ) (n : ℕ) (shares distance shares' distance' : ℕ → ℕ) (b : ℕ) →
+    ((p : ℕ) → p < n → shares p ≡ shares' p) → ((p : ℕ) → p < n → distance p ≡ distance' p) →
+    balances lower upper n shares distance b ≡ balances lower upper n shares' distance' b
+balances-same lower upper n shares distance shares' distance' b same_share same_distance =
     let gain =
-    sum_below-same (length base) (λ p. slice_index base p * (num * num) * added shares distance b p)
-    (λ p. slice_index base p * (num * num) * added shares' distance' b p)
+    sum_below-same n (λ p. upper p * added shares distance b p) (λ p. upper p * added shares' distance' b p)
     (λ p below. rw (same_share p below, same_distance p below) refl)
     in
     let loss =
-    sum_below-same (length base) (λ p. slice_index base p * (den * den) * taken_back shares distance b p)
-    (λ p. slice_index base p * (den * den) * taken_back shares' distance' b p)
+    sum_below-same n (λ p. lower p * taken_back shares distance b p) (λ p. lower p * taken_back shares' distance' b p)
     (λ p below. rw (same_share p below, same_distance p below) refl)
     in
     rw (gain, loss) refl
 
--- a term of the sums is small
-pub term_small : (d f n : ℕ) → d ≤ 2 ^ 32 → f ≤ 1000 → n ≤ 2 ^ 64 → d * (f * f) * n ≤ 2 ^ 116
-term_small d f n hd hf hn =
-    let square : f * f ≤ 1000 * 1000 = mul-le f f 1000 1000 hf hf in
-    let first : d * (f * f) ≤ 2 ^ 32 * (1000 * 1000) = mul-le d (f * f) (2 ^ 32) (1000 * 1000) hd square in
-    omega (arith, mul-le (d * (f * f)) n (2 ^ 32 * (1000 * 1000)) (2 ^ 64) first hn)
+-- a number of at most 2^36 times a share
+pub asked_fits : (b s : ℕ) → b ≤ 2 ^ 36 → s ≤ 1000000 → b * s ≤ 2 ^ 36 * 1000000
+asked_fits b s hb hs = mul-le b s (2 ^ 36) 1000000 hb hs
 
-pub square_fits : (f : ℕ) → f ≤ 1000 → f * f < 2 ^ 64
-square_fits f hf = omega (arith, mul-le f f 1000 1000 hf hf)
-
-pub ruleset margin_sizes = (term_small, square_fits)
+-- a bound of a pair times a number of at most 2^36
+pub bound_term : (d n : ℕ) → d ≤ 2 ^ 52 → n ≤ 2 ^ 36 → d * n ≤ 2 ^ 88
+bound_term d n hd hn = omega (arith, mul-le d n (2 ^ 52) (2 ^ 36) hd hn)

@@ -1,6 +1,7 @@
 -- Certificates of starting blocks are valid, and their inequalities hold.
-use Rattle.std.proofs.Common.{◌≡◌, ℕ, zero, suc, ◌+◌, ◌*◌, ◌^◌, ◌<◌, ◌≤◌, ◌⊎◌, Bool, true, false, ◌||◌, cond, List, [], ◌∷◌, ◌++◌, Some, length, arith, refl, ap, sym, subst, ◌∙◌, inl, inr, nat_lt, ◌==◌, get_or, slice_index}
-use Rattle.std.specs.Prelude.{All, IsTrue, find, unwrap_or}
+use Rattle.std.proofs.Common.{◌≡◌, ℕ, zero, suc, ◌+◌, ◌*◌, ◌^◌, ◌<◌, ◌≤◌, ◌⊎◌, Bool, true, false, ◌||◌, cond, List, [], ◌∷◌, ◌++◌, Some, length, arith, refl, ap, sym, subst, ◌∙◌, inl, inr, nat_le, nat_lt, ◌==◌, get_or}
+use Rattle.std.specs.Prelude.{All, IsTrue, IfOk, IfSome, Result, Ok, Err, Option, None, find, unwrap_or}
+use Rattle.te_model.specs.declared.memory.Memory.{Memory}
 use Rattle.std.specs.List.{list_any}
 use Rattle.std.proofs.lemmas.Bool.{cases_lt, eqb-true, eq-eqb, le-leb, lt-ltb}
 use Rattle.std.proofs.lemmas.List.{get_or_append_left, get_or_push, length-append, length-replicate, get_or-replicate}
@@ -11,23 +12,24 @@ use Rattle.te_model.specs.declared.certificate.Block.{Block}
 use Rattle.te_model.specs.declared.certificate.Head.{Head}
 use Rattle.te_model.specs.declared.certificate.Certificate.{Certificate}
 use Rattle.te_model.specs.declared.demand.DemandSet.{DemandSet}
-use Rattle.te_model.specs.declared.demand.DemandSet.TheVariants.{All as AllMatrices, Margin}
-use Rattle.te_model.specs.Network.{link_count, is_well_formed}
+use Rattle.te_model.specs.declared.demand.DemandSet.TheVariants.{All as AllMatrices, Margin, Box}
+use Rattle.te_model.specs.Formats.{limits_of}
+use Rattle.te_model.specs.Network.{node_count, link_count, is_well_formed}
 use Rattle.te_model.specs.Path.{share}
 use Rattle.te_model.specs.Certificate.{block_of, empty_block}
-use Rattle.te_model.specs.Inequalities.{keeps_margin, pays_weights, BlockHolds, Holds}
+use Rattle.te_model.specs.Inequalities.{keeps_bounds, pays_weights, weigh, BlockHolds, Holds}
 use Rattle.te_model.specs.Validity.{block_at, AscendByLink, IsValid, IsValidBlock}
 use Rattle.te_model.proofs.Sums.{sum_below-zero}
 use Rattle.te_model.proofs.ValidParts.{valid_parts}
 use Rattle.routing.proofs.Splits.{share-le, splits_of}
 use Rattle.ratio_certificate.specs.Best.{IsBestBlock}
-use Rattle.ratio_certificate.specs.Conditions.{IsRoutingWithin, IsSetWithin}
+use Rattle.ratio_certificate.specs.Conditions.{IsNoBox, IsRoutingWithin, IsSetWithin}
 use Rattle.ratio_certificate.specs.Made.{AreStartingBlocks, HasShare, IsMade, IsStartingBlock, starting_weights}
 use Rattle.ratio_certificate.specs.Need.{HasNumbers, IsGreatestNeed}
 use Rattle.ratio_certificate.proofs.BlockValid.{best_valid}
 use Rattle.ratio_certificate.proofs.HeadValid.{made_head}
 use Rattle.ratio_certificate.proofs.Holding.{best_holds}
-use Rattle.ratio_certificate.proofs.Owed.{few_links}
+use Rattle.te_model.proofs.WellFormed.{well_formed_parts}
 use Rattle.ratio_certificate.proofs.Pushed.{all_append, all_weaker, any_append, any_last}
 use Rattle.ratio_certificate.proofs.Starting.{starting_pays}
 
@@ -39,6 +41,18 @@ no_blocks net routes wanted = record {
   few = omega arith;
   complete = λ e below. absurd (omega arith);
 }
+
+-- a best block of the starting weights, on a link with a share
+pub starting_of : (net : Network) (routes : List PairRoutes) (wanted : DemandSet) (e : ℕ) (weights : List ℕ) (r : Result (Option Block) Memory) →
+    weights ≡ starting_weights net → HasShare routes e → IfOk r (λ o. IfSome o (λ b. IsBestBlock net routes wanted e weights b)) →
+    IfOk r (λ o. IfSome o (λ b. IsStartingBlock net routes wanted b))
+starting_of net routes wanted e weights (Ok (Some b)) start some best = (
+  subst (HasShare routes) (sym best.link_is) some,
+  subst (λ h. IsBestBlock net routes wanted h (starting_weights net) b) (sym best.link_is)
+      (subst (λ (ws : List ℕ). IsBestBlock net routes wanted e ws b) start best),
+)
+starting_of net routes wanted e weights (Ok None) start some best = tt
+starting_of net routes wanted e weights (Err m) start some best = tt
 
 -- blocks that ascend, and one of a later link
 ascend_append : (blocks : List Block) (b : Block) → AscendByLink blocks → All (λ c. c.link < b.link) blocks → AscendByLink (blocks ++ b ∷ [])
@@ -113,33 +127,37 @@ empty_holds h e none = record {
       ]
       in
       le-leb _ _ (rw zero (omega arith));
-  margin = no_margin h.set;
+  bounds = no_bounds h.set;
   pays = le-leb _ _ (omega arith);
 }
   where
-    no_margin : (wanted : DemandSet) → keeps_margin wanted (empty_block e) ≡ true
-    no_margin AllMatrices = refl
-    no_margin (Margin num den base) =
-        le-leb _ _ (omega (arith, sum_below-zero (length base.demand) (λ p. slice_index base.demand p * (num * num) * 0) (λ k below. omega arith)))
+    nothing : (upper lower : ℕ → ℕ) (n : ℕ) → nat_le (weigh n upper (λ p. 0)) (weigh n lower (λ p. 0)) ≡ true
+    nothing upper lower n = le-leb _ _ (omega (arith, sum_below-zero n (λ p. upper p * 0) (λ k below. omega arith)))
+
+    no_bounds : (wanted : DemandSet) → keeps_bounds wanted (length h.routes) (empty_block e) ≡ true
+    no_bounds AllMatrices = refl
+    no_bounds (Margin num den base) = nothing _ _ (length h.routes)
+    no_bounds (Box lower upper) = nothing _ _ (length h.routes)
 
 -- starting blocks are valid
-pub starting_valid : (h : Head) (blocks : List Block) → is_well_formed h.network ≡ true → IsRoutingWithin h.network h.routes →
+pub starting_valid : (h : Head) (blocks : List Block) → h.format ≡ 1 → is_well_formed h.network ≡ true → IsRoutingWithin h.network h.routes →
     AreStartingBlocks (link_count h.network) h.network h.routes h.set blocks → All (IsValidBlock h) blocks
-starting_valid h blocks formed within are k d below =
+starting_valid h blocks first formed within are k d below =
     let net = h.network in
     let b = get_or blocks k d in
-    best_valid h b.link (starting_weights net) b formed within (are.below k d below) (length-replicate (link_count net) (2 ^ 20))
+    let fits : node_count net ≤ (limits_of h.format).nodes = subst (λ f. node_count net ≤ (limits_of f).nodes) (sym first) (well_formed_parts net formed).nodes in
+    best_valid h b.link (starting_weights net) b formed within fits (are.below k d below) (length-replicate (link_count net) (2 ^ 20))
     (All-from_get_or (λ w. w ≤ 2 ^ 28) (starting_weights net) 0 (λ i inside.
     let at = get_or-replicate (link_count net) i (2 ^ 20) 0 (omega (arith, inside, length-replicate (link_count net) (2 ^ 20))) in omega (arith, at)))
     (are.best k d below).1
 
 abbrev head_of_set : Network → List PairRoutes → DemandSet → Head
-head_of_set net routes wanted = record { network = net; routes = routes; set = wanted; ratio = 0 }
+head_of_set net routes wanted = record { format = 1; network = net; routes = routes; set = wanted; ratio = 0 }
 
 pub starting_numbers : (net : Network) (routes : List PairRoutes) (wanted : DemandSet) (blocks : List Block) → is_well_formed net ≡ true →
     IsRoutingWithin net routes → AreStartingBlocks (link_count net) net routes wanted blocks → All (HasNumbers net) blocks
 starting_numbers net routes wanted blocks formed within are k d below =
-    let valid = starting_valid (head_of_set net routes wanted) blocks formed within are k d below in
+    let valid = starting_valid (head_of_set net routes wanted) blocks refl formed within are k d below in
     let best = (are.best k d below).1 in
     record {
       numbers = valid.numbers;
@@ -149,31 +167,32 @@ starting_numbers net routes wanted blocks formed within are k d below =
 
 -- the greatest need of starting blocks is within the limit of ratios
 pub starting_need : (net : Network) (routes : List PairRoutes) (wanted : DemandSet) (blocks : List Block) (need : ℕ) → is_well_formed net ≡ true →
-    IsRoutingWithin net routes → IsSetWithin (length routes) wanted → AreStartingBlocks (link_count net) net routes wanted blocks →
-    IsGreatestNeed net blocks need → need ≤ 1000000 * 2 ^ 41
-starting_need net routes wanted blocks need formed within set are greatest =
-    greatest.least (1000000 * 2 ^ 41) (λ k d below.
+    IsRoutingWithin net routes → AreStartingBlocks (link_count net) net routes wanted blocks → IsGreatestNeed net blocks need → need ≤ 1000000 * 2 ^ 42
+starting_need net routes wanted blocks need formed within are greatest =
+    greatest.least (1000000 * 2 ^ 42) (λ k d below.
     let b = get_or blocks k d in
     let best = (are.best k d below).1 in
-    starting_pays net routes wanted b.link b formed within set (are.below k d below) best
+    starting_pays net routes wanted b.link b formed within (are.below k d below) best
     (λ p inside. omega (arith, best.shares_are p inside, share-le routes p b.link (splits_of net routes within.splits) inside)))
 
-pub certificate_valid : (c : Certificate) → is_well_formed c.head.network ≡ true → 1 ≤ link_count c.head.network → IsRoutingWithin c.head.network c.head.routes →
-    IsSetWithin (length c.head.routes) c.head.set → AreStartingBlocks (link_count c.head.network) c.head.network c.head.routes c.head.set c.blocks →
+pub certificate_valid : (c : Certificate) → c.head.format ≡ 1 → is_well_formed c.head.network ≡ true → 1 ≤ link_count c.head.network → IsRoutingWithin c.head.network c.head.routes →
+    IsSetWithin (length c.head.routes) c.head.set → IsNoBox c.head.set →
+    AreStartingBlocks (link_count c.head.network) c.head.network c.head.routes c.head.set c.blocks →
     IsGreatestNeed c.head.network c.blocks c.head.ratio → IsValid c
-certificate_valid c formed some within set are greatest =
+certificate_valid c first formed some within set no_box are greatest =
     let net = c.head.network in
-    let ratio = starting_need net c.head.routes c.head.set c.blocks c.head.ratio formed within set are greatest in
+    let ratio = starting_need net c.head.routes c.head.set c.blocks c.head.ratio formed within are greatest in
+    let few : link_count net ≤ (limits_of c.head.format).links = subst (λ f. link_count net ≤ (limits_of f).links) (sym first) (well_formed_parts net formed).links in
     (valid_parts c).1 (record {
-      head = made_head c.head formed some within set (omega (arith, ratio));
-      count = omega (arith, are.few, few_links net formed);
-      blocks = starting_valid c.head c.blocks formed within are;
+      head = made_head c.head first formed some within set no_box (omega (arith, ratio));
+      count = omega (arith, are.few, few);
+      blocks = starting_valid c.head c.blocks first formed within are;
       ascending = are.ascending;
     })
 
-pub certificate_holds : (c : Certificate) → IsRoutingWithin c.head.network c.head.routes → IsSetWithin (length c.head.routes) c.head.set →
+pub certificate_holds : (c : Certificate) → IsRoutingWithin c.head.network c.head.routes →
     AreStartingBlocks (link_count c.head.network) c.head.network c.head.routes c.head.set c.blocks → IsGreatestNeed c.head.network c.blocks c.head.ratio → Holds c
-certificate_holds c within set are greatest e below =
+certificate_holds c within are greatest e below =
     let net = c.head.network in
     let best : All (λ b. IsBestBlock net c.head.routes c.head.set b.link (starting_weights net) b × IsTrue (pays_weights net b c.head.ratio)) c.blocks =
     λ k d inside. ((are.best k d inside).1, greatest.enough k d inside)
@@ -181,7 +200,7 @@ certificate_holds c within set are greatest e below =
     elim (block_or_none (λ b. IsBestBlock net c.head.routes c.head.set b.link (starting_weights net) b × IsTrue (pays_weights net b c.head.ratio)) e c.blocks best) [
       | inl there ↦
           let b = block_of c.blocks e in
-          best_holds c.head b.link (starting_weights net) b within set there.0.0 there.0.1
+          best_holds c.head b.link (starting_weights net) b within there.0.0 there.0.1
       | inr absent ↦
           subst (BlockHolds c.head) (sym absent.0) (empty_holds c.head e (λ share.
           let has = are.complete e below share in
@@ -191,25 +210,26 @@ certificate_holds c within set are greatest e below =
 
 abbrev pub certificate_of : Network → List PairRoutes → DemandSet → ℕ → List Block → Certificate
 certificate_of net routes wanted ratio blocks = record {
-  head = record { network = net; routes = routes; set = wanted; ratio = ratio };
+  head = record { format = 1; network = net; routes = routes; set = wanted; ratio = ratio };
   blocks = blocks;
 }
 
 -- a certificate of copies of a network and a routing
 pub made_certificate : (net : Network) (routes : List PairRoutes) (wanted : DemandSet) (blocks : List Block) (ratio : ℕ) (n : Network) (r : List PairRoutes) (bs : List Block) →
     n ≡ net → r ≡ routes → bs ≡ blocks → is_well_formed net ≡ true → 1 ≤ link_count net → IsRoutingWithin net routes → IsSetWithin (length routes) wanted →
-    AreStartingBlocks (link_count net) net routes wanted blocks → IsGreatestNeed net blocks ratio →
+    IsNoBox wanted → AreStartingBlocks (link_count net) net routes wanted blocks → IsGreatestNeed net blocks ratio →
     IsMade net routes wanted (certificate_of n r wanted ratio bs)
-made_certificate net routes wanted blocks ratio n r bs is_n is_r is_bs formed some within set are greatest =
+made_certificate net routes wanted blocks ratio n r bs is_n is_r is_bs formed some within set no_box are greatest =
     subst (λ (x : Network). IsMade net routes wanted (certificate_of x r wanted ratio bs)) (sym is_n)
     (subst (λ (x : List PairRoutes). IsMade net routes wanted (certificate_of net x wanted ratio bs)) (sym is_r)
     (subst (λ (x : List Block). IsMade net routes wanted (certificate_of net routes wanted ratio x)) (sym is_bs)
     (record {
+      format = refl;
       network = refl;
       routes_are = refl;
       set_is = refl;
-      valid = certificate_valid (certificate_of net routes wanted ratio blocks) formed some within set are greatest;
-      holds = certificate_holds (certificate_of net routes wanted ratio blocks) within set are greatest;
+      valid = certificate_valid (certificate_of net routes wanted ratio blocks) refl formed some within set no_box are greatest;
+      holds = certificate_holds (certificate_of net routes wanted ratio blocks) within are greatest;
       best = are.best;
       blocks = are.complete;
       ratio = greatest;

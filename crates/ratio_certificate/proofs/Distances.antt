@@ -1,58 +1,23 @@
 -- The distances of the pairs of a routing, and how great they are.
-use Rattle.std.proofs.Common.{◌≡◌, ℕ, ◌^◌, ◌<◌, ◌≤◌, true, List, [], ◌∷◌, Option, Some, None, length, arith, ap, sym, subst, ◌∙◌, get_or, slice_index, slice_index_or, sum_by}
-use Rattle.std.specs.Prelude.{All, IsTrue, unwrap_or}
-use Rattle.std.proofs.lemmas.Bool.{and_parts}
-use Rattle.std.proofs.lemmas.List.{get_or-map, length-map}
-use Rattle.std.proofs.lemmas.List.Elements.{All-head, All-get_or}
+use Rattle.std.proofs.Common.{◌≡◌, ℕ, ◌^◌, ◌<◌, ◌≤◌, true, List, Some, length, arith, sym, subst, slice_index}
+use Rattle.std.specs.Prelude.{All}
+use Rattle.std.proofs.lemmas.List.Elements.{All-get_or}
 use Rattle.te_model.specs.declared.network.Network.{Network}
-use Rattle.te_model.specs.declared.route.PathShare.{PathShare}
 use Rattle.te_model.specs.declared.route.PairRoutes.{PairRoutes}
-use Rattle.te_model.specs.declared.units.TheConstants.{SHARE_UNIT}
-use Rattle.te_model.specs.Network.{node_count, link_count}
-use Rattle.te_model.specs.Path.{chains, is_path, is_distinct, nodes_visited, routes_at, no_routes, source_of, destination_of}
+use Rattle.te_model.specs.Network.{is_well_formed, link_count}
+use Rattle.te_model.specs.Path.{routes_at, no_routes, source_of, destination_of}
 use Rattle.te_model.specs.PathRouting.{IsPathSplit, IsPathRouting}
 use Rattle.te_model.specs.Laws.{PairsJoinNodes}
-use Rattle.shortest_path.specs.Paths.{IsDistance, ArePotentials, greatest}
+use Rattle.shortest_path.specs.Pairs.{ArePairDistances, AreValues}
+use Rattle.shortest_path.specs.Paths.{IsDistance}
+use Rattle.shortest_path.proofs.PairDistances.{distance_known, path_of_pair}
+use Rattle.shortest_path.proofs.PathLengths.{distance_small}
+use Rattle.shortest_path.proofs.Values.{listed_small}
+use Rattle.te_model.proofs.WellFormed.{links_join}
+use Rattle.ratio_certificate.specs.declared.metric.Metric.{Metric}
 use Rattle.ratio_certificate.specs.Metric.{IsMetric}
-use Rattle.ratio_certificate.specs.Tables.{ArePairDistances, AreValues, IsTable, row_at}
-
--- where links lead to a node, its potential is its distance
-pub distance_known : (net : Network) (weights : List ℕ) (i v : ℕ) (potentials links : List ℕ) → ArePotentials net weights i potentials →
-    v < node_count net → chains net i v links ≡ true → IsDistance net weights i v (Some (slice_index potentials v))
-distance_known net weights i v potentials links are inside chain =
-    let (distances, found, is) = are.values in
-    let g = greatest distances in
-    let at : slice_index potentials v ≡ unwrap_or (slice_index_or distances v None) g =
-    ap (λ (xs : List ℕ). get_or xs v 0) is ∙ get_or-map (λ d. unwrap_or d g) distances v None 0 (omega (arith, inside, found.count))
-    in
-    subst (λ x. IsDistance net weights i v (Some x)) (sym at) (go g (slice_index_or distances v None) (found.each v inside))
-  where
-    go : (g : ℕ) (o : Option ℕ) → IsDistance net weights i v o → IsDistance net weights i v (Some (unwrap_or o g))
-    go g None none = absurd (none links chain)
-    go g (Some d) is = is
-
-pub potentials_count : (net : Network) (weights : List ℕ) (i : ℕ) (potentials : List ℕ) → ArePotentials net weights i potentials → length potentials ≡ node_count net
-potentials_count net weights i potentials are =
-    let (distances, found, is) = are.values in
-    ap (λ (xs : List ℕ). length xs) is ∙ length-map distances (λ d. unwrap_or d (greatest distances)) ∙ found.count
-
--- two distances of a node are one
-pub distance_unique : (net : Network) (weights : List ℕ) (s t d e : ℕ) → IsDistance net weights s t (Some d) → IsDistance net weights s t (Some e) → d ≡ e
-distance_unique net weights s t d e ((p, path_p, sum_p), least_d) ((q, path_q, sum_q), least_e) =
-    let chain_p = and_parts (chains net s t p) (is_distinct (nodes_visited net s p)) path_p in
-    let chain_q = and_parts (chains net s t q) (is_distinct (nodes_visited net s q)) path_q in
-    omega (arith, least_d q chain_q.0, least_e p chain_p.0, sum_p, sum_q)
-
--- a pair of a path routing has a path
-pub path_of_pair : (net : Network) (r : PairRoutes) → IsPathSplit net r → (links : List ℕ) × (chains net r.pair.src r.pair.dst links ≡ true)
-path_of_pair net r split = go r.paths split.paths split.whole
-  where
-    go : (paths : List PathShare) → All (λ s. IsTrue (is_path net r.pair.src r.pair.dst s.links)) paths → sum_by (λ s. s.weight) paths ≡ SHARE_UNIT →
-        (links : List ℕ) × (chains net r.pair.src r.pair.dst links ≡ true)
-    go [] all whole = let none : 0 ≡ 1000000 = whole in absurd (omega (arith, none))
-    go (s ∷ ss) all whole =
-        let path = All-head (λ s. IsTrue (is_path net r.pair.src r.pair.dst s.links)) s ss all in
-        (s.links, (and_parts (chains net r.pair.src r.pair.dst s.links) (is_distinct (nodes_visited net r.pair.src s.links)) path).0)
+use Rattle.ratio_certificate.specs.Tables.{IsTable, row_at}
+use Rattle.te_model.proofs.WellFormed.{few_nodes}
 
 pub pair_distances : (net : Network) (weights : List ℕ) (routes : List PairRoutes) (table : List (List ℕ)) (distances : List ℕ) →
     IsTable net weights table → IsPathRouting net routes → PairsJoinNodes net routes →
@@ -82,3 +47,16 @@ metric_is net routes weights distances table w d t is_w is_t is_d count small ro
       pairs = are.count;
       distances_are = pair_distances net weights routes table distances is_table routing nodes are;
     })))
+
+-- the distances of a metric are at most 2^35
+pub metric_near : (net : Network) (routes : List PairRoutes) (metric : Metric) → is_well_formed net ≡ true → PairsJoinNodes net routes → IsMetric net routes metric →
+    (p : ℕ) → slice_index metric.distances p ≤ 2 ^ 35
+metric_near net routes metric formed nodes is =
+    let few = few_nodes net formed in
+    listed_small (2 ^ 35) metric.distances (λ p below.
+    let inside : p < length routes = omega (arith, below, is.pairs) in
+    let near =
+    distance_small net metric.weights (2 ^ 28) (source_of routes p) (destination_of routes p) (slice_index metric.distances p) (links_join net formed)
+    (nodes p inside).0 is.small (is.distances_are p inside)
+    in
+    omega (arith, near, few))

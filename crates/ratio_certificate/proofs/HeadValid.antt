@@ -1,65 +1,59 @@
 -- The head of a made certificate is valid.
-use Rattle.std.proofs.Common.{◌≡◌, ℕ, zero, suc, ◌+◌, ◌^◌, ◌<◌, ◌≤◌, Bool, true, ◌&&◌, List, [], ◌∷◌, None, length, arith, refl, ap, get_or, nat_lt, ◌==◌, sum_by}
-use Rattle.std.specs.Prelude.{IsTrue}
+use Rattle.std.proofs.Common.{◌≡◌, ℕ, zero, suc, ◌+◌, ◌-◌, ◌*◌, ◌^◌, ◌<◌, ◌≤◌, ◌⊎◌, inl, inr, map, Bool, true, ◌&&◌, List, [], ◌∷◌, None, length, arith, refl, ap, sym, subst, get_or, nat_lt, ◌==◌, sum_by}
+use Rattle.std.specs.Prelude.{All, IsTrue}
 use Rattle.std.specs.List.{list_all}
-use Rattle.std.proofs.lemmas.Bool.{and_parts, and_from, ltb-true, lt-ltb, le-leb, eqb-true, ne_eqb}
+use Rattle.std.proofs.lemmas.Bool.{and_parts, and_from, or_cases, ltb-true, lt-ltb, le-leb, eqb-true, eq-eqb, ne_eqb}
 use Rattle.std.proofs.lemmas.Bool.Decides.{nat_tests}
 use Rattle.std.proofs.lemmas.List.Elements.{All-from_get_or, All-get_or}
+use Rattle.std.proofs.lemmas.List.{get_or-map, length-map}
+use Rattle.std.proofs.lemmas.Nat.{mul-le}
 use Rattle.std.proofs.lemmas.List.Sums.{get_or-le-sum_by}
 use Rattle.te_model.specs.declared.network.Network.{Network}
 use Rattle.te_model.specs.declared.route.PathShare.{PathShare}
 use Rattle.te_model.specs.declared.route.PairRoutes.{PairRoutes}
 use Rattle.te_model.specs.declared.certificate.Head.{Head}
 use Rattle.te_model.specs.declared.demand.DemandSet.{DemandSet}
-use Rattle.te_model.specs.declared.demand.DemandSet.TheVariants.{All as AllMatrices, Margin}
+use Rattle.te_model.specs.declared.demand.DemandSet.TheVariants.{All as AllMatrices, Margin, Box}
 use Rattle.te_model.specs.declared.limits.TheConstants.{FORMAT_1}
 use Rattle.te_model.specs.declared.units.TheConstants.{SHARE_UNIT}
 use Rattle.te_model.specs.Counting.{unless}
-use Rattle.te_model.specs.Network.{node_count, link_count, tail_of, head_of, no_link, is_new_name, is_sound_link, is_well_formed}
-use Rattle.te_model.specs.Laws.{LinksJoinNodes}
+use Rattle.te_model.specs.Formats.{limits_of}
+use Rattle.te_model.specs.Network.{node_count, link_count, no_link, is_new_name, is_sound_link, is_well_formed}
+use Rattle.te_model.specs.Pairs.{no_pair, pair_at, AscendPairs, IsPairAmong}
+use Rattle.te_model.specs.declared.route.Pair.{Pair}
+use Rattle.te_model.proofs.Chains.{walk_links}
+use Rattle.te_model.proofs.FewPairs.{ascending_pairs_few}
 use Rattle.te_model.specs.Path.{chains, is_path, is_distinct, nodes_visited, routes_at, no_routes, source_of, destination_of}
 use Rattle.te_model.specs.PathRouting.{IsPathSplit}
-use Rattle.te_model.specs.Shape.{is_word, are_words, is_shaped_link, is_shaped_network, is_shaped_path, is_shaped_pair, is_shaped_set}
-use Rattle.te_model.specs.Validity.{fault_at, rule_fault, is_sound_pair, has_sound_paths, has_ascending_paths, has_whole_weight, with_first, has_margin_numbers, has_base_number, IsValidHead}
+use Rattle.te_model.specs.Shape.{is_word, are_words, is_shaped_link, is_shaped_network, is_shaped_path, is_shaped_pair, is_shaped_set, is_shaped_head}
+use Rattle.te_model.specs.Validity.{pair_below, fault_at, rule_fault, is_sound_pair, has_sound_paths, has_ascending_paths, has_whole_weight, with_first, has_margin_numbers, has_pair_bounds, IsValidHead}
 use Rattle.te_model.proofs.Searches.{first_below_none, all_below_at}
 use Rattle.te_model.proofs.SoundLinks.{sound_links}
 use Rattle.te_model.proofs.Tests.{all_to_tests}
 use Rattle.te_model.proofs.PathRoutings.{path_routing}
-use Rattle.ratio_certificate.specs.Conditions.{IsRoutingWithin, IsSetWithin}
-use Rattle.ratio_certificate.proofs.Lengths.{path_short}
+use Rattle.te_model.proofs.WellFormed.{links_join}
+use Rattle.ratio_certificate.specs.Conditions.{IsNoBox, IsRoutingWithin, IsSetWithin}
+use Rattle.te_model.proofs.WellFormed.{few_links, few_nodes, well_formed_parts}
+use Rattle.shortest_path.proofs.PathLengths.{path_short}
 
 -- a test of each element, from a test at each place
 pub all_tests : {X : Type 0} (test : X → Bool) (xs : List X) (d : X) → ((k : ℕ) → k < length xs → test (get_or xs k d) ≡ true) → list_all test xs ≡ true
 all_tests test xs d each = all_to_tests test (λ x. test x ≡ true) (λ x e. e) xs (All-from_get_or (λ x. test x ≡ true) xs d each)
 
-pub joins_nodes : (net : Network) → is_well_formed net ≡ true → LinksJoinNodes net
-joins_nodes net formed h below = let is = sound_links net formed h below in (grind (arith, nat_tests), grind (arith, nat_tests))
-
-pub few_nodes : (net : Network) → is_well_formed net ≡ true → node_count net ≤ 64
-few_nodes net formed = grind (arith, nat_tests)
-
 shaped_network : (net : Network) → is_well_formed net ≡ true → 1 ≤ link_count net → is_shaped_network FORMAT_1 net ≡ true
 shaped_network net formed some =
-    let few = few_nodes net formed in
+    let two = (well_formed_parts net formed).two_nodes in
+    let few = (well_formed_parts net formed).nodes in
+    let few_links = (well_formed_parts net formed).links in
     let links : list_all is_shaped_link net.links ≡ true =
     all_tests is_shaped_link net.links no_link (λ h below. let is = sound_links net formed h below in grind (arith, nat_tests))
     in
     grind (arith, nat_tests)
 
 -- the links of a chain are links of the network
-chain_links : (net : Network) (s t : ℕ) (links : List ℕ) → link_count net ≤ 512 → chains net s t links ≡ true → are_words links ≡ true
-chain_links net s t [] few chain = refl
-chain_links net s t (h ∷ hs) few chain =
-    let outer = and_parts (nat_lt h (link_count net) && tail_is h) (chains net (head_is h) t hs) chain in
-    let inner = and_parts (nat_lt h (link_count net)) (tail_is h) outer.0 in
-    let below = ltb-true h (link_count net) inner.0 in
-    and_from (is_word h) (list_all is_word hs) (lt-ltb h (2 ^ 64) (omega (arith, below, few))) (chain_links net (head_is h) t hs few outer.1)
-  where
-    tail_is : ℕ → Bool
-    tail_is h = tail_of net h == s
-
-    head_is : ℕ → ℕ
-    head_is h = head_of net h
+chain_links : (net : Network) (s t : ℕ) (links : List ℕ) → link_count net ≤ 1024 → chains net s t links ≡ true → are_words links ≡ true
+chain_links net s t links few chain =
+    all_to_tests is_word (λ h. h < link_count net) (λ h below. lt-ltb h (2 ^ 64) (omega (arith, below, few))) links (walk_links net s t links chain)
 
 -- a chain between two nodes has a link
 chain_some : (net : Network) (s t : ℕ) (links : List ℕ) → (s ≡ t → ⊥) → chains net s t links ≡ true → 1 ≤ length links
@@ -70,11 +64,10 @@ shaped_path : (net : Network) (s t : ℕ) (p : PathShare) → is_well_formed net
     is_path net s t p.links ≡ true → is_shaped_path FORMAT_1 p ≡ true
 shaped_path net s t p formed inside apart light path =
     let both = and_parts (chains net s t p.links) (is_distinct (nodes_visited net s p.links)) path in
-    let short = path_short net s t p.links (joins_nodes net formed) inside path in
-    let few = few_nodes net formed in
-    let few_links : link_count net ≤ 512 = grind (arith, nat_tests) in
+    let short = path_short net s t p.links (links_join net formed) inside path in
+    let few = (well_formed_parts net formed).nodes in
     let some = chain_some net s t p.links apart both.0 in
-    let words = chain_links net s t p.links few_links both.0 in
+    let words = chain_links net s t p.links (few_links net formed) both.0 in
     let hops : length p.links ≤ 63 = omega arith in
     let weight : p.weight < 2 ^ 64 = omega arith in
     grind (arith, nat_tests)
@@ -105,9 +98,10 @@ shaped_pair net routes formed within p below =
     let dst : r.pair.dst < 2 ^ 64 = omega (arith, ends.1, few) in
     grind (arith, nat_tests)
 
-shaped_set : (pairs : ℕ) (wanted : DemandSet) → IsSetWithin pairs wanted → is_shaped_set pairs wanted ≡ true
-shaped_set pairs AllMatrices within = refl
-shaped_set pairs (Margin num den base) within =
+shaped_set : (pairs : ℕ) (wanted : DemandSet) → IsSetWithin pairs wanted → IsNoBox wanted → is_shaped_set FORMAT_1 pairs wanted ≡ true
+shaped_set pairs AllMatrices within first = refl
+shaped_set pairs (Box lower upper) within first = absurd first
+shaped_set pairs (Margin num den base) within first =
     let numbers = within.0 in
     let count = within.1.count in
     let units = base.demand in
@@ -115,6 +109,48 @@ shaped_set pairs (Margin num den base) within =
     all_tests is_word units 0 (λ k below. lt-ltb _ _ (omega (arith, All-get_or (λ d. d ≤ 2 ^ 32) units k 0 below within.1.small)))
     in
     grind (arith, nat_tests)
+
+-- pairs that ascend are at most as many as the pairs of two different nodes
+few_pairs : (net : Network) (routes : List PairRoutes) → is_well_formed net ≡ true → IsRoutingWithin net routes → length routes ≤ 4032
+few_pairs net routes formed within =
+    let few = (well_formed_parts net formed).nodes in
+    let bound = ascending_pairs_few (node_count net) pairs each ascend in
+    let product : node_count net * (node_count net - 1) ≤ 64 * 63 = mul-le (node_count net) (node_count net - 1) 64 63 few (omega (arith, few)) in
+    omega (arith, bound, product, count)
+  where
+    pairs : List Pair
+    pairs = map (λ r. r.pair) routes
+
+    count : length pairs ≡ length routes
+    count = length-map routes (λ r. r.pair)
+
+    pair_is : (p : ℕ) → p < length routes → pair_at pairs p ≡ (routes_at routes p).pair
+    pair_is p below = get_or-map (λ (r : PairRoutes). r.pair) routes p no_routes no_pair below
+
+    each : All (IsPairAmong (node_count net)) pairs
+    each = All-from_get_or (IsPairAmong (node_count net)) pairs no_pair (λ p below.
+        let inside : p < length routes = omega (arith, below, count) in
+        subst (IsPairAmong (node_count net)) (sym (pair_is p inside))
+        (record { src_inside = (within.nodes p inside).0; dst_inside = (within.nodes p inside).1; apart = within.apart p inside }))
+
+    order : (k : ℕ) → pair_below routes k (suc k) ≡ true →
+        (source_of routes k < source_of routes (suc k))
+        ⊎ ((source_of routes k ≡ source_of routes (suc k)) × (destination_of routes k < destination_of routes (suc k)))
+    order k is =
+        elim (or_cases (nat_lt (source_of routes k) (source_of routes (suc k))) (source_of routes k == source_of routes (suc k) && nat_lt (destination_of routes k) (destination_of routes (suc k))) is) [
+          | inl lt ↦ inl (ltb-true _ _ lt)
+          | inr both ↦
+              let parts = and_parts (source_of routes k == source_of routes (suc k)) (nat_lt (destination_of routes k) (destination_of routes (suc k))) both in
+              inr (eqb-true _ _ parts.0, ltb-true _ _ parts.1)
+        ]
+
+    ascend : AscendPairs pairs
+    ascend k below =
+        let inside : suc k < length routes = omega (arith, below, count) in
+        let less : k < length routes = omega (arith, inside) in
+        subst (λ (q : Pair). ((pair_at pairs k).src < q.src) ⊎ (((pair_at pairs k).src ≡ q.src) × ((pair_at pairs k).dst < q.dst))) (sym (pair_is (suc k) inside))
+        (subst (λ (q : Pair). (q.src < source_of routes (suc k)) ⊎ ((q.src ≡ source_of routes (suc k)) × (q.dst < destination_of routes (suc k))))
+        (sym (pair_is k less)) (order k (within.ascending k inside)))
 
 sound_pair : (h : Head) → IsRoutingWithin h.network h.routes → (p : ℕ) → p < length h.routes → is_sound_pair h p ≡ true
 sound_pair h within zero below =
@@ -130,32 +166,35 @@ sound_pair h within (suc p) below =
 margin_numbers : (pairs : ℕ) (wanted : DemandSet) → IsSetWithin pairs wanted → has_margin_numbers wanted ≡ true
 margin_numbers pairs AllMatrices within = refl
 margin_numbers pairs (Margin num den base) within = within.0
+margin_numbers pairs (Box lower upper) within = refl
 
-base_number : (pairs : ℕ) (wanted : DemandSet) → IsSetWithin pairs wanted → (p : ℕ) → p < pairs → has_base_number wanted p ≡ true
-base_number pairs AllMatrices within p below = refl
-base_number pairs (Margin num den base) within p below =
+pair_bounds : (pairs : ℕ) (wanted : DemandSet) → IsSetWithin pairs wanted → (p : ℕ) → p < pairs → has_pair_bounds wanted p ≡ true
+pair_bounds pairs AllMatrices within p below = refl
+pair_bounds pairs (Margin num den base) within p below =
     le-leb _ _ (All-get_or (λ d. d ≤ 2 ^ 32) base.demand p 0 (omega (arith, below, within.1.count)) within.1.small)
+pair_bounds pairs (Box lower upper) within p below = let each = within.each p below in and_from _ _ (le-leb _ _ each.0) (le-leb _ _ each.1)
 
 -- a rule that holds at each place has no fault
 no_fault : (r n : ℕ) (test : ℕ → Bool) → ((k : ℕ) → k < n → test k ≡ true) → rule_fault r n test ≡ None
 no_fault r n test each = first_below_none n (λ k. unless (test k) (fault_at r k)) (λ k below. ap (λ b. unless b (fault_at r k)) (each k below))
 
-pub made_head : (h : Head) → is_well_formed h.network ≡ true → 1 ≤ link_count h.network → IsRoutingWithin h.network h.routes →
-    IsSetWithin (length h.routes) h.set → h.ratio < 10 ^ 19 → IsValidHead h
-made_head h formed some within wanted small =
+-- a head of the first format whose ratio is within the limit
+pub made_head : (h : Head) → h.format ≡ 1 → is_well_formed h.network ≡ true → 1 ≤ link_count h.network → IsRoutingWithin h.network h.routes →
+    IsSetWithin (length h.routes) h.set → IsNoBox h.set → h.ratio < 10 ^ 19 → IsValidHead h
+made_head h format formed some within wanted no_box small =
     let net = h.network in
     let pairs = length h.routes in
     let network = shaped_network net formed some in
-    let few = within.few in
+    let few = few_pairs net h.routes formed within in
     let shaped_pairs : list_all (is_shaped_pair FORMAT_1) h.routes ≡ true =
     all_tests (is_shaped_pair FORMAT_1) h.routes no_routes (shaped_pair net h.routes formed within)
     in
-    let set_is = shaped_set pairs h.set wanted in
+    let set_is = shaped_set pairs h.set wanted no_box in
     let ratio : is_word h.ratio ≡ true = lt-ltb _ _ (omega (arith, small)) in
     let paths = (path_routing h).1 within.splits in
     let new : (k : ℕ) → k < node_count net → is_new_name net k ≡ true = λ k below. all_below_at (node_count net) (is_new_name net) k (grind (arith, nat_tests)) below in
-    let margin : (k : ℕ) → k < 1 + pairs → with_first (has_margin_numbers h.set) (has_base_number h.set) k ≡ true =
-    λ k below. at_margin k below (margin_numbers pairs h.set wanted) (base_number pairs h.set wanted)
+    let margin : (k : ℕ) → k < 1 + pairs → with_first (has_margin_numbers h.set) (has_pair_bounds h.set) k ≡ true =
+    λ k below. at_margin k below (margin_numbers pairs h.set wanted) (pair_bounds pairs h.set wanted)
     in
     let first = no_fault 1 (node_count net) (is_new_name net) new in
     let second = no_fault 2 (link_count net) (is_sound_link net) (sound_links net formed) in
@@ -163,13 +202,15 @@ made_head h formed some within wanted small =
     let fourth = no_fault 4 pairs (has_sound_paths h) (λ p below. (paths p below).0) in
     let fifth = no_fault 5 pairs (has_ascending_paths h) (λ p below. (paths p below).1) in
     let sixth = no_fault 6 pairs (has_whole_weight h) (λ p below. (paths p below).2) in
-    let seventh = no_fault 7 (1 + pairs) (with_first (has_margin_numbers h.set) (has_base_number h.set)) margin in
+    let seventh = no_fault 7 (1 + pairs) (with_first (has_margin_numbers h.set) (has_pair_bounds h.set)) margin in
     record {
-      shaped = and_from _ _ (and_from _ _ (and_from _ _ (and_from _ _ network (and_from _ _ (le-leb 0 pairs (omega arith)) (le-leb pairs 4032 few))) shaped_pairs) set_is) ratio;
+      shaped = subst (λ f. is_shaped_head (limits_of f) h ≡ true) (sym format)
+          (and_from _ _ (and_from _ _ (and_from _ _ (and_from _ _ (and_from _ _ (eq-eqb h.format 1 format) network)
+          (and_from _ _ (le-leb 0 pairs (omega arith)) (le-leb pairs 4032 few))) shaped_pairs) set_is) ratio);
       no_fault = rw (first, second, third, fourth, fifth, sixth, seventh) (ap (λ b. unless b (fault_at 8 0)) (lt-ltb h.ratio (10 ^ 19) small));
     }
   where
-    at_margin : (k : ℕ) → k < 1 + length h.routes → has_margin_numbers h.set ≡ true → ((p : ℕ) → p < length h.routes → has_base_number h.set p ≡ true) →
-        with_first (has_margin_numbers h.set) (has_base_number h.set) k ≡ true
+    at_margin : (k : ℕ) → k < 1 + length h.routes → has_margin_numbers h.set ≡ true → ((p : ℕ) → p < length h.routes → has_pair_bounds h.set p ≡ true) →
+        with_first (has_margin_numbers h.set) (has_pair_bounds h.set) k ≡ true
     at_margin zero below numbers base = numbers
     at_margin (suc k) below numbers base = base k (omega arith)

@@ -1,5 +1,5 @@
 -- The inequalities hold of a best block whose need is paid for.
-use Rattle.std.proofs.Common.{◌≡◌, ℕ, ◌+◌, ◌-◌, ◌*◌, ◌<◌, ◌≤◌, ◌⊎◌, Bool, true, false, ◌||◌, cond, List, [], ◌∷◌, Some, length, arith, refl, ap, sym, subst, ◌∙◌, inl, inr, ◌==◌, slice_index}
+use Rattle.std.proofs.Common.{◌≡◌, ℕ, ◌+◌, ◌-◌, ◌*◌, ◌<◌, ◌≤◌, ◌⊎◌, Bool, true, false, ◌||◌, cond, List, [], ◌∷◌, Some, length, arith, refl, ap, sym, subst, ◌∙◌, inl, inr, ◌==◌, nat_le, slice_index}
 use Rattle.std.specs.Prelude.{All, IsTrue, find, unwrap_or}
 use Rattle.std.specs.List.{list_any}
 use Rattle.std.proofs.lemmas.Bool.{cases_lt, eqb-true, le-leb, leb-true, lt-ltb}
@@ -10,19 +10,20 @@ use Rattle.te_model.specs.declared.certificate.Row.{Row}
 use Rattle.te_model.specs.declared.certificate.Block.{Block}
 use Rattle.te_model.specs.declared.certificate.Head.{Head}
 use Rattle.te_model.specs.declared.demand.DemandSet.{DemandSet}
-use Rattle.te_model.specs.declared.demand.DemandSet.TheVariants.{All as AllMatrices, Margin}
+use Rattle.te_model.specs.declared.demand.DemandSet.TheVariants.{All as AllMatrices, Margin, Box}
 use Rattle.te_model.specs.declared.units.TheConstants.{SHARE_UNIT}
 use Rattle.te_model.specs.Network.{link_count, tail_of, head_of}
 use Rattle.te_model.specs.Path.{share, source_of, destination_of, routes_at, no_routes}
 use Rattle.te_model.specs.PathRouting.{IsPathSplit}
 use Rattle.te_model.specs.Certificate.{row_of, empty_row, potential, plus_of, minus_of}
-use Rattle.te_model.specs.Inequalities.{covers_share, keeps_margin, pays_weights, BlockHolds}
+use Rattle.te_model.specs.Inequalities.{covers_share, keeps_bounds, pays_weights, weigh, BlockHolds}
 use Rattle.te_model.proofs.Sums.{sum_below-same}
 use Rattle.shortest_path.specs.Paths.{ArePotentials}
-use Rattle.routing.proofs.Quotients.{quotient_up-enough}
-use Rattle.ratio_certificate.specs.Best.{asked, added, taken_back, needs_row, IsBestBlock}
-use Rattle.ratio_certificate.specs.Conditions.{IsRoutingWithin, IsSetWithin}
-use Rattle.ratio_certificate.proofs.Distances.{distance_known, distance_unique, path_of_pair}
+use Rattle.te_model.proofs.Quotients.{quotient_up-enough}
+use Rattle.ratio_certificate.specs.Best.{asked, added, taken_back, needs_row, IsBestBetween, IsBestBlock}
+use Rattle.ratio_certificate.specs.Conditions.{IsRoutingWithin}
+use Rattle.shortest_path.proofs.PairDistances.{distance_known, path_of_pair}
+use Rattle.shortest_path.proofs.Unique.{distance_unique}
 
 -- a source has a row with its potentials, or none, which is read as zeros
 row_or_none : (net : Network) (weights : List ℕ) (i : ℕ) (rows : List Row) → All (λ r. ArePotentials net weights r.source r.potential) rows →
@@ -85,11 +86,26 @@ covered_for_all s b a d q m r none_m none_r is less =
 covered_for_none : (s b a q m r : ℕ) → m ≡ 0 → s ≡ 0 → s * b + a * m ≤ a * (q + r)
 covered_for_none s b a q m r none_m none_s = let left : s * b + a * m ≡ 0 = rw (none_m, none_s) (omega arith) in omega (arith, left)
 
-covered_for_margin : (s b a d q m r x : ℕ) → a ≡ 1000000 → q ≡ d → r ≡ x - d → m ≡ d - x → b * s ≤ x * 1000000 → s * b + a * m ≤ a * (q + r)
-covered_for_margin s b a d q m r x unit is more less enough =
+covered_between : (s b a d q m r x : ℕ) → a ≡ 1000000 → q ≡ d → r ≡ x - d → m ≡ d - x → b * s ≤ x * 1000000 → s * b + a * m ≤ a * (q + r)
+covered_between s b a d q m r x unit is more less enough =
     let left : s * b + a * m ≡ s * b + 1000000 * (d - x) = rw (unit, less) refl in
     let right : a * (q + r) ≡ 1000000 * (d + (x - d)) = rw (unit, is, more) refl in
     omega (arith, left, right, enough)
+
+covers_between : (net : Network) (routes : List PairRoutes) (wanted : DemandSet) (e : ℕ) (weights : List ℕ) (block : Block) → IsRoutingWithin net routes →
+    (best : IsBestBlock net routes wanted e weights block) → (p : ℕ) → p < length routes → needs_row wanted (best.shares p) ≡ true →
+    (lower upper : ℕ → ℕ) → IsBestBetween lower upper (length routes) best.shares best.distance block.a block.b block.plus block.minus →
+    IsTrue (covers_share routes block p)
+covers_between net routes wanted e weights block routing best p below needs lower upper scale =
+    let same : best.shares p ≡ share routes p block.link = best.shares_are p below ∙ ap (share routes p) (sym best.link_is) in
+    let is = potential_is net routes wanted e weights block routing best p below needs in
+    let x = asked block.b (best.shares p) in
+    let enough : block.b * share routes p block.link ≤ x * 1000000 =
+    subst (λ s. block.b * s ≤ x * 1000000) same (quotient_up-enough (block.b * best.shares p) SHARE_UNIT (omega arith))
+    in
+    le-leb _ _ (covered_between (share routes p block.link) block.b block.a (best.distance p)
+    (potential block (source_of routes p) (destination_of routes p)) (minus_of block p) (plus_of block p) x scale.unit is
+    (scale.added_is.each p below) (scale.taken_is.each p below) enough)
 
 covers : (net : Network) (routes : List PairRoutes) (wanted : DemandSet) (e : ℕ) (weights : List ℕ) (block : Block) → IsRoutingWithin net routes →
     IsBestBlock net routes wanted e weights block → (p : ℕ) → p < length routes → IsTrue (covers_share routes block p)
@@ -110,38 +126,33 @@ covers net routes AllMatrices e weights block routing best p below =
           (minus_of block p) (plus_of block p) none_minus (omega (arith, none, same))
     ])
 covers net routes (Margin num den base) e weights block routing best p below =
-    let same : best.shares p ≡ share routes p block.link = best.shares_are p below ∙ ap (share routes p) (sym best.link_is) in
-    let is = potential_is net routes (Margin num den base) e weights block routing best p below refl in
-    let x = asked block.b (best.shares p) in
-    let enough : block.b * share routes p block.link ≤ x * 1000000 =
-    subst (λ s. block.b * s ≤ x * 1000000) same (quotient_up-enough (block.b * best.shares p) SHARE_UNIT (omega arith))
-    in
-    le-leb _ _ (covered_for_margin (share routes p block.link) block.b block.a (best.distance p)
-    (potential block (source_of routes p) (destination_of routes p)) (minus_of block p) (plus_of block p) x best.scale.unit is
-    (best.scale.added_is.each p below) (best.scale.taken_is.each p below) enough)
+    covers_between net routes (Margin num den base) e weights block routing best p below refl _ _ best.scale
+covers net routes (Box lower upper) e weights block routing best p below =
+    covers_between net routes (Box lower upper) e weights block routing best p below refl _ _ best.scale
 
-keeps : (net : Network) (routes : List PairRoutes) (wanted : DemandSet) (e : ℕ) (weights : List ℕ) (block : Block) → IsSetWithin (length routes) wanted →
-    IsBestBlock net routes wanted e weights block → IsTrue (keeps_margin wanted block)
-keeps net routes AllMatrices e weights block within best = refl
-keeps net routes (Margin num den base) e weights block within best =
-    let count = within.1.count in
+keeps_between : (lower upper : ℕ → ℕ) (n : ℕ) (shares distance : ℕ → ℕ) (block : Block) → IsBestBetween lower upper n shares distance block.a block.b block.plus block.minus →
+    nat_le (weigh n upper (plus_of block)) (weigh n lower (minus_of block)) ≡ true
+keeps_between lower upper n shares distance block scale =
     let gain =
-    sum_below-same (length base.demand) (λ p. slice_index base.demand p * (num * num) * plus_of block p)
-    (λ p. slice_index base.demand p * (num * num) * added best.shares best.distance block.b p)
-    (λ p below. ap (λ x. slice_index base.demand p * (num * num) * x) (best.scale.added_is.each p (omega (arith, below, count))))
+    sum_below-same n (λ p. upper p * plus_of block p) (λ p. upper p * added shares distance block.b p)
+    (λ p below. ap (λ x. upper p * x) (scale.added_is.each p below))
     in
     let loss =
-    sum_below-same (length base.demand) (λ p. slice_index base.demand p * (den * den) * minus_of block p)
-    (λ p. slice_index base.demand p * (den * den) * taken_back best.shares best.distance block.b p)
-    (λ p below. ap (λ x. slice_index base.demand p * (den * den) * x) (best.scale.taken_is.each p (omega (arith, below, count))))
+    sum_below-same n (λ p. lower p * minus_of block p) (λ p. lower p * taken_back shares distance block.b p)
+    (λ p below. ap (λ x. lower p * x) (scale.taken_is.each p below))
     in
-    let between = leb-true _ _ best.scale.balance.balanced in
+    let between = leb-true _ _ scale.balance.balanced in
     le-leb _ _ (omega (arith, gain, loss, between))
 
+keeps : (net : Network) (routes : List PairRoutes) (wanted : DemandSet) (e : ℕ) (weights : List ℕ) (block : Block) →
+    IsBestBlock net routes wanted e weights block → IsTrue (keeps_bounds wanted (length routes) block)
+keeps net routes AllMatrices e weights block best = refl
+keeps net routes (Margin num den base) e weights block best = keeps_between _ _ (length routes) best.shares best.distance block best.scale
+keeps net routes (Box lower upper) e weights block best = keeps_between _ _ (length routes) best.shares best.distance block best.scale
+
 pub best_holds : (head : Head) (e : ℕ) (weights : List ℕ) (block : Block) → IsRoutingWithin head.network head.routes →
-    IsSetWithin (length head.routes) head.set → IsBestBlock head.network head.routes head.set e weights block →
-    IsTrue (pays_weights head.network block head.ratio) → BlockHolds head block
-best_holds head e weights block routing within best pays =
+    IsBestBlock head.network head.routes head.set e weights block → IsTrue (pays_weights head.network block head.ratio) → BlockHolds head block
+best_holds head e weights block routing best pays =
     let net = head.network in
     let row : (i : ℕ) → ArePotentials net weights i (row_of block.rows i).potential ⊎ ((row_of block.rows i).potential ≡ []) =
     λ i. row_or_none net weights i block.rows best.rows_are.potentials
@@ -152,6 +163,6 @@ best_holds head e weights block routing within best pays =
           subst (λ (ws : List ℕ). potential block i (head_of net h) ≤ potential block i (tail_of net h) + slice_index ws h) (sym best.weights_are)
           (rises_of net weights i h (row_of block.rows i).potential (row i) in');
       covers = covers net head.routes head.set e weights block routing best;
-      margin = keeps net head.routes head.set e weights block within best;
+      bounds = keeps net head.routes head.set e weights block best;
       pays = pays;
     }

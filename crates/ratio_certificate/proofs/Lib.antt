@@ -1,15 +1,13 @@
 pub mod Sizes
-pub mod Owed
 pub mod Pushed
 pub mod Quotients
 pub mod Needs
 pub mod Balances
 pub mod RowsMade
 pub mod Distances
-pub mod Shares
-pub mod Crossed
+pub mod SmallNumbers
+pub mod SharesListed
 pub mod NoBest
-pub mod Lengths
 pub mod Holding
 pub mod HeadValid
 pub mod BlockValid

@@ -6,33 +6,39 @@ use Rattle.te_model.specs.declared.network.Network.{Network}
 use Rattle.te_model.specs.declared.route.PairRoutes.{PairRoutes}
 use Rattle.te_model.specs.declared.certificate.Block.{Block}
 use Rattle.te_model.specs.declared.demand.DemandSet.{DemandSet}
-use Rattle.te_model.specs.declared.demand.DemandSet.TheVariants.{All, Margin}
+use Rattle.te_model.specs.declared.demand.DemandSet.TheVariants.{All, Margin, Box}
 use Rattle.te_model.specs.Path.{share, source_of, destination_of}
-use Rattle.ratio_certificate.specs.Best.{IsBestBlock}
-use Rattle.ratio_certificate.specs.Conditions.{IsSetWithin}
-use Rattle.ratio_certificate.specs.Margin.{HasNoScale}
-use Rattle.ratio_certificate.specs.Tables.{ArePairDistances}
+use Rattle.ratio_certificate.specs.Best.{balances, IsBestBetween, IsBestBlock, IsBestScale}
+use Rattle.ratio_certificate.specs.Scale.{HasNoScale}
+use Rattle.shortest_path.specs.Pairs.{ArePairDistances}
 use Rattle.ratio_certificate.proofs.Balances.{balances_fewer, balances-same}
-use Rattle.ratio_certificate.proofs.Distances.{distance_unique}
+use Rattle.shortest_path.proofs.Unique.{distance_unique}
+
+-- sums that even 1 does not balance have no best scale
+no_balance : (lower upper : ℕ → ℕ) (n : ℕ) (shares distance shares' distance' : ℕ → ℕ) (a b : ℕ) (plus minus : List ℕ) →
+    ((p : ℕ) → p < n → shares p ≡ shares' p) → ((p : ℕ) → p < n → distance p ≡ distance' p) →
+    balances lower upper n shares distance 1 ≡ false → IsBestBetween lower upper n shares' distance' a b plus minus → ⊥
+no_balance lower upper n shares distance shares' distance' a b plus minus same far none best =
+    let balanced = balances_fewer lower upper n shares' distance' 1 b best.balance.some best.balance.balanced in
+    let contrary : false ≡ true = sym none ∙ balances-same lower upper n shares distance shares' distance' 1 same far ∙ balanced in
+    cc
 
 pub no_best_block : (net : Network) (routes : List PairRoutes) (wanted : DemandSet) (e : ℕ) (weights : List ℕ) (shares distance : ℕ → ℕ) →
-    ((p : ℕ) → p < length routes → shares p ≡ share routes p e) → ArePairDistances net weights routes distance → IsSetWithin (length routes) wanted →
+    ((p : ℕ) → p < length routes → shares p ≡ share routes p e) → ArePairDistances net weights routes distance →
     HasNoScale wanted (length routes) shares distance → (block : Block) → IsBestBlock net routes wanted e weights block → ⊥
-no_best_block net routes All e weights shares distance are known within (p, below, some, nothing) block best =
-    let same_share = are p below ∙ sym (best.shares_are p below) in
-    let same = distance_unique net weights (source_of routes p) (destination_of routes p) (distance p) (best.distance p) (known p below) (best.distances_are p below) in
-    let apart = best.scale.apart p below (omega (arith, some, same_share)) in
-    omega (arith, apart, same, nothing)
-no_best_block net routes (Margin num den base) e weights shares distance are known within none block best =
-    let count = within.1.count in
-    let balanced = balances_fewer num den base.demand best.shares best.distance 1 block.b best.scale.balance.some best.scale.balance.balanced in
-    let same = balances-same num den base.demand shares distance best.shares best.distance 1
-    (λ p below. let inside : p < length routes = omega (arith, below, count) in are p inside ∙ sym (best.shares_are p inside))
-    (λ p below. let inside : p < length routes = omega (arith, below, count) in
-    distance_unique net weights (source_of routes p) (destination_of routes p) (distance p) (best.distance p) (known p inside) (best.distances_are p inside))
-    in
-    let contrary : false ≡ true = sym none ∙ same ∙ balanced in
-    cc
+no_best_block net routes wanted e weights shares distance are known none block best = go wanted none best.scale
+  where
+    same : (p : ℕ) → p < length routes → shares p ≡ best.shares p
+    same p below = are p below ∙ sym (best.shares_are p below)
+
+    far : (p : ℕ) → p < length routes → distance p ≡ best.distance p
+    far p below = distance_unique net weights (source_of routes p) (destination_of routes p) (distance p) (best.distance p) (known p below) (best.distances_are p below)
+
+    go : (w : DemandSet) → HasNoScale w (length routes) shares distance →
+        IsBestScale w (length routes) best.shares best.distance block.a block.b block.plus block.minus → ⊥
+    go All (p, below, some, nothing) scale = let apart = scale.apart p below (omega (arith, some, same p below)) in omega (arith, apart, far p below, nothing)
+    go (Margin num den base) none scale = no_balance _ _ (length routes) shares distance best.shares best.distance block.a block.b block.plus block.minus same far none scale
+    go (Box lower upper) none scale = no_balance _ _ (length routes) shares distance best.shares best.distance block.a block.b block.plus block.minus same far none scale
 
 -- what follows from there being no value
 pub none_of : (r : Result (Option Block) Memory) (P Q : Type 0) → (P → Q) → IfOk r (λ o. IfNone o P) → IfOk r (λ o. IfNone o Q)

@@ -1,31 +1,8 @@
 -- Lists that grow by one element at their end.
-use Rattle.std.proofs.Common.{◌≡◌, ℕ, ◌+◌, ◌<◌, Bool, true, false, ◌||◌, List, [], ◌∷◌, ◌++◌, length, refl, get_or, arith, sym, subst, inl, inr, length-append}
+use Rattle.std.proofs.Common.{◌≡◌, Bool, true, false, ◌||◌, List, [], ◌∷◌, ◌++◌, refl}
 use Rattle.std.specs.Prelude.{All}
 use Rattle.std.specs.List.{list_any}
-use Rattle.std.proofs.lemmas.Bool.{cases_lt}
 use Rattle.std.proofs.lemmas.List.Elements.{All-nil, All-cons, All-head, All-tail}
-use Rattle.std.proofs.lemmas.List.{get_or_append_left, get_or_push}
-use Rattle.ratio_certificate.specs.Tables.{AreValues}
-
-pub pushed_count : {X : Type 0} (xs : List X) (x : X) (n : ℕ) → length xs ≡ n → length (xs ++ x ∷ []) ≡ n + 1
-pushed_count xs x n count = omega (arith, length-append xs (x ∷ []), count)
-
--- what holds at each place and of the new element holds at each place then
-pub pushed_each : {X : Type 0} (P : ℕ → X → Type 0) (xs : List X) (x d : X) (n : ℕ) → length xs ≡ n →
-    ((k : ℕ) → k < n → P k (get_or xs k d)) → P n x → (k : ℕ) → k < n + 1 → P k (get_or (xs ++ x ∷ []) k d)
-pushed_each P xs x d n count each last k below =
-    elim (cases_lt k n) [
-      | inl lt ↦ subst (P k) (sym (get_or_append_left xs (x ∷ []) d k (omega arith))) (each k lt)
-      | inr ge ↦
-          let e : k ≡ n = omega arith in
-          subst (λ j. P j (get_or (xs ++ x ∷ []) j d)) (sym e) (subst (P n) (sym (get_or_push xs x d n count)) last)
-    ]
-
-pub pushed_values : (n : ℕ) (value : ℕ → ℕ) (xs : List ℕ) (x : ℕ) → AreValues n value xs → x ≡ value n → AreValues (n + 1) value (xs ++ x ∷ [])
-pushed_values n value xs x are is = record {
-  count = pushed_count xs x n are.count;
-  each = pushed_each (λ k y. y ≡ value k) xs x 0 n are.count are.each is;
-}
 
 pub all_append : {X : Type 0} (P : X → Type 0) (xs : List X) (y : X) → All P xs → P y → All P (xs ++ y ∷ [])
 all_append P [] y all last = All-cons P y [] last (All-nil P)

@@ -20,7 +20,7 @@ use Rattle.ratio_certificate.specs.Need.{HasNumbers}
 use Rattle.ratio_certificate.proofs.BlockValid.{best_valid}
 
 abbrev head_of_set : DemandSet → Head
-head_of_set wanted = record { network = three_nodes; routes = straight_routes; set = wanted; ratio = 0 }
+head_of_set wanted = record { format = 1; network = three_nodes; routes = straight_routes; set = wanted; ratio = 0 }
 
 path_rules : KeepsPathRules (head_of_set AllMatrices)
 path_rules zero below = (refl, refl, refl)
@@ -63,7 +63,7 @@ pub best_numbers : (net : Network) (routes : List PairRoutes) (wanted : DemandSe
     length weights ≡ 4 → All (λ w. w ≤ 2 ^ 28) weights → IsBestBlock net routes wanted 0 weights block → HasNumbers net block
 best_numbers net routes wanted weights block is_net is_routes count small best =
     let best_of_straight = subst (λ r. IsBestBlock three_nodes r wanted 0 weights block) is_routes (subst (λ n. IsBestBlock n routes wanted 0 weights block) is_net best) in
-    let valid = best_valid (head_of_set wanted) 0 weights block refl straight_within (omega arith) count small best_of_straight in
+    let valid = best_valid (head_of_set wanted) 0 weights block refl straight_within (omega arith) (omega arith) count small best_of_straight in
     subst (λ n. HasNumbers n block) (sym is_net) (record {
       numbers = valid.numbers;
       small = valid.small;

@@ -1,25 +1,27 @@
 -- Best blocks: of a link and given weights the block whose a / b is as small as the shares on the link allow
 -- (the dual of the linear program of Applegate and Cohen, 2003, with its weights held fast).
-use Rattle.std.specs.Prelude.{◌≡◌, ℕ, ◌-◌, ◌*◌, ◌^◌, ◌<◌, ◌≤◌, Bool, true, false, IsTrue, List, [], length, slice_index, nat_lt, nat_le, ◌==◌, All}
+use Rattle.std.specs.Prelude.{◌≡◌, ℕ, ◌-◌, ◌*◌, ◌^◌, ◌<◌, ◌≤◌, Bool, true, false, IsTrue, List, [], length, nat_lt, nat_le, ◌==◌, All}
 use Rattle.std.specs.List.{list_any}
 use Rattle.te_model.specs.declared.network.Network.{Network}
 use Rattle.te_model.specs.declared.route.PairRoutes.{PairRoutes}
 use Rattle.te_model.specs.declared.certificate.Row.{Row}
 use Rattle.te_model.specs.declared.certificate.Block.{Block}
 use Rattle.te_model.specs.declared.demand.DemandSet.{DemandSet}
-use Rattle.te_model.specs.declared.demand.DemandSet.TheVariants.{All as AllMatrices, Margin}
+use Rattle.te_model.specs.declared.demand.DemandSet.TheVariants.{All as AllMatrices, Margin, Box}
 use Rattle.te_model.specs.declared.units.TheConstants.{SHARE_UNIT}
-use Rattle.te_model.specs.Counting.{sum_below}
+use Rattle.te_model.specs.Demand.{lower_of, upper_of}
+use Rattle.te_model.specs.Inequalities.{weigh}
 use Rattle.te_model.specs.Path.{source_of, share}
 use Rattle.te_model.specs.Validity.{rows_ascend}
 use Rattle.shortest_path.specs.Paths.{ArePotentials}
-use Rattle.routing.specs.Utilisation.{quotient_up}
-use Rattle.ratio_certificate.specs.Tables.{ArePairDistances, AreValues}
+use Rattle.te_model.specs.Division.{quotient_up}
+use Rattle.shortest_path.specs.Pairs.{ArePairDistances, AreValues}
 
--- whether the source of a pair with this share has a row: for every matrix where there is a share, for a margin always
+-- whether the source of a pair with this share has a row: for every matrix where there is a share, between bounds always
 abbrev pub needs_row : DemandSet → ℕ → Bool
 needs_row AllMatrices s = nat_lt 0 s
 needs_row (Margin num den base) s = true
+needs_row (Box lower upper) s = true
 
 -- node i is the source of a pair that needs a row
 abbrev pub IsSource : List PairRoutes → DemandSet → (ℕ → ℕ) → ℕ → Type 0
@@ -60,30 +62,31 @@ added shares distance b p = asked b (shares p) - distance p
 abbrev pub taken_back : (ℕ → ℕ) → (ℕ → ℕ) → ℕ → ℕ → ℕ
 taken_back shares distance b p = distance p - asked b (shares p)
 
--- whether what is added is taken back within the margin
-abbrev pub balances : ℕ → ℕ → List ℕ → (ℕ → ℕ) → (ℕ → ℕ) → ℕ → Bool
-balances num den base shares distance b =
-    nat_le (sum_below (length base) (λ p. slice_index base p * (num * num) * added shares distance b p))
-    (sum_below (length base) (λ p. slice_index base p * (den * den) * taken_back shares distance b p))
+-- whether what is added is taken back between the bounds of n pairs
+abbrev pub balances : (ℕ → ℕ) → (ℕ → ℕ) → ℕ → (ℕ → ℕ) → (ℕ → ℕ) → ℕ → Bool
+balances lower upper n shares distance b =
+    nat_le (weigh n upper (added shares distance b)) (weigh n lower (taken_back shares distance b))
 
 -- b is the greatest number up to 2^36 that balances
-pub record IsGreatestBalance (num den : ℕ) (base : List ℕ) (shares distance : ℕ → ℕ) (b : ℕ) : Type 0 where
+pub record IsGreatestBalance (lower upper : ℕ → ℕ) (n : ℕ) (shares distance : ℕ → ℕ) (b : ℕ) : Type 0 where
   pub some : 1 ≤ b
   pub small : b ≤ 2 ^ 36
-  pub balanced : IsTrue (balances num den base shares distance b)
-  pub greatest : (c : ℕ) → b < c → c ≤ 2 ^ 36 → balances num den base shares distance c ≡ false
+  pub balanced : IsTrue (balances lower upper n shares distance b)
+  pub greatest : (c : ℕ) → b < c → c ≤ 2 ^ 36 → balances lower upper n shares distance c ≡ false
 
--- for a margin: a is one million, and b the greatest number that balances
-pub record IsBestForMargin (num den : ℕ) (base : List ℕ) (n : ℕ) (shares distance : ℕ → ℕ) (a b : ℕ) (plus minus : List ℕ) : Type 0 where
+-- between bounds: a is one million, and b the greatest number that balances
+pub record IsBestBetween (lower upper : ℕ → ℕ) (n : ℕ) (shares distance : ℕ → ℕ) (a b : ℕ) (plus minus : List ℕ) : Type 0 where
   pub unit : a ≡ SHARE_UNIT
-  pub balance : IsGreatestBalance num den base shares distance b
+  pub balance : IsGreatestBalance lower upper n shares distance b
   pub added_is : AreValues n (added shares distance b) plus
   pub taken_is : AreValues n (taken_back shares distance b) minus
 
 abbrev pub IsBestScale : DemandSet → ℕ → (ℕ → ℕ) → (ℕ → ℕ) → ℕ → ℕ → List ℕ → List ℕ → Type 0
 IsBestScale AllMatrices n shares distance a b plus minus = IsBestForAll n shares distance a b plus minus
 IsBestScale (Margin num den base) n shares distance a b plus minus =
-    IsBestForMargin num den base.demand n shares distance a b plus minus
+    IsBestBetween (lower_of (Margin num den base)) (upper_of (Margin num den base)) n shares distance a b plus minus
+IsBestScale (Box lower upper) n shares distance a b plus minus =
+    IsBestBetween (lower_of (Box lower upper)) (upper_of (Box lower upper)) n shares distance a b plus minus
 
 -- the best block of link e for these weights, by the shares on the link and the distances of the pairs
 pub record IsBestBlock (net : Network) (routes : List PairRoutes) (set : DemandSet) (e : ℕ) (weights : List ℕ) (block : Block) : Type 0 where

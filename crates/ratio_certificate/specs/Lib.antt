@@ -1,9 +1,8 @@
 pub mod Best
 pub mod Conditions
-pub mod Crossings
 pub mod Made
-pub mod Margin
 pub mod Marks
 pub mod Metric
 pub mod Need
+pub mod Scale
 pub mod Tables

@@ -4,7 +4,8 @@ use Rattle.te_model.specs.declared.network.Network.{Network}
 use Rattle.te_model.specs.declared.route.PairRoutes.{PairRoutes}
 use Rattle.te_model.specs.Network.{link_count}
 use Rattle.ratio_certificate.specs.declared.metric.Metric.{Metric}
-use Rattle.ratio_certificate.specs.Tables.{ArePairDistances, IsTable}
+use Rattle.shortest_path.specs.Pairs.{ArePairDistances}
+use Rattle.ratio_certificate.specs.Tables.{IsTable}
 
 -- a weight of at most 2^28 for each link, the potentials of each node, and the distance of each pair
 pub record IsMetric (net : Network) (routes : List PairRoutes) (m : Metric) : Type 0 where

@@ -3,21 +3,23 @@ ghost use Rattle.std.specs.Prelude.{◌≡◌, ◌<◌, ◌≤◌, ◌^◌, ℕ,
 ghost use Rattle.te_model.specs.Network.{is_well_formed, link_count};
 ghost use Rattle.te_model.specs.Path.{share};
 ghost use Rattle.te_model.specs.declared.certificate.Block.{Block};
-ghost use Rattle.ratio_certificate.specs.Best.{balances, IsBestBlock, IsBestForAll, IsBestForMargin, IsBestScale};
+ghost use Rattle.te_model.specs.Demand.{lower_of, upper_of};
+ghost use Rattle.ratio_certificate.specs.Best.{balances, IsBestBetween, IsBestBlock, IsBestForAll, IsBestScale};
 ghost use Rattle.ratio_certificate.specs.Conditions.{IsRoutingWithin, IsSetWithin};
-ghost use Rattle.ratio_certificate.specs.Margin.{AreMarginNumbers, AreScalable, HasNoScale};
 ghost use Rattle.ratio_certificate.specs.Metric.{IsMetric};
-ghost use Rattle.ratio_certificate.specs.Tables.{AreValues};
+ghost use Rattle.ratio_certificate.specs.Scale.{AreScalable, HasNoScale};
+ghost use Rattle.shortest_path.specs.Pairs.{AreValues};
 
-use crate::margin::{added, greatest_balance, taken_back};
-use crate::metric::{Metric, metric_of, shares_of};
+use crate::balance::{added, greatest_balance, taken_back};
+use crate::metric::{Metric, metric_of};
 use crate::quotient::{greatest_quotient, has_free_share};
 use crate::rows::rows_of;
+use crate::shares::shares_of;
 use routing::Routing;
 use std::alloc::Global;
-use te_model::{Block, DemandSet, Items, Matrix, Memory, Network, SHARE_UNIT};
+use te_model::{Block, DemandSet, Items, Memory, Network, SHARE_UNIT};
 
-/// By what the weights of a block are scaled, and what is added and taken back for a margin.
+/// By what the weights of a block are scaled, and what is added and taken back between bounds.
 #[derive(Drop)]
 struct Scaling {
     a: u64,
@@ -45,20 +47,18 @@ fn scale_for_all(alloc: Global, shares: &[u64], distances: &[u64]) -> Option<Sca
     })
 }
 
-/// The best scale for a margin, or `None` where there is none.
-fn scale_for_margin(
+/// The best scale between the bounds of the set, or `None` where there is none.
+fn scale_between(
     alloc: Global,
-    num: u64,
-    den: u64,
-    base: &Matrix,
+    set: &DemandSet,
     shares: &[u64],
     distances: &[u64],
 ) -> Result<Option<Scaling>, Memory>
-    requires { AreMarginNumbers num den base.now.demand shares.now distances.now }
-    ensures some { IfOk result (λ o. IfSome o (λ s. IsBestForMargin num den base.now.demand (length shares.now) (slice_index shares.now) (slice_index distances.now) s.a s.b s.plus s.minus)) }
-    ensures none { IfOk result (λ o. IfNone o (balances num den base.now.demand (slice_index shares.now) (slice_index distances.now) 1 ≡ false)) }
+    requires { AreScalable set.now shares.now distances.now }
+    ensures some { IfOk result (λ o. IfSome o (λ s. IsBestBetween (lower_of set.now) (upper_of set.now) (length shares.now) (slice_index shares.now) (slice_index distances.now) s.a s.b s.plus s.minus)) }
+    ensures none { IfOk result (λ o. IfNone o (balances (lower_of set.now) (upper_of set.now) (length shares.now) (slice_index shares.now) (slice_index distances.now) 1 ≡ false)) }
 {
-    match greatest_balance(num, den, base.demand.as_slice(), shares, distances) {
+    match greatest_balance(set, shares, distances) {
         Some(b) => {
             let plus = added(alloc, shares, distances, b)?;
             let minus = taken_back(alloc, shares, distances, b)?;
@@ -88,9 +88,8 @@ fn scale_of(
     let distances = metric.distances.as_slice();
     match set {
         DemandSet::All => Ok(scale_for_all(alloc, shares, distances)),
-        DemandSet::Margin { num, den, base } => {
-            scale_for_margin(alloc, *num, *den, base, shares, distances)
-        }
+        DemandSet::Margin { .. } => scale_between(alloc, set, shares, distances),
+        DemandSet::Box { .. } => scale_between(alloc, set, shares, distances),
     }
 }
 

@@ -1,6 +1,6 @@
 //! The need of a block.
 ghost use Rattle.std.specs.Prelude.{◌≡◌, ◌*◌, ◌^◌, ◌<◌, ◌≤◌, ℕ, All, IsTrue, length};
-ghost use Rattle.te_model.specs.declared.limits.TheConstants.{FORMAT_1};
+ghost use Rattle.te_model.specs.declared.limits.TheConstants.{FORMAT_2};
 ghost use Rattle.te_model.specs.Network.{is_well_formed, link_count, capacity_of};
 ghost use Rattle.te_model.specs.Bounds.{HasSmallNumbers};
 ghost use Rattle.te_model.specs.Certificate.{weight_of};
@@ -14,7 +14,7 @@ use te_model::{Block, Network, RATIO_UNIT, SHARE_UNIT, ceil_div, weighted_capaci
 #[tactic(auto, using(crate::proofs::Sizes::sizes))]
 fn need_within(net: &Network, block: &Block) -> u128
     requires link { block.now.link < link_count net.now }
-    requires links { link_count net.now ≤ FORMAT_1.links }
+    requires links { link_count net.now ≤ FORMAT_2.links }
     requires capacities { (h : ℕ) → capacity_of net.now h ≤ 2 ^ 32 }
     requires capacity { 1 ≤ capacity_of net.now block.now.link }
     requires count { length block.now.weights ≡ link_count net.now }

@@ -5,20 +5,17 @@
 //! - `make`: a certificate of a routing.
 #![tactic(auto)]
 
+mod balance;
 mod best;
 mod capacity;
-mod crossing;
-mod crossings;
-mod law;
 mod making;
-mod margin;
 mod metric;
 mod quotient;
 mod rows;
+mod shares;
 
 pub use best::scale;
 pub use capacity::need;
-pub use law::starting_weight_is_2_to_the_20;
 pub use making::make;
 
 #[cfg(test)]

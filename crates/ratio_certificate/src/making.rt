@@ -1,38 +1,23 @@
 //! The making of certificates.
-ghost use Rattle.std.specs.Prelude.{◌≡◌, ◌<◌, ◌≤◌, ◌^◌, ℕ, IfOk, IfSome, IfNone, All, IsTrue, false, true, length, slice_index};
+ghost use Rattle.std.specs.Prelude.{◌≡◌, ◌≤◌, IfOk, IfSome, IfNone, IsTrue, length};
 ghost use Rattle.te_model.specs.Network.{is_well_formed, link_count};
-ghost use Rattle.te_model.specs.Path.{share};
-ghost use Rattle.te_model.specs.Validity.{AscendByLink};
-ghost use Rattle.te_model.specs.declared.certificate.Block.{Block};
-ghost use Rattle.ratio_certificate.specs.Conditions.{IsRoutingWithin, IsSetWithin};
-ghost use Rattle.ratio_certificate.specs.Crossings.{weight_of, AreCrossings};
+ghost use Rattle.routing.specs.Shares.{AreShares, AreSharesOn};
+ghost use Rattle.ratio_certificate.specs.Conditions.{IsNoBox, IsRoutingWithin, IsSetWithin};
 ghost use Rattle.ratio_certificate.specs.Made.{starting_weights, AreStartingBlocks, HasShare, IsMade, IsStartingBlock};
 ghost use Rattle.ratio_certificate.specs.Metric.{IsMetric};
 
 use crate::best::best_block;
 use crate::capacity::greatest_need;
-use crate::crossing::{Crossing, Crossings};
-use crate::crossings::{crossings_of, shares_by};
 use crate::metric::{Metric, metric_of};
-use routing::Routing;
+use crate::shares::shares_by;
+use routing::{PairShare, Routing, Shares};
 use std::alloc::Global;
-use te_model::{Block, Certificate, DemandSet, Head, Items, Memory, Network, copy_network};
+use te_model::{
+    Block, Certificate, DemandSet, FORMAT_1, Head, Items, Memory, Network, copy_network,
+};
 
 /// The weight of every link from which a certificate starts.
 const STARTING_WEIGHT: u64 = 1 << 20;
-
-/// Whether some share is above 0.
-fn has_share(shares: &[u64]) -> bool
-    ensures some { result ≡ true → (p : ℕ) × (p < length shares.now) × (0 < slice_index shares.now p) }
-    ensures none { result ≡ false → (p : ℕ) → p < length shares.now → slice_index shares.now p ≡ 0 }
-{
-    for p in 0..shares.len() {
-        if shares[p] > 0 {
-            return true;
-        }
-    }
-    false
-}
 
 /// The best block of the link, or `None` where no pair has a share on it.
 fn starting_block(
@@ -42,24 +27,23 @@ fn starting_block(
     routing: &Routing,
     set: &DemandSet,
     link: u32,
-    crossings: &[Crossing],
+    list: &[PairShare],
 ) -> Result<Option<Block>, Memory>
     requires network { IsTrue (is_well_formed net.now) }
     requires metric { IsMetric net.now routing.now.routes metric.now }
     requires weights { metric.now.weights ≡ starting_weights net.now }
     requires routing { IsRoutingWithin net.now routing.now.routes }
     requires set { IsSetWithin (length routing.now.routes) set.now }
-    requires crossings { (q : ℕ) → weight_of crossings.now q ≡ share routing.now.routes q link }
+    requires list { AreSharesOn routing.now.routes link list.now }
     ensures link { IfOk result (λ o. IfSome o (λ b. b.link ≡ link)) }
     ensures best { IfOk result (λ o. IfSome o (λ b. IsStartingBlock net.now routing.now.routes set.now b)) }
     ensures none { IfOk result (λ o. IfNone o (HasShare routing.now.routes link → ⊥)) }
 {
-    let shares = shares_by(alloc, crossings, routing.routes.as_slice().len())?;
-    if has_share(&shares) {
-        best_block(alloc, net, metric, routing, set, link, &shares)
-    } else {
-        Ok(None)
+    if list.is_empty() {
+        return Ok(None);
     }
+    let shares = shares_by(alloc, routing, link, list)?;
+    best_block(alloc, net, metric, routing, set, link, &shares)
 }
 
 /// The best blocks of the links on which there is a share, ascending by link.
@@ -69,14 +53,14 @@ fn starting_blocks(
     metric: &Metric,
     routing: &Routing,
     set: &DemandSet,
-    table: &[Crossings],
+    shares: &Shares,
 ) -> Result<Vec<Block>, Memory>
     requires network { IsTrue (is_well_formed net.now) }
     requires metric { IsMetric net.now routing.now.routes metric.now }
     requires weights { metric.now.weights ≡ starting_weights net.now }
     requires routing { IsRoutingWithin net.now routing.now.routes }
     requires set { IsSetWithin (length routing.now.routes) set.now }
-    requires table { AreCrossings net.now routing.now.routes table.now }
+    requires shares { AreShares net.now routing.now.routes shares.now }
     ensures { IfOk result (λ b. AreStartingBlocks (link_count net.now) net.now routing.now.routes set.now b.items) }
 {
     let mut blocks = Vec::new(alloc);
@@ -88,7 +72,7 @@ fn starting_blocks(
             routing,
             set,
             e as u32,
-            table[e].as_slice(),
+            shares.on(e as u32),
         )? {
             Some(block) => blocks.push(block)?,
             None => {}
@@ -112,18 +96,20 @@ pub fn make(
     requires links { 1 ≤ link_count net.now }
     requires routing { IsRoutingWithin net.now routing.now.routes }
     requires set { IsSetWithin (length routing.now.routes) set }
+    requires first { IsNoBox set }
     ensures { IfOk result (IsMade net.now routing.now.routes set) }
 {
     let links = net.links.as_slice().len();
     let weights = vec![in alloc; STARTING_WEIGHT; links]?;
     let metric = metric_of(alloc, net, routing, weights)?;
-    let table = crossings_of(alloc, net, routing)?;
-    let blocks = starting_blocks(alloc, net, &metric, routing, &set, &table)?;
+    let shares = Shares::new(alloc, net, routing)?;
+    let blocks = starting_blocks(alloc, net, &metric, routing, &set, &shares)?;
     let ratio = greatest_need(net, &blocks) as u64;
     let network = copy_network(alloc, net)?;
     let routes = routing.copy(alloc)?.routes;
     Ok(Certificate {
         head: Head {
+            format: FORMAT_1.format,
             network,
             routes,
             set,

@@ -2,10 +2,11 @@
 ghost use Rattle.std.specs.Prelude.{◌≡◌, ◌^◌, ◌≤◌, All, IfOk, IsTrue, length, slice_index};
 ghost use Rattle.te_model.specs.Laws.{PairsJoinNodes};
 ghost use Rattle.te_model.specs.Network.{is_well_formed, link_count};
-ghost use Rattle.te_model.specs.Path.{source_of, destination_of, share};
+ghost use Rattle.te_model.specs.Path.{source_of, destination_of};
 ghost use Rattle.te_model.specs.PathRouting.{IsPathRouting};
 ghost use Rattle.ratio_certificate.specs.Metric.{IsMetric};
-ghost use Rattle.ratio_certificate.specs.Tables.{AreValues, IsTable, row_at};
+ghost use Rattle.shortest_path.specs.Pairs.{AreValues};
+ghost use Rattle.ratio_certificate.specs.Tables.{IsTable, row_at};
 
 use routing::Routing;
 use shortest_path::potentials;
@@ -83,17 +84,4 @@ pub fn metric_of(
         table: Items::new(table),
         distances: Items::new(distances),
     })
-}
-
-/// The share of each pair on the link.
-pub fn shares_of(alloc: Global, routing: &Routing, link: u32) -> Result<Vec<u64>, Memory>
-    requires { length routing.now.routes ≤ 2 ^ 32 }
-    ensures { IfOk result (λ s. AreValues (length routing.now.routes) (λ p. share routing.now.routes p link) s.items) }
-{
-    let pairs = routing.routes.as_slice().len();
-    let mut shares = Vec::with_capacity(alloc, pairs)?;
-    for p in 0..pairs {
-        shares.push(routing.share(p as u32, link))?;
-    }
-    Ok(shares)
 }

@@ -24,7 +24,7 @@ pub fn has_free_share(shares: &[u64], distances: &[u64]) -> bool
 }
 
 /// The greater of two quotients, the first if they are equal.
-#[tactic(auto, using(crate::proofs::Sizes::product_fits))]
+#[tactic(auto, using(te_model::proofs::Sizes::product_fits))]
 fn greater(first: Quotient, second: Quotient) -> Quotient
     ensures second { first.share * second.distance < second.share * first.distance → result ≡ second }
     ensures first { second.share * first.distance ≤ first.share * second.distance → result ≡ first }

@@ -1,6 +1,8 @@
 //! The rows of a best block.
 ghost use Rattle.std.specs.Prelude.{◌≡◌, ◌<◌, ◌≤◌, ℕ, IfOk, IfSome, IfNone, false, true, length, slice_index, slice_index_or};
+ghost use Rattle.te_model.specs.declared.limits.TheConstants.{FORMAT_2};
 ghost use Rattle.te_model.specs.Laws.{PairsJoinNodes};
+ghost use Rattle.te_model.specs.Network.{node_count};
 ghost use Rattle.te_model.specs.Path.{source_of};
 ghost use Rattle.ratio_certificate.specs.Best.{needs_row, AreRows};
 ghost use Rattle.ratio_certificate.specs.Marks.{AreSourceMarks};
@@ -19,6 +21,7 @@ fn needs_row(set: &DemandSet, share: u64) -> bool
     match set {
         DemandSet::All => share > 0,
         DemandSet::Margin { .. } => true,
+        DemandSet::Box { .. } => true,
     }
 }
 
@@ -47,7 +50,7 @@ fn sources_of(
 /// The row of a node by the table of potentials.
 fn row_of(alloc: Global, table: &[Items<u64>], node: usize) -> Result<Row, Memory>
     requires inside { node < length table.now }
-    requires few { length table.now ≤ 64 }
+    requires few { length table.now ≤ FORMAT_2.nodes }
     ensures { IfOk result (λ r. r ≡ record { source = node; potential = row_at table.now node }) }
 {
     let potential = Vec::from_slice(alloc, table[node].as_slice())?;
@@ -65,7 +68,7 @@ fn row_if_marked(
     node: usize,
 ) -> Result<Option<Row>, Memory>
     requires inside { node < length table.now }
-    requires few { length table.now ≤ 64 }
+    requires few { length table.now ≤ FORMAT_2.nodes }
     requires marks { length marks.now ≡ length table.now }
     ensures some { IfOk result (λ o. IfSome o (λ r. (r ≡ record { source = node; potential = row_at table.now node }) × (slice_index_or marks.now node false ≡ true))) }
     ensures none { IfOk result (λ o. IfNone o (slice_index_or marks.now node false ≡ false)) }
@@ -88,7 +91,7 @@ pub fn rows_of(
     shares: &[u64],
 ) -> Result<Vec<Row>, Memory>
     requires metric { IsMetric net.now routing.now.routes metric.now }
-    requires nodes { length net.now.names ≤ 64 }
+    requires nodes { node_count net.now ≤ FORMAT_2.nodes }
     requires pairs { PairsJoinNodes net.now routing.now.routes }
     requires shares { length shares.now ≡ length routing.now.routes }
     ensures { IfOk result (λ r. AreRows net.now metric.now.weights routing.now.routes set.now (slice_index shares.now) r.items) }

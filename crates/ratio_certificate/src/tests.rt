@@ -90,6 +90,22 @@ fn demands(alloc: Global, equal: bool) -> Result<DemandSet, AllocError>
     }
 }
 
+/// The matrices between two bounds that are the same, so those in which both demands are equal.
+fn bounded(alloc: Global) -> Result<DemandSet, AllocError>
+    ensures { IfOk result (IsSetWithin 2) }
+{
+    let lower = vec![in alloc; 10, 10]?;
+    let upper = vec![in alloc; 10, 10]?;
+    Ok(DemandSet::Box {
+        lower: Matrix {
+            demand: Items::new(lower),
+        },
+        upper: Matrix {
+            demand: Items::new(upper),
+        },
+    })
+}
+
 /// The best block of the first link for the weights, and its need.
 fn best_of_first(
     alloc: Global,
@@ -140,6 +156,20 @@ fn is_block(
         && block.minus.as_slice() == minus
 }
 
+/// Whether the best block of the first link, where both demands are equal, is the one that was found by hand.
+fn has_best_between(alloc: Global, set: &DemandSet) -> bool
+    requires { IsSetWithin 2 set.now }
+{
+    let weights = [1, 1, 0, 0];
+    let rows = [(0, [0, 0, 1]), (1, [0, 0, 1])];
+    match best_of_first(alloc, set, &weights) {
+        Ok(Some((block, least))) => {
+            is_block(&block, 0, 2, &weights, &rows, &[1, 0], &[0, 1]) && least == 1_000_000
+        }
+        _ => false,
+    }
+}
+
 #[test]
 fn best_blocks(rt: HostRuntime) -> Result<(), Fail> {
     let alloc = rt.alloc();
@@ -156,15 +186,10 @@ fn best_blocks(rt: HostRuntime) -> Result<(), Fail> {
         Ok(found) => assert!(rt; found.is_none()),
         Err(_) => assert!(rt; false),
     }
-    let equal = demands(alloc, true)?;
-    match best_of_first(alloc, &equal, &weights) {
-        Ok(Some((block, least))) => {
-            let rows = [(0, [0, 0, 1]), (1, [0, 0, 1])];
-            assert!(rt; is_block(&block, 0, 2, &weights, &rows, &[1, 0], &[0, 1]));
-            assert_eq!(rt; least, 1_000_000);
-        }
-        _ => assert!(rt; false),
-    }
+    let margin = demands(alloc, true)?;
+    assert!(rt; has_best_between(alloc, &margin));
+    let bounds = bounded(alloc)?;
+    assert!(rt; has_best_between(alloc, &bounds));
     Ok(())
 }
 

@@ -3,7 +3,7 @@ use Rattle.std.proofs.lemmas.Bool.Decides.{nat_tests}
 use Rattle.std.proofs.Common.{arith}
 use Rattle.te_model.specs.Network.{link_count}
 use Rattle.te_model.proofs.Valid.{block_small}
-use Rattle.ratio_certificate.proofs.Owed.{capacities_small, capacities_positive, few_links}
+use Rattle.te_model.proofs.WellFormed.{capacities_small, capacities_positive, few_links}
 use Rattle.ratio_certificate.proofs.capacity.need.Goals as goal
 
 pub need_within-requires-clause-link : goal.need_within-requires-clause-link

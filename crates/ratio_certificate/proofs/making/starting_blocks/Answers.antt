@@ -1,20 +1,17 @@
-use Rattle.std.proofs.Common.{◌+◌, ◌<◌, List, [], length, arith, ap, sym, subst, ◌∙◌}
-use Rattle.std.proofs.lemmas.List.{get_or_read}
+use Rattle.std.proofs.Common.{◌+◌, ◌<◌, List, length, arith, ap, sym, subst}
 use Rattle.te_model.specs.declared.certificate.Block.{Block}
-use Rattle.ratio_certificate.specs.declared.crossing.Crossing.{Crossing}
-use Rattle.ratio_certificate.specs.Crossings.{weight_of}
+use Rattle.te_model.specs.declared.network.Link.{Link}
+use Rattle.te_model.specs.Network.{link_count}
+use Rattle.routing.specs.Shares.{AreSharesOn}
 use Rattle.ratio_certificate.specs.Made.{AreStartingBlocks}
 use Rattle.ratio_certificate.proofs.Certificates.{block_added, block_left_out}
 use Rattle.ratio_certificate.proofs.making.starting_blocks.Goals as goal
 use Rattle.ratio_certificate.proofs.making.starting_blocks.Goals.{in-Some+in_ok-push-in-Some, in-None}
 
-pub starting_block-requires-clause-crossings : goal.starting_block-requires-clause-crossings
-starting_block-requires-clause-crossings c = λ q.
-    let table = c.args.table.now in
-    let e = c.loop-e.e in
-    let inside : e < length table = omega (arith, c.loop-e-test.true, ap length c.as_slice-e-end.ensures, c.requires.table.count) in
-    ap (λ (r : List Crossing). weight_of r q) (c.as_slice.ensures ∙ get_or_read table e c.index-table-e.result inside c.index-table-e.is [])
-    ∙ c.requires.table.shares e q (omega (arith, inside, c.requires.table.count))
+pub starting_block-requires-clause-list : goal.starting_block-requires-clause-list
+starting_block-requires-clause-list c =
+    let inside : c.loop-e.e < link_count c.args.net.now = omega (arith, c.loop-e-test.true, ap (λ (ls : List Link). length ls) c.as_slice-e-end.ensures) in
+    subst (AreSharesOn c.args.routing.now.routes c.loop-e.e) (sym c.on.ensures) (c.requires.shares.each c.loop-e.e inside)
 
 pub loop-e-preserved : goal.loop-e-preserved
 loop-e-preserved c =

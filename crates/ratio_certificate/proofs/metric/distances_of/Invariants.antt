@@ -1,6 +1,7 @@
 use Rattle.std.proofs.Common.{slice_index}
 use Rattle.te_model.specs.Path.{source_of, destination_of}
-use Rattle.ratio_certificate.specs.Tables.{AreValues, row_at}
+use Rattle.shortest_path.specs.Pairs.{AreValues}
+use Rattle.ratio_certificate.specs.Tables.{row_at}
 use Rattle.ratio_certificate.proofs.metric.distances_of.Given as goal
 
 abbrev pub invariant-loop-p : goal.invariant-loop-p

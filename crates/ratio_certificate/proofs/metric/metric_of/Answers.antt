@@ -1,6 +1,7 @@
 use Rattle.std.proofs.Common.{List, ℕ, length, slice_index, subst}
 use Rattle.te_model.specs.Path.{source_of, destination_of}
-use Rattle.ratio_certificate.specs.Tables.{AreValues, IsTable, row_at}
+use Rattle.shortest_path.specs.Pairs.{AreValues}
+use Rattle.ratio_certificate.specs.Tables.{IsTable, row_at}
 use Rattle.ratio_certificate.proofs.Distances.{metric_is}
 use Rattle.ratio_certificate.proofs.metric.metric_of.Goals as goal
 

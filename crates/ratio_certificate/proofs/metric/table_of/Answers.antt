@@ -1,7 +1,7 @@
 use Rattle.std.proofs.Common.{◌≡◌, ℕ, ◌+◌, ◌<◌, List, [], length, sym, subst}
 use Rattle.shortest_path.specs.Paths.{ArePotentials}
 use Rattle.ratio_certificate.specs.Tables.{row_at}
-use Rattle.ratio_certificate.proofs.Pushed.{pushed_count, pushed_each}
+use Rattle.shortest_path.proofs.Values.{pushed_count, pushed_each}
 use Rattle.ratio_certificate.proofs.metric.table_of.Goals as goal
 
 pub loop-i-preserved : goal.loop-i-preserved
