@@ -1,22 +1,22 @@
 -- Published files are accepted.
-use Rattle.std.proofs.Common.{ℕ, List, length, ap, arith}
+use Rattle.std.proofs.Common.{ℕ, List}
 use Rattle.te_model.specs.declared.network.Network.{Network}
 use Rattle.te_model.proofs.Failures.{none_from_holds}
 use Rattle.te_model.proofs.Oblivious.{holds_is_oblivious}
 use Rattle.traffic_matrix.specs.declared.series.Series.{Series}
 use Rattle.plan.specs.declared.experiment.Experiment.{Experiment}
-use Rattle.text_size.proofs.ValidSizes.{valid_text}
+use Rattle.text_size.proofs.ValidSizes.{fits_file}
 use Rattle.experiment.specs.Published.{IsAccepted, IsPublished}
 
 pub published_accepted : (plan : Experiment) (network : Network) (series : Series) (bytes : List ℕ) →
     IsPublished plan network series bytes → IsAccepted bytes
 published_accepted plan network series bytes is =
     let made = is.file.made in
-    let short = valid_text is.file.certificate made.valid in
+    let spelled = (made.valid, is.file.text_is) in
     record {
-      fits = omega (arith, ap (λ (b : List ℕ). length b) is.file.text_is, short);
+      fits = fits_file bytes is.file.certificate spelled;
       certificate = is.file.certificate;
-      spelled = (made.valid, is.file.text_is);
+      spelled = spelled;
       holds = made.holds;
       no_failure = none_from_holds is.file.certificate made.holds;
       ratio = holds_is_oblivious is.file.certificate made.valid made.holds;

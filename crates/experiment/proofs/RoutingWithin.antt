@@ -8,12 +8,12 @@ use Rattle.te_model.specs.declared.network.Network.{Network}
 use Rattle.te_model.specs.declared.route.Pair.{Pair}
 use Rattle.te_model.specs.declared.route.PairRoutes.{PairRoutes}
 use Rattle.te_model.specs.Network.{node_count, is_well_formed}
+use Rattle.te_model.specs.Pairs.{no_pair, pair_at, AscendPairs}
 use Rattle.te_model.specs.Path.{routes_at, no_routes, source_of, destination_of}
 use Rattle.routing.specs.Routes.{IsRoutingOf, HasFewPaths}
-use Rattle.scheme.specs.Reach.{ArePairsOf, IsPairOf, no_pair, pair_at}
+use Rattle.scheme.specs.Reach.{ArePairsOf, IsPairOf}
 use Rattle.ratio_certificate.specs.Conditions.{IsRoutingWithin}
-use Rattle.series_simulation.specs.AscendingPairs.{AscendPairs}
-use Rattle.series_simulation.proofs.FewPairs.{ascending_pairs_few}
+use Rattle.series_simulation.proofs.FewPairs.{network_pairs_few}
 
 -- the pair of the routes at a place
 same_pair : (pairs : List Pair) (routes : List PairRoutes) (p : ℕ) → map (λ r. r.pair) routes ≡ pairs → p < length routes →
@@ -45,6 +45,6 @@ routing_within net pairs routes formed are ascend routing few =
                 let second = lt-ltb (destination_of routes k) (destination_of routes (suc k)) (omega (arith, same.1, here_d, there_d)) in
                 grind (arith, nat_tests)
           ];
-      few = let all = ascending_pairs_few net pairs formed are.each ascend in omega (arith, all, count);
+      few = let all = network_pairs_few net pairs formed are.each ascend in omega (arith, all, count);
       few_paths = few;
     }

@@ -1,11 +1,12 @@
 -- What is published: the file of a certificate of the plan's oblivious routing.
-use Rattle.std.specs.Prelude.{◌≡◌, ℕ, ◌^◌, ◌≤◌, List, length, replicate, slice_index_or, Option, Some, None}
+use Rattle.std.specs.Prelude.{◌≡◌, ℕ, ◌≤◌, List, length, replicate, slice_index_or, Option, Some, None}
 use Rattle.te_model.specs.declared.network.Network.{Network}
 use Rattle.te_model.specs.declared.route.PairRoutes.{PairRoutes}
 use Rattle.te_model.specs.declared.certificate.Certificate.{Certificate}
 use Rattle.te_model.specs.declared.demand.Matrix.{Matrix}
 use Rattle.te_model.specs.declared.demand.DemandSet.{DemandSet}
 use Rattle.te_model.specs.declared.demand.DemandSet.TheVariants.{All, Margin}
+use Rattle.te_model.specs.FileLimit.{file_limit}
 use Rattle.te_model.specs.Inequalities.{Holds, first_failure}
 use Rattle.te_model.specs.Ratio.{IsObliviousRatio}
 use Rattle.te_model.specs.Text.{Spells, text}
@@ -41,10 +42,10 @@ pub record IsPublished (plan : Experiment) (net : Network) (series : Series) (by
   pub routing : IsSchemeRouting plan.publish plan net series.pairs.list routes
   pub file : IsMadeFile net (trimmed plan.budget routes) (published_set plan.margin series) bytes
 
--- the bytes fit a certificate's file, and spell a valid certificate of which no inequality fails, so its ratio is an
+-- the bytes are no more than a certificate's file may have, and spell a valid certificate of which no inequality fails, so its ratio is an
 -- oblivious ratio of its routing
 pub record IsAccepted (bytes : List ℕ) : Type 0 where
-  pub fits : length bytes ≤ 2 ^ 27
+  pub fits : length bytes ≤ file_limit bytes
   pub certificate : Certificate
   pub spelled : Spells bytes certificate
   pub holds : Holds certificate

@@ -1,12 +1,8 @@
 -- The text of a report: fields apart by commas (44), lines ended by a line feed (10).
-use Rattle.std.specs.Prelude.{ℕ, max, List, [], ◌∷◌, ◌++◌, Option, Some, None, codes, decimal, flat_map, fold, sum_by}
+use Rattle.std.specs.Prelude.{ℕ, ◌+◌, ◌≤◌, max, List, [], ◌∷◌, ◌++◌, Option, Some, None, codes, decimal, flat_map, fold}
 use Rattle.std.specs.List.{join_with_byte}
 use Rattle.series_simulation.specs.declared.step_row.StepRow.{StepRow}
 use Rattle.experiment.specs.declared.figures.Figures.{Figures}
-
--- the greatest over the rows, or 0 where there are none
-abbrev pub greatest_by : (StepRow → ℕ) → List StepRow → ℕ
-greatest_by f rows = fold (λ most row. max most (f row)) 0 rows
 
 -- the figures of a step
 abbrev pub figures_of : StepRow → Figures
@@ -20,17 +16,33 @@ figures_of row = record {
   parts = row.parts;
 }
 
+-- the figures of no step
+abbrev pub no_figures : Figures
+no_figures = record { offered = 0; delivered = 0; lost_full = 0; lost_failed = 0; lost_no_path = 0; peak = 0; parts = 0 }
+
+-- with those of one step more: its amounts are added, and the greater utilisations stay
+abbrev pub with_step : Figures → Figures → Figures
+with_step f step = record {
+  offered = f.offered + step.offered;
+  delivered = f.delivered + step.delivered;
+  lost_full = f.lost_full + step.lost_full;
+  lost_failed = f.lost_failed + step.lost_failed;
+  lost_no_path = f.lost_no_path + step.lost_no_path;
+  peak = max f.peak step.peak;
+  parts = max f.parts step.parts;
+}
+
 -- the figures of all steps: the sums of the amounts, and the greatest utilisations
 abbrev pub total_of : List StepRow → Figures
-total_of rows = record {
-  offered = sum_by (λ row. row.result.offered) rows;
-  delivered = sum_by (λ row. row.result.delivered) rows;
-  lost_full = sum_by (λ row. row.result.lost_full) rows;
-  lost_failed = sum_by (λ row. row.result.lost_failed) rows;
-  lost_no_path = sum_by (λ row. row.result.lost_no_path) rows;
-  peak = greatest_by (λ row. row.peak) rows;
-  parts = greatest_by (λ row. row.parts) rows;
-}
+total_of rows = fold (λ f row. with_step f (figures_of row)) no_figures rows
+
+-- each amount is at most this
+pub record AmountsAtMost (bound : ℕ) (f : Figures) : Type 0 where
+  pub offered : f.offered ≤ bound
+  pub delivered : f.delivered ≤ bound
+  pub lost_full : f.lost_full ≤ bound
+  pub lost_failed : f.lost_failed ≤ bound
+  pub lost_no_path : f.lost_no_path ≤ bound
 
 -- a lower bound, or a dash
 abbrev pub low_text : Option ℕ → List ℕ

@@ -1,5 +1,6 @@
 //! The demand set of a plan.
 ghost use Rattle.std.specs.Prelude.{◌≡◌, IfOk};
+ghost use Rattle.ratio_certificate.specs.Conditions.{IsNoBox};
 ghost use Rattle.experiment.specs.Published.{first_matrix, published_set};
 
 use std::alloc::Global;
@@ -25,7 +26,8 @@ pub fn published_set(
     margin: Option<(u64, u64)>,
     series: &Series,
 ) -> Result<DemandSet, Memory>
-    ensures { IfOk result (λ set. set ≡ published_set margin series.now) }
+    ensures set { IfOk result (λ set. set ≡ published_set margin series.now) }
+    ensures first { IfOk result IsNoBox }
 {
     match margin {
         Some((num, den)) => {

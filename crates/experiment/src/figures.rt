@@ -1,6 +1,6 @@
 //! The figures of a line of a report.
-ghost use Rattle.std.specs.Prelude.{◌≡◌, ◌≤◌, ◌^◌, length};
-ghost use Rattle.experiment.specs.Text.{figures_of, total_of};
+ghost use Rattle.std.specs.Prelude.{◌≡◌, ℕ, ◌+◌, ◌^◌};
+ghost use Rattle.experiment.specs.Text.{AmountsAtMost, figures_of, no_figures, with_step};
 
 use series_simulation::StepRow;
 
@@ -24,9 +24,25 @@ pub struct Figures {
 }
 
 impl Figures {
+    /// The figures of no step.
+    pub fn none() -> Figures
+        ensures { result ≡ no_figures }
+    {
+        Figures {
+            offered: 0,
+            delivered: 0,
+            lost_full: 0,
+            lost_failed: 0,
+            lost_no_path: 0,
+            peak: 0,
+            parts: 0,
+        }
+    }
+
     /// The figures of a step.
     pub fn of(row: &StepRow) -> Figures
-        ensures { result ≡ figures_of row.now }
+        ensures figures { result ≡ figures_of row.now }
+        ensures small { AmountsAtMost (2 ^ 64) result }
     {
         Figures {
             offered: u128::from(row.result.offered),
@@ -39,33 +55,19 @@ impl Figures {
         }
     }
 
-    /// The figures of all steps: the sums of the amounts, and the greatest utilisations, or 0 without steps.
-    pub fn total(rows: &[StepRow]) -> Figures
-        requires few { length rows.now ≤ 2 ^ 32 }
-        ensures { result ≡ total_of rows.now }
+    /// Takes in a step: its amounts are added, and the greater utilisations stay.
+    pub fn add(&mut self, step: Figures)
+        requires room { AmountsAtMost (2 ^ 127) self.old }
+        requires small { AmountsAtMost (2 ^ 64) step }
+        ensures total { self.new ≡ with_step self.old step }
+        ensures small { (bound : ℕ) → AmountsAtMost bound self.old → AmountsAtMost (bound + 2 ^ 64) self.new }
     {
-        Figures {
-            offered: rows.iter().map(|row| u128::from(row.result.offered)).sum(),
-            delivered: rows
-                .iter()
-                .map(|row| u128::from(row.result.delivered))
-                .sum(),
-            lost_full: rows
-                .iter()
-                .map(|row| u128::from(row.result.lost_full))
-                .sum(),
-            lost_failed: rows
-                .iter()
-                .map(|row| u128::from(row.result.lost_failed))
-                .sum(),
-            lost_no_path: rows
-                .iter()
-                .map(|row| u128::from(row.result.lost_no_path))
-                .sum(),
-            peak: rows
-                .iter()
-                .fold(0, |most, row| most.max(u128::from(row.peak))),
-            parts: rows.iter().fold(0, |most, row| most.max(row.parts)),
-        }
+        self.offered += step.offered;
+        self.delivered += step.delivered;
+        self.lost_full += step.lost_full;
+        self.lost_failed += step.lost_failed;
+        self.lost_no_path += step.lost_no_path;
+        self.peak = self.peak.max(step.peak);
+        self.parts = self.parts.max(step.parts);
     }
 }

@@ -1,10 +1,9 @@
 //! The lines of a scheme.
-ghost use Rattle.std.specs.Prelude.{◌≡◌, ◌≤◌, ◌^◌, ◌∷◌, ◌++◌, IfOk, OnOk, decimal, flat_map, length};
-ghost use Rattle.experiment.specs.Text.{line, row_line, scheme_lines, low_text};
+ghost use Rattle.std.specs.Prelude.{◌≡◌, ◌∷◌, ◌++◌, OnOk, codes, decimal};
+ghost use Rattle.experiment.specs.Text.{line, row_line, low_text};
 
 use crate::figures::Figures;
 use series_simulation::StepRow;
-use std::alloc::Global;
 use te_model::Memory;
 
 // Writes a comma and a field.
@@ -57,8 +56,8 @@ fn print_line(
     Ok(())
 }
 
-// Writes the line of a step.
-fn print_row(text: &mut Vec<u8>, word: &str, row: &StepRow) -> Result<(), Memory>
+/// Writes the line of a step.
+pub fn print_row(text: &mut Vec<u8>, word: &str, row: &StepRow) -> Result<(), Memory>
     ensures { OnOk result (text.new.items ≡ text.old.items ++ row_line word.now row.now) }
 {
     let mut digits = itoa::Buffer::new();
@@ -66,15 +65,9 @@ fn print_row(text: &mut Vec<u8>, word: &str, row: &StepRow) -> Result<(), Memory
     print_line(text, word, step, &Figures::of(row), row.low)
 }
 
-/// A line for each row, and the total of all rows.
-pub fn scheme_lines(alloc: Global, word: &str, rows: &[StepRow]) -> Result<Vec<u8>, Memory>
-    requires few { length rows.now ≤ 2 ^ 32 }
-    ensures { IfOk result (λ text. text.items ≡ scheme_lines word.now rows.now) }
+/// Writes the line of all steps.
+pub fn print_total(text: &mut Vec<u8>, word: &str, total: &Figures) -> Result<(), Memory>
+    ensures { OnOk result (text.new.items ≡ text.old.items ++ line word.now (codes "total") total.now None) }
 {
-    let mut text = Vec::new(alloc);
-    for row in rows {
-        print_row(&mut text, word, row)?;
-    }
-    print_line(&mut text, word, "total", &Figures::total(rows), None)?;
-    Ok(text)
+    print_line(text, word, "total", total, None)
 }

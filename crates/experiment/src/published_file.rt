@@ -2,12 +2,12 @@
 ghost use Rattle.std.specs.Prelude.{◌≤◌, IfOk, IfErr, OnOk, IsTrue, length};
 ghost use Rattle.te_model.specs.Network.{is_well_formed, link_count, node_count};
 ghost use Rattle.path_budget.specs.Budget.{trimmed};
-ghost use Rattle.ratio_certificate.specs.Conditions.{IsSetWithin};
+ghost use Rattle.ratio_certificate.specs.Conditions.{IsNoBox, IsSetWithin};
 ghost use Rattle.scheme.specs.Fault.{IsFault};
 ghost use Rattle.scheme.specs.Reach.{AllReached, ArePairsOf};
 ghost use Rattle.traffic_matrix.specs.Limits.{IsSeries};
 ghost use Rattle.plan.specs.Plan.{InRange};
-ghost use Rattle.series_simulation.specs.AscendingPairs.{AscendPairs};
+ghost use Rattle.te_model.specs.Pairs.{AscendPairs};
 ghost use Rattle.experiment.specs.Published.{IsMadeFile, IsPublished};
 
 use crate::demand_set::published_set;
@@ -36,6 +36,7 @@ fn scheme_file<S: Oblivious>(
     requires pairs { ArePairsOf network.now pairs.now.list }
     requires ascending { AscendPairs pairs.now.list }
     requires set { IsSetWithin (length pairs.now.list) set }
+    requires first { IsNoBox set }
     requires some { 1 ≤ budget }
     requires few { budget ≤ 32 }
     ensures file { IfOk result (λ file. (plan : S.Plan) × S.Scheme.is_plan scheme.now network.now pairs.now.list plan

@@ -10,7 +10,8 @@ ghost use Rattle.experiment.specs.Report.{IsReport};
 ghost use Rattle.experiment.specs.Schemes.{AreSchemeRows};
 ghost use Rattle.experiment.specs.Text.{scheme_lines};
 
-use crate::lines::scheme_lines;
+use crate::figures::Figures;
+use crate::lines::{print_row, print_total};
 use ecmp_split::Ecmp;
 use failure::Failures;
 use k_paths::Ksp;
@@ -19,12 +20,12 @@ use plan::{Experiment, Recovery, SchemeName};
 use racke_mix::Racke;
 use scheme::{Scheme, Spf};
 use semi_oblivious::Semi;
-use series_simulation::drive;
+use series_simulation::{prepare_connected, row_of};
 use std::alloc::Global;
 use te_model::{Memory, Network};
 use traffic_matrix::Series;
 
-/// The lines of a scheme that is driven through the series. `Memory` comes where memory is wanting.
+/// The lines of a scheme that is driven through the series, of which no row is kept. `Memory` comes where memory is wanting.
 fn lines_of<S: Scheme>(
     alloc: Global,
     scheme: &S,
@@ -41,9 +42,28 @@ fn lines_of<S: Scheme>(
         × AreStepRows S.PATHS (S.is_plan scheme.now) (S.relates scheme.now) S.Note.low network.now series.now failures.now recovery rows
         × (text.items ≡ scheme_lines word.now rows)) }
 {
-    let rows = drive(alloc, scheme, network, series, failures, recovery)?;
-    let lines = scheme_lines(alloc, word, rows.as_slice())?;
-    Ok(lines)
+    let prepared = prepare_connected(alloc, scheme, network, &series.pairs)?;
+    let steps = series.steps.as_slice().len();
+    let marks = failures.series(alloc, network, steps)?;
+    let mut text = Vec::new(alloc);
+    let mut total = Figures::none();
+    for step in 0..steps {
+        let failed = marks[step].as_slice();
+        let row = row_of(
+            alloc,
+            scheme,
+            network,
+            &prepared,
+            series,
+            failed,
+            recovery,
+            step as u32,
+        )?;
+        print_row(&mut text, word, &row)?;
+        total.add(Figures::of(&row));
+    }
+    print_total(&mut text, word, &total)?;
+    Ok(text)
 }
 
 /// The lines of the scheme of this name, with the plan's numbers and recovery. `Memory` comes where memory is wanting.

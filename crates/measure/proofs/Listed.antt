@@ -1,15 +1,13 @@
 -- Pairs of 64 nodes, listed in ascending order.
-use Rattle.std.proofs.Common.{◌≡◌, ℕ, suc, ◌+◌, ◌*◌, ◌<◌, ◌≤◌, List, length, All}
-use Rattle.std.specs.Prelude.{slice_index_or}
+use Rattle.std.proofs.Common.{◌≡◌, ◌⊎◌, ℕ, suc, ◌+◌, ◌*◌, ◌<◌, ◌≤◌, List, length, All, arith, inl, inr}
+use Rattle.std.proofs.lemmas.Bool.{cases_lt}
+use Rattle.std.proofs.lemmas.List.Elements.{All-get_or}
 use Rattle.te_model.specs.declared.route.Pair.{Pair}
-use Rattle.local_recovery.specs.Rates.{no_pair}
+use Rattle.te_model.specs.Pairs.{no_pair, pair_at, AscendPairs}
 
 -- a number for each pair, which rises with the pairs
 abbrev number : Pair → ℕ
 number p = p.src * 64 + p.dst
-
-abbrev pair_at : List Pair → ℕ → Pair
-pair_at pairs k = slice_index_or pairs k no_pair
 
 -- two different nodes of 64, with a number below the bound
 pub record IsBelow (bound : ℕ) (p : Pair) : Type 0 where
@@ -23,3 +21,13 @@ pub record AreListed (bound : ℕ) (pairs : List Pair) : Type 0 where
   pub each : All (IsBelow bound) pairs
   pub few : length pairs ≤ bound
   pub rising : (k : ℕ) → suc k < length pairs → number (pair_at pairs k) < number (pair_at pairs (suc k))
+
+-- pairs whose numbers rise ascend
+rises : (p q : Pair) → p.dst < 64 → q.dst < 64 → number p < number q → (p.src < q.src) ⊎ ((p.src ≡ q.src) × (p.dst < q.dst))
+rises p q small small' less = elim (cases_lt p.src q.src) [ inl lt ↦ inl lt | inr ge ↦ inr (omega arith, omega arith) ]
+
+pub listed_ascend : (bound : ℕ) (pairs : List Pair) → AreListed bound pairs → AscendPairs pairs
+listed_ascend bound pairs are k below =
+    let low = All-get_or (IsBelow bound) pairs k no_pair (omega arith) are.each in
+    let high = All-get_or (IsBelow bound) pairs (suc k) no_pair below are.each in
+    rises (pair_at pairs k) (pair_at pairs (suc k)) low.dst high.dst (are.rising k below)

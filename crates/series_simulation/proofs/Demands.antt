@@ -4,7 +4,7 @@ use Rattle.std.proofs.lemmas.List.{length-take-le, take_more}
 use Rattle.std.proofs.lemmas.List.Elements.{All-nil, All-cons, All-head, All-tail}
 use Rattle.te_model.specs.declared.route.Pair.{Pair}
 use Rattle.routing.specs.Routes.{AreDemands}
-use Rattle.scheme.specs.Reach.{no_pair}
+use Rattle.te_model.specs.Pairs.{no_pair}
 use Rattle.series_simulation.specs.Connected.{demands_of}
 
 -- the demand of one pair, if it passes

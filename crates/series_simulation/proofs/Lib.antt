@@ -7,4 +7,5 @@ pub mod FewPairs
 pub mod SeriesLemmas
 mod Spreading
 mod Carried
-mod Rowing
+pub mod Rowing
+pub mod Marking

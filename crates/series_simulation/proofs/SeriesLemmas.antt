@@ -1,23 +1,20 @@
 -- What the pairs of a series promise, and those of them that pass a test.
-use Rattle.std.proofs.Common.{◌≡◌, ℕ, suc, ◌<◌, Bool, true, not, ◌&&◌, List, length, map, filter, get_or, All, arith, refl, ap, sym, ◌∙◌, inl, inr, ◌==◌, nat_lt}
-use Rattle.std.proofs.lemmas.Bool.{and_from, eq-eqb, lt-ltb, or_left, or_right}
+use Rattle.std.proofs.Common.{◌≡◌, ℕ, suc, ◌<◌, Bool, true, not, List, length, map, filter, get_or, All, arith, refl, ap, sym, ◌∙◌}
 use Rattle.std.proofs.lemmas.List.Elements.{All-filter, All-get_or, All-weaker, filter_passes}
-use Rattle.std.proofs.lemmas.List.{length-map}
 use Rattle.std.proofs.lemmas.List.Filters.{length-filter_both}
 use Rattle.te_model.specs.declared.network.Network.{Network}
 use Rattle.te_model.specs.declared.route.Pair.{Pair}
-use Rattle.te_model.specs.declared.route.PairRoutes.{PairRoutes}
 use Rattle.te_model.specs.Network.{is_well_formed, node_count}
+use Rattle.te_model.specs.Pairs.{no_pair, AscendPairs}
 use Rattle.routing.specs.Routes.{AreDemands}
 use Rattle.failure.specs.Survivor.{survivor_of}
-use Rattle.scheme.specs.Reach.{AllReached, ArePairsOf, IsPairOf, no_pair}
-use Rattle.local_recovery.specs.Rates.{ArePairs, IsPairBelow}
+use Rattle.scheme.specs.Reach.{AllReached, ArePairsOf, IsPairOf}
+use Rattle.local_recovery.specs.Rates.{ArePairs}
 use Rattle.traffic_matrix.specs.declared.series.Series.{Series}
-use Rattle.traffic_matrix.specs.Limits.{Below, IsSeries}
+use Rattle.traffic_matrix.specs.Limits.{IsSeries}
 use Rattle.traffic_matrix.specs.Text.{no_matrix}
-use Rattle.series_simulation.specs.AscendingPairs.{AscendPairs}
 use Rattle.series_simulation.specs.Connected.{TellsPaths}
-use Rattle.series_simulation.proofs.FewPairs.{ascending_pairs_few}
+use Rattle.series_simulation.proofs.FewPairs.{network_pairs_few}
 
 pub ascending_pairs : (n : ℕ) (series : Series) → IsSeries n series → AscendPairs series.pairs.list
 ascending_pairs n series is k below = is.ascending k (suc k) no_pair (omega arith) below
@@ -25,26 +22,19 @@ ascending_pairs n series is k below = is.ascending k (suc k) no_pair (omega arit
 each_pair : (net : Network) (series : Series) → IsSeries (node_count net) series → All (IsPairOf net) series.pairs.list
 each_pair net series is k d below =
     let pair = is.pairs k d below in
-    record { src_inside = pair.src; dst_inside = pair.dst; apart = pair.differ }
+    record { src_inside = pair.src_inside; dst_inside = pair.dst_inside; apart = pair.apart }
 
 -- pairs as schemes want them
 pub series_pairs : (net : Network) (series : Series) → is_well_formed net ≡ true → IsSeries (node_count net) series → ArePairsOf net series.pairs.list
 series_pairs net series formed is =
     let each = each_pair net series is in
-    record { each = each; few = omega (arith, ascending_pairs_few net series.pairs.list formed each (ascending_pairs (node_count net) series is)) }
-
-below_test : (p q : Pair) → Below p q → IsPairBelow p q
-below_test p q (inl lt) = or_left (nat_lt p.src q.src) (p.src == q.src && nat_lt p.dst q.dst) (lt-ltb p.src q.src lt)
-below_test p q (inr same) =
-    or_right (nat_lt p.src q.src) (p.src == q.src && nat_lt p.dst q.dst)
-    (and_from (p.src == q.src) (nat_lt p.dst q.dst) (eq-eqb p.src q.src same.0) (lt-ltb p.dst q.dst same.1))
+    record { each = each; few = omega (arith, network_pairs_few net series.pairs.list formed each (ascending_pairs (node_count net) series is)) }
 
 -- pairs as a step wants them
 pub series_rates : (net : Network) (series : Series) → IsSeries (node_count net) series → ArePairs net series.pairs.list
 series_rates net series is = record {
-  nodes = λ k d below. let pair = is.pairs k d below in (pair.src, pair.dst);
-  ascending = λ k below. below_test (get_or series.pairs.list k no_pair) (get_or series.pairs.list (suc k) no_pair)
-      (is.ascending k (suc k) no_pair (omega arith) below);
+  nodes = λ k d below. let pair = is.pairs k d below in (pair.src_inside, pair.dst_inside);
+  ascending = ascending_pairs (node_count net) series is;
 }
 
 -- the demands of a step
@@ -68,10 +58,6 @@ passing_reached net test pairs are tells p below =
     let passes = All-get_or (λ (q : Pair). test q ≡ true) (filter test pairs) p no_pair below (filter_passes test pairs) in
     let of = All-get_or (IsPairOf net) (filter test pairs) p no_pair below (All-filter test (IsPairOf net) pairs are.each) in
     (tells pair of).0 passes
-
--- the pairs of a routing are as many as its routes
-pub routed_count : (pairs : List Pair) (routes : List PairRoutes) → map (λ r. r.pair) routes ≡ pairs → length routes ≡ length pairs
-routed_count pairs routes in_order = sym (length-map routes (λ (r : PairRoutes). r.pair)) ∙ ap (λ (ps : List Pair). length ps) in_order
 
 -- failures take no pair's nodes
 pub surviving_pairs : (net : Network) (failed : List Bool) (pairs : List Pair) → ArePairsOf net pairs → ArePairsOf (survivor_of net failed).network pairs

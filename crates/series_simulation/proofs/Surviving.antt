@@ -7,6 +7,7 @@ use Rattle.std.proofs.lemmas.List.FromFn.{get_or-range_with_len, length-range_wi
 use Rattle.std.proofs.lemmas.List.Kept.{AllPairs-filter}
 use Rattle.te_model.specs.declared.network.Network.{Network}
 use Rattle.te_model.specs.Network.{link_at, link_count, no_link}
+use Rattle.te_model.proofs.Lists.{range-below}
 use Rattle.failure.specs.Survivor.{surviving_links, survivor_of}
 use Rattle.series_simulation.proofs.Order.{Ascends}
 use Rattle.series_simulation.proofs.Mapping.{IsPartOf}
@@ -16,15 +17,12 @@ range_ascends n i j d before inside =
     let size = length-range_with_len 0 n in
     omega (arith, before, get_or-range_with_len 0 n i d (omega (arith, before, inside, size)), get_or-range_with_len 0 n j d (omega (arith, inside, size)))
 
-range_below : (n m : ℕ) → n ≡ m → All (λ k. k < m) (range_with_len 0 n)
-range_below n m e k d low = omega (arith, get_or-range_with_len 0 n k d (omega (arith, length-range_with_len 0 n)), length-range_with_len 0 n)
-
 pub survivor_part : (net : Network) (failed : List Bool) → length failed ≡ link_count net →
     IsPartOf (survivor_of net failed).network net (survivor_of net failed).origin
 survivor_part net failed marks = record {
   count = length-map (surviving_links failed) (link_at net);
   inside = All-filter (λ h. not (get_or failed h false)) (λ h. h < link_count net) (range_with_len 0 (length failed))
-      (range_below (length failed) (link_count net) marks);
+      (range-below (length failed) (link_count net) marks);
   ascending = AllPairs-filter (λ g h. g < h) (λ h. not (get_or failed h false)) (range_with_len 0 (length failed)) (range_ascends (length failed));
   same = λ h below. get_or-map (link_at net) (surviving_links failed) h 0 no_link
       (omega (arith, below, length-map (surviving_links failed) (link_at net)));

@@ -1,4 +1,3 @@
-pub mod AscendingPairs
 pub mod Connected
 pub mod OriginalLinks
 pub mod Simulation

@@ -1,14 +1,13 @@
 -- The rows of a report: a scheme routes the matrix of each step, and the step is simulated (after YATES; Kumar et al., 2018).
-use Rattle.std.specs.Prelude.{ℕ, ◌≡◌, ◌<◌, Bool, false, List, [], length, map, filter, Option, None, MatchBool, slice_index_or}
-use Rattle.std.specs.List.{list_any, range_with_len}
+use Rattle.std.specs.Prelude.{ℕ, ◌≡◌, ◌<◌, Bool, false, List, [], length, filter, Option, None, MatchBool, slice_index_or}
+use Rattle.std.specs.List.{list_any}
 use Rattle.te_model.specs.declared.network.Network.{Network}
 use Rattle.te_model.specs.declared.route.Pair.{Pair}
 use Rattle.te_model.specs.declared.route.PairRoutes.{PairRoutes}
-use Rattle.te_model.specs.Network.{link_count}
 use Rattle.routing.specs.Routes.{IsRoutingOf, HasFewPaths}
 use Rattle.routing.specs.Utilisation.{parts}
 use Rattle.failure.specs.declared.outage.Failures.{Failures}
-use Rattle.failure.specs.Failed.{has_failed}
+use Rattle.failure.specs.Series.{marks_of}
 use Rattle.failure.specs.Survivor.{survivor_of}
 use Rattle.local_recovery.specs.declared.mode.Mode.{Mode}
 use Rattle.local_recovery.specs.declared.mode.Mode.TheVariants as mode
@@ -24,10 +23,6 @@ use Rattle.series_simulation.specs.Simulation.{IsSimulated, peak_of}
 -- the demands of a step
 abbrev pub demands_in : Series → ℕ → List ℕ
 demands_in series k = (slice_index_or series.steps k no_matrix).demand
-
--- for each link whether it has failed in the step
-abbrev pub failed_in : Network → Failures → ℕ → List Bool
-failed_in net failures k = map (has_failed failures k) (range_with_len 0 (link_count net))
 
 -- how traffic goes on where links of its paths have failed; a routing that is made anew is kept
 abbrev pub mode_of : Recovery → Mode
@@ -98,4 +93,4 @@ module _ {Plan Note : Type 0} (limit : ℕ) (is_plan : Network → List Pair →
     pub count : length rows ≡ length series.steps
     pub steps : (k : ℕ) → k < length rows → (step_row_at rows k).step ≡ k
     pub each : (k : ℕ) → k < length rows →
-        IsStepRow net (failed_in net failures k) series.pairs.list (demands_in series k) recovery plan (step_row_at rows k)
+        IsStepRow net (marks_of net failures k) series.pairs.list (demands_in series k) recovery plan (step_row_at rows k)

@@ -5,7 +5,8 @@ use Rattle.te_model.specs.declared.route.Pair.{Pair}
 use Rattle.te_model.specs.declared.route.PairRoutes.{PairRoutes}
 use Rattle.te_model.specs.declared.units.TheConstants.{RATIO_UNIT}
 use Rattle.te_model.specs.Network.{link_count, capacity_of}
-use Rattle.routing.specs.Utilisation.{quotient_up, greatest_below}
+use Rattle.te_model.specs.Counting.{greatest_below}
+use Rattle.te_model.specs.Division.{quotient_up}
 use Rattle.local_recovery.specs.declared.mode.Mode.{Mode}
 use Rattle.local_recovery.specs.Recovery.{IsRecovered}
 use Rattle.local_recovery.specs.Spread.{IsSpread}

@@ -1,6 +1,7 @@
 //! The simulation of a series: any scheme routes the traffic matrix of each step, and the step is simulated.
 //!
 //! - `drive`: one row for each step.
+//! - `prepare_connected`, `row_of`: what serves all steps, and the row of one of them.
 //! - `StepRow`: what became of the traffic of a step, and how far the links were used.
 #![tactic(auto)]
 
@@ -16,7 +17,8 @@ mod step_routing;
 mod step_row;
 mod step_simulation;
 
-pub use series_rows::drive;
+pub use preparation::prepare_connected;
+pub use series_rows::{drive, row_of};
 pub use step_row::StepRow;
 
 #[cfg(test)]

@@ -2,7 +2,7 @@
 ghost use Rattle.std.specs.Prelude.{◌≡◌, ◌*◌, ◌≤◌, EachIndex, IsTrue, length, slice_index};
 ghost use Rattle.te_model.specs.declared.units.TheConstants.{RATIO_UNIT};
 ghost use Rattle.te_model.specs.Network.{is_well_formed, link_count, capacity_of};
-ghost use Rattle.routing.specs.Utilisation.{quotient_up};
+ghost use Rattle.te_model.specs.Division.{quotient_up};
 ghost use Rattle.series_simulation.specs.Simulation.{peak_of};
 
 use te_model::{Network, RATIO_UNIT, ceil_div};

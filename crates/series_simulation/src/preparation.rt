@@ -13,7 +13,9 @@ use te_model::{Memory, Network, Pairs};
 /// Which nodes of a network have a path to which, and a scheme's plan for the declared pairs that have one.
 #[derive(Drop)]
 pub struct Preparation<P> {
+    /// Which nodes have a path to which.
     pub reach: Reachability,
+    /// The plan for the pairs that have a path.
     pub plan: P,
 }
 

@@ -45,7 +45,7 @@ pub fn route_connected<S: Scheme>(
 {
     let reached = connected_matrix(alloc, &prepared.reach, pairs, matrix)?;
     let (routing, note) = scheme.route(alloc, net, &prepared.plan, &reached)?;
-    let parts = routing.parts(net, &reached);
+    let parts = routing.greatest_utilisation(alloc, net, &reached)?;
     let low = note.low();
     Ok(SchemeRouting {
         routing,

@@ -1,9 +1,9 @@
 //! The rows of a scheme over a series of matrices, one for each step.
 ghost use Rattle.std.specs.Prelude.{◌≡◌, ◌<◌, ◌≤◌, ℕ, IfOk, IsTrue, filter, length};
-ghost use Rattle.te_model.specs.Network.{is_well_formed, node_count};
+ghost use Rattle.te_model.specs.Network.{is_well_formed, link_count, node_count};
 ghost use Rattle.traffic_matrix.specs.Limits.{IsSeries};
 ghost use Rattle.series_simulation.specs.Connected.{TellsPaths, connects};
-ghost use Rattle.series_simulation.specs.Rows.{AreStepRows, IsStepRow, demands_in, failed_in, step_row_at};
+ghost use Rattle.series_simulation.specs.Rows.{AreStepRows, IsStepRow, demands_in, step_row_at};
 ghost use Rattle.series_simulation.specs.Simulation.{IsConservedStep};
 
 use crate::peak::peak;
@@ -19,36 +19,40 @@ use std::alloc::Global;
 use te_model::{Items, Memory, Network};
 use traffic_matrix::Series;
 
-/// The row of a step.
-fn row_of<S: Scheme>(
+/// The row of a step in which the marked links have failed, by what was prepared for the network.
+///
+/// The scheme routes the matrix of the pairs that have a path, and what is left of its routing takes the demands of the step; the other
+/// pairs lose theirs for want of a path. Under `Reroute`, where a link has failed, the scheme is prepared anew on the network without
+/// its failed links, for the pairs that have a path there. `failed` has one mark for each link. `Memory` comes where memory is wanting.
+pub fn row_of<S: Scheme>(
     alloc: Global,
     scheme: &S,
     net: &Network,
     prepared: &Preparation<S::Plan>,
     series: &Series,
-    failures: &Failures,
+    failed: &[bool],
     recovery: Recovery,
     step: u32,
 ) -> Result<StepRow, Memory>
     requires network { IsTrue (is_well_formed net.now) }
     requires series { IsSeries (node_count net.now) series.now }
+    requires marks { length failed.now ≡ link_count net.now }
     requires paths { S.PATHS ≤ 4096 }
     requires tells { TellsPaths net.now (connects prepared.now.reach) }
     requires planned { S.is_plan scheme.now net.now (filter (connects prepared.now.reach) series.now.pairs.list) prepared.now.plan }
     requires step { step < length series.now.steps }
     ensures step { IfOk result (λ row. row.step ≡ step) }
-    ensures row { IfOk result (IsStepRow S.PATHS (S.is_plan scheme.now) (S.relates scheme.now) S.Note.low net.now (failed_in net.now failures.now step)
+    ensures row { IfOk result (IsStepRow S.PATHS (S.is_plan scheme.now) (S.relates scheme.now) S.Note.low net.now failed.now
         series.now.pairs.list (demands_in series.now step) recovery prepared.now.plan) }
     ensures conserved { IfOk result (λ row. IsConservedStep (demands_in series.now step) row.result) }
 {
     let pairs = &series.pairs;
     let matrix = &series.steps.as_slice()[step as usize];
-    let failed = failures.marks(alloc, net, step)?;
     let routed = step_routing(
-        alloc, scheme, net, prepared, &failed, pairs, matrix, recovery,
+        alloc, scheme, net, prepared, failed, pairs, matrix, recovery,
     )?;
     let mode = mode_of(recovery);
-    let result = simulate(alloc, mode, net, &failed, pairs, matrix, &routed.routing)?;
+    let result = simulate(alloc, mode, net, failed, pairs, matrix, &routed.routing)?;
     let peak = peak(net, result.carried.as_slice());
     Ok(StepRow {
         step,
@@ -61,10 +65,7 @@ fn row_of<S: Scheme>(
 
 /// One row for each step of the series, by a scheme whose pairs have at most 4,096 paths each.
 ///
-/// The scheme is prepared for the declared pairs that have a path in the network. In each step it routes the matrix of these pairs, and
-/// what is left of its routing where links have failed takes the demands of the step; the other pairs lose theirs for want of a path.
-/// Under `Reroute`, in a step with a failed link, the scheme is prepared anew on the network without its failed links, for the pairs
-/// that have a path there. The only error is `Memory`, where memory is wanting. An outage of a link that the network does not have
+/// The scheme is prepared for the declared pairs that have a path in the network, and each row is that of `row_of`. The only error is `Memory`, where memory is wanting. An outage of a link that the network does not have
 /// changes nothing. (After YATES; Kumar and others, 2018.)
 pub fn drive<S: Scheme>(
     alloc: Global,
@@ -81,15 +82,17 @@ pub fn drive<S: Scheme>(
     ensures conserved { IfOk result (λ rows. (k : ℕ) → k < length rows → IsConservedStep (demands_in series.now k) (step_row_at rows k).result) }
 {
     let prepared = prepare_connected(alloc, scheme, net, &series.pairs)?;
+    let steps = series.steps.as_slice().len();
+    let marks = failures.series(alloc, net, steps)?;
     let mut rows = Vec::new(alloc);
-    for step in 0..series.steps.as_slice().len() {
+    for step in 0..steps {
         let row = row_of(
             alloc,
             scheme,
             net,
             &prepared,
             series,
-            failures,
+            marks[step].as_slice(),
             recovery,
             step as u32,
         )?;

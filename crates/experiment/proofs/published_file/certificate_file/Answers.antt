@@ -18,20 +18,20 @@ scheme_file-requires-in-Racke-clause-pairs c = series_pairs c.args.network.now c
 
 pub returns-in-Spf-clause-published : goal.returns-in-Spf-clause-published
 returns-in-Spf-clause-published c =
-    file_by_name Spf c.args.plan.now c.args.network.now c.args.series.now c.in_ok-set.set (λ p. p.routing.routes) (λ p. refl) c.in-Spf.is c.in_ok-set.ensures
+    file_by_name Spf c.args.plan.now c.args.network.now c.args.series.now c.in_ok-set.set (λ p. p.routing.routes) (λ p. refl) c.in-Spf.is c.in_ok-set.ensures.set
     (λ file. file.items) c.scheme_file.result c.scheme_file.ensures.file
 
 pub returns-in-Ecmp-clause-published : goal.returns-in-Ecmp-clause-published
 returns-in-Ecmp-clause-published c =
-    file_by_name Ecmp c.args.plan.now c.args.network.now c.args.series.now c.in_ok-set.set (λ p. p.routing.routes) (λ p. refl) c.in-Ecmp.is c.in_ok-set.ensures
+    file_by_name Ecmp c.args.plan.now c.args.network.now c.args.series.now c.in_ok-set.set (λ p. p.routing.routes) (λ p. refl) c.in-Ecmp.is c.in_ok-set.ensures.set
     (λ file. file.items) c.scheme_file-in-Ecmp.result c.scheme_file-in-Ecmp.ensures.file
 
 pub returns-in-Ksp-clause-published : goal.returns-in-Ksp-clause-published
 returns-in-Ksp-clause-published c =
-    file_by_name Ksp c.args.plan.now c.args.network.now c.args.series.now c.in_ok-set.set (λ p. p.routing.routes) (λ p. refl) c.in-Ksp.is c.in_ok-set.ensures
+    file_by_name Ksp c.args.plan.now c.args.network.now c.args.series.now c.in_ok-set.set (λ p. p.routing.routes) (λ p. refl) c.in-Ksp.is c.in_ok-set.ensures.set
     (λ file. file.items) c.scheme_file-in-Ksp.result c.scheme_file-in-Ksp.ensures.file
 
 pub returns-in-Racke-clause-published : goal.returns-in-Racke-clause-published
 returns-in-Racke-clause-published c =
-    file_by_name Racke c.args.plan.now c.args.network.now c.args.series.now c.in_ok-set.set (λ p. p.routing.routes) (λ p. refl) c.in-Racke.is c.in_ok-set.ensures
+    file_by_name Racke c.args.plan.now c.args.network.now c.args.series.now c.in_ok-set.set (λ p. p.routing.routes) (λ p. refl) c.in-Racke.is c.in_ok-set.ensures.set
     (λ file. file.items) c.scheme_file-in-Racke.result c.scheme_file-in-Racke.ensures.file

@@ -1,7 +1,7 @@
 use Rattle.std.proofs.Common.{◌≡◌, ℕ, ◌<◌, Bool, List, [], ◌∷◌, ◌++◌, length, take, get_or, arith, ap, sym, ◌∙◌}
 use Rattle.std.proofs.lemmas.List.{append-nil}
 use Rattle.te_model.specs.declared.route.Pair.{Pair}
-use Rattle.scheme.specs.Reach.{no_pair}
+use Rattle.te_model.specs.Pairs.{no_pair}
 use Rattle.series_simulation.specs.Connected.{demands_of, connects}
 use Rattle.series_simulation.proofs.Demands.{demands_more, one_demand}
 use Rattle.series_simulation.proofs.connected_pairs.connected_matrix.Goals as goal

@@ -4,7 +4,8 @@ use Rattle.te_model.specs.declared.network.Link.{Link}
 use Rattle.te_model.specs.declared.units.TheConstants.{RATIO_UNIT}
 use Rattle.te_model.specs.Network.{capacity_of, no_link, link_count}
 use Rattle.te_model.proofs.SoundLinks.{sound_links}
-use Rattle.routing.specs.Utilisation.{greatest_below, quotient_up}
+use Rattle.te_model.specs.Counting.{greatest_below}
+use Rattle.te_model.specs.Division.{quotient_up}
 use Rattle.series_simulation.specs.Simulation.{utilisation_on}
 use Rattle.series_simulation.proofs.peak.peak.Goals as goal
 

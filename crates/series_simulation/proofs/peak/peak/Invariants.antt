@@ -1,5 +1,5 @@
 use Rattle.std.proofs.Common.{◌≡◌}
-use Rattle.routing.specs.Utilisation.{greatest_below}
+use Rattle.te_model.specs.Counting.{greatest_below}
 use Rattle.series_simulation.specs.Simulation.{utilisation_on}
 use Rattle.series_simulation.proofs.peak.peak.Given as goal
 

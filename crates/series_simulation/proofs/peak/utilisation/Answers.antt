@@ -1,7 +1,7 @@
 use Rattle.std.proofs.Common.{◌≡◌, ◌*◌, arith, ap, ◌∙◌}
 use Rattle.te_model.specs.declared.units.TheConstants.{RATIO_UNIT}
-use Rattle.routing.specs.Utilisation.{quotient_up}
-use Rattle.routing.proofs.Quotients.{is_quotient_up}
+use Rattle.te_model.specs.Division.{quotient_up}
+use Rattle.te_model.proofs.Quotients.{is_quotient_up}
 use Rattle.series_simulation.proofs.peak.utilisation.Goals as goal
 
 pub returns : goal.returns

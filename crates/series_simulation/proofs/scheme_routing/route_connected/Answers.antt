@@ -3,7 +3,8 @@ use Rattle.routing.specs.Routes.{AreDemands}
 use Rattle.routing.specs.Utilisation.{parts}
 use Rattle.series_simulation.specs.Connected.{demands_of, connects}
 use Rattle.series_simulation.proofs.Demands.{demands_are}
-use Rattle.series_simulation.proofs.SeriesLemmas.{passing_pairs, routed_count}
+use Rattle.routing.proofs.InOrder.{routes_count}
+use Rattle.series_simulation.proofs.SeriesLemmas.{passing_pairs}
 use Rattle.series_simulation.proofs.scheme_routing.route_connected.Goals as goal
 
 pub route-requires-clause-plan : goal.route-requires-clause-plan
@@ -16,22 +17,22 @@ route-requires-clause-plan g c =
           (demands_are test c.args.pairs.now.list c.args.matrix.now.demand c.requires.demands),
     )
 
-pub parts-parts-requires-clause-pairs : goal.parts-parts-requires-clause-pairs
-parts-parts-requires-clause-pairs g c =
+pub greatest_utilisation-requires-clause-pairs : goal.greatest_utilisation-requires-clause-pairs
+greatest_utilisation-requires-clause-pairs g c =
     let net = c.args.net.now in
     let test = connects c.args.prepared.now.reach in
     let pairs = filter test c.args.pairs.now.list in
     let routing = c.in_ok-routing.ensures.routing pairs c.requires.planned in
-    omega (arith, routed_count pairs c.in_ok-routing.routing.routes routing.in_order, (passing_pairs net test c.args.pairs.now.list c.requires.pairs).few)
+    omega (arith, routes_count pairs c.in_ok-routing.routing.routes routing.in_order, (passing_pairs net test c.args.pairs.now.list c.requires.pairs).few)
 
-pub parts-parts-requires-clause-demands : goal.parts-parts-requires-clause-demands
-parts-parts-requires-clause-demands g c =
+pub greatest_utilisation-requires-clause-demands : goal.greatest_utilisation-requires-clause-demands
+greatest_utilisation-requires-clause-demands g c =
     let test = connects c.args.prepared.now.reach in
     let pairs = filter test c.args.pairs.now.list in
     let routing = c.in_ok-routing.ensures.routing pairs c.requires.planned in
     subst (λ (ds : List ℕ). AreDemands (length c.in_ok-routing.routing.routes) ds) (sym c.in_ok-reached.ensures)
     (subst (λ (n : ℕ). AreDemands n (demands_of test c.args.pairs.now.list c.args.matrix.now.demand))
-    (sym (routed_count pairs c.in_ok-routing.routing.routes routing.in_order))
+    (sym (routes_count pairs c.in_ok-routing.routing.routes routing.in_order))
     (demands_are test c.args.pairs.now.list c.args.matrix.now.demand c.requires.demands))
 
 pub returns-clause-routed : goal.returns-clause-routed
@@ -49,6 +50,6 @@ returns-clause-routed g c =
       note = c.in_ok-routing.note;
       related = subst (λ (ds : List ℕ). g.S.Scheme.relates c.args.scheme.now net pairs c.args.prepared.now.plan ds routes c.in_ok-routing.note)
           c.in_ok-reached.ensures (c.in_ok-routing.ensures.related pairs c.requires.planned);
-      most_is = c.parts-parts.ensures ∙ ap (λ (ds : List ℕ). parts net routes ds) c.in_ok-reached.ensures;
+      most_is = c.in_ok-parts.ensures ∙ ap (λ (ds : List ℕ). parts net routes ds) c.in_ok-reached.ensures;
       bound_is = c.low-low.ensures;
     }
