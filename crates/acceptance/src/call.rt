@@ -12,6 +12,8 @@ pub type File<'a> = (&'a str, &'a [&'a str]);
 #[derive(Clone, Copy)]
 pub enum Out<'a> {
     Text(&'a str),
+    /// A text in parts.
+    Parts(&'a [&'a str]),
     /// A certificate to which `check` says yes, and in which this text stands.
     Certificate(&'a str),
 }
@@ -54,6 +56,19 @@ pub fn says<'a>(
     }
 }
 
+/// A call that writes the text of these parts.
+pub fn writes<'a>(
+    words: &'a [&'a str],
+    files: &'a [File<'a>],
+    read: usize,
+    parts: &'a [&'a str],
+) -> Call<'a> {
+    Call {
+        out: Out::Parts(parts),
+        ..says(words, files, read, 0, "")
+    }
+}
+
 /// A call that publishes a certificate in which this text stands.
 pub fn publishes<'a>(
     words: &'a [&'a str],
@@ -91,15 +106,20 @@ fn status_of<D: Depot>(
     Ok(run(alloc, &all, depot, out, err))
 }
 
-/// The files, which are given in pieces of 64 bytes.
-pub fn depot_of(alloc: Global, files: &[File<'_>]) -> Result<MemDepot, Fail> {
-    let mut depot = MemDepot::new(alloc, 64)?;
+/// The files, which are given in pieces of so many bytes.
+fn depot_in_pieces(alloc: Global, files: &[File<'_>], piece: usize) -> Result<MemDepot, Fail> {
+    let mut depot = MemDepot::new(alloc, piece)?;
     for (name, parts) in files {
         if !parts.is_empty() {
             depot.add(name, joined(alloc, parts)?.as_bytes())?;
         }
     }
     Ok(depot)
+}
+
+/// The files, which are given in pieces of 64 bytes.
+pub fn depot_of(alloc: Global, files: &[File<'_>]) -> Result<MemDepot, Fail> {
+    depot_in_pieces(alloc, files, 64)
 }
 
 fn depot_for(alloc: Global, call: &Call<'_>) -> Result<MemDepot, Fail> {
@@ -125,6 +145,18 @@ fn is_accepted(rt: &impl Abort, alloc: Global, file: &[u8], text: &str) -> Resul
     Ok(())
 }
 
+/// `check` refuses the file of these bytes with this line.
+pub fn is_refused(rt: &impl Abort, alloc: Global, file: &[u8], line: &str) -> Result<(), Fail> {
+    let mut depot = MemDepot::new(alloc, 64)?;
+    depot.add("c", file)?;
+    let mut out = MemSink::new(alloc, 200, 200)?;
+    let mut err = MemSink::new(alloc, 200, 200)?;
+    let status = status_of(alloc, &["check", "c"], &mut depot, &mut out, &mut err)?;
+    assert_eq!(rt; status, 3);
+    assert_eq!(rt; err.bytes(), line.as_bytes());
+    Ok(())
+}
+
 /// Makes the call over the depot, and an `out` that takes 4 bytes at once.
 pub fn leaves_over<D: Depot>(
     rt: &impl Abort,
@@ -143,6 +175,10 @@ pub fn leaves_over<D: Depot>(
     match call.out {
         Out::Text(text) => {
             assert_eq!(rt; out.bytes(), text.as_bytes());
+            Ok(())
+        }
+        Out::Parts(parts) => {
+            assert_eq!(rt; out.bytes(), joined(alloc, parts)?.as_bytes());
             Ok(())
         }
         Out::Certificate(text) => is_accepted(rt, alloc, out.bytes(), text),
@@ -174,6 +210,13 @@ fn are_reads_of(
     assert_eq!(rt; read_files, call.read);
     assert!(rt; bytes.is_empty() || call.status == 4);
     Ok(())
+}
+
+/// Makes the call over files that are given byte by byte, and then as `leaves` does.
+pub fn leaves_byte_by_byte(rt: &impl Abort, alloc: Global, call: &Call<'_>) -> Result<(), Fail> {
+    let mut depot = depot_in_pieces(alloc, call.files, 1)?;
+    leaves_over(rt, alloc, call, &mut depot)?;
+    leaves(rt, alloc, call)
 }
 
 /// Makes the call over files that are told, and again over files that are not, of which the reads are on record.

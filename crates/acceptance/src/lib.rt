@@ -10,6 +10,8 @@ mod changes;
 #[cfg(test)]
 mod check;
 #[cfg(test)]
+mod convert;
+#[cfg(test)]
 mod publish;
 #[cfg(test)]
 mod report;

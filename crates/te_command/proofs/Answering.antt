@@ -31,7 +31,7 @@ of_asked P asked words is holds command named = subst P (asked_is (command_of wo
 
 known_means : (asked : Command) (content : List ℕ → Option (List ℕ)) (gave : List ℕ → ℕ → List ℕ → Type 0) (s : ℕ) (text : List ℕ) → Agrees content gave →
     Means (reading_of asked) (given gave) s text → Means (reading_of asked) (known gave content) s text
-known_means asked content gave s text agrees = means_along (reading_of asked) (given gave) (known gave content) s text (given_is_known content gave agrees)
+known_means asked content gave s text agrees = means_along (reading_of asked) (given gave) (known gave content) s text (regular asked) (given_is_known content gave agrees)
 
 told_means : (asked : Command) (content : List ℕ → Option (List ℕ)) (gave : List ℕ → ℕ → List ℕ → Type 0) (s : ℕ) (text : List ℕ) → Agrees content gave →
     Means (reading_of asked) (given gave) s text → IsTold (reading_of asked) content → Means (reading_of asked) (told content) s text

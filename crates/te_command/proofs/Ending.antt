@@ -1,6 +1,7 @@
 -- What holds of each command's answers, and of the kinds of its files, holds of what files mean.
 use Rattle.std.proofs.Common.{◌≡◌, ◌≢◌, ◌≤◌, ◌<◌, ◌⊎◌, ℕ, List, length, Option, Some, Result, Ok, Err, inl, inr, refl, sym, ap, ◌∙◌, subst, arith}
 use Rattle.std.proofs.lemmas.Bool.{cases_lt}
+use Rattle.te_ports.specs.Limit.{IsLimit}
 use Rattle.te_command.specs.Files.{Files, told}
 use Rattle.te_command.specs.Reading.{Kind, Answers, Reading, answers, reads, GivesIn, RefusedIn, Means, MeansStatus, Proves, IsTold, refused_line, too_long}
 
@@ -9,8 +10,9 @@ abbrev pub AtEnd : Reading → (Answers → Type 0) → Type 0
 AtEnd (answers a) P = P a
 AtEnd (reads A kind file next) P = (bytes : List ℕ) (value : A) → kind.gives bytes (Ok value) → AtEnd (next value) P
 
--- bytes are read in one way
+-- files may be read piece by piece, and bytes are read in one way
 pub record IsRegular {A : Type 0} (kind : Kind A) : Type 0 where
+  pub limited : IsLimit kind.limit
   pub once : (bytes : List ℕ) (x y : Result A (List ℕ)) → kind.gives bytes x → kind.gives bytes y → x ≡ y
   pub some : (bytes : List ℕ) → (x : Result A (List ℕ)) × kind.gives bytes x
 
@@ -57,7 +59,7 @@ err_once x y e = cc
 pub not_both : (A : Type 0) (kind : Kind A) (file : List ℕ) (content : List ℕ → Option (List ℕ)) (value : A) (line : List ℕ) → IsRegular kind →
     GivesIn kind (told content) file value → RefusedIn kind (told content) file line → ⊥
 not_both A kind file content value line regular (bytes, at, few, gives) (inl ((all, is, many), says)) =
-    let same = ap length (some_once (content file) bytes all at is) in omega arith
+    absurd (let few_all = subst (λ b. length b ≤ kind.limit b) (some_once (content file) bytes all at is) few in omega arith)
 not_both A kind file content value line regular (bytes, at, few, gives) (inr (all, words, is, short, refused, says)) =
     ok_or_err value words (regular.once all (Ok value) (Err words)
     (subst (λ b. kind.gives b (Ok value)) (some_once (content file) bytes all at is) gives) refused)
@@ -93,11 +95,11 @@ pub status_some : (Form : ℕ → List ℕ → Type 0) (r : Reading) (content : 
     (s : ℕ) × MeansStatus r (told content) s
 status_some Form (answers a) content regular sound is = sound.some
 status_some Form (reads A kind file next) content regular sound (all, at, rest) =
-    go (cases_lt kind.limit (length all)) (regular.0.some all)
+    go (cases_lt (kind.limit all) (length all)) (regular.0.some all)
     (λ few value gives. status_some Form (next value) content (regular.1 value) (sound all value gives) (rest few value gives))
   where
-    go : (kind.limit < length all) ⊎ (length all ≤ kind.limit) → (x : Result A (List ℕ)) × kind.gives all x →
-        (length all ≤ kind.limit → (value : A) → kind.gives all (Ok value) → (s : ℕ) × MeansStatus (next value) (told content) s) →
+    go : (kind.limit all < length all) ⊎ (length all ≤ kind.limit all) → (x : Result A (List ℕ)) × kind.gives all x →
+        (length all ≤ kind.limit all → (value : A) → kind.gives all (Ok value) → (s : ℕ) × MeansStatus (next value) (told content) s) →
         (s : ℕ) × MeansStatus (reads A kind file next) (told content) s
     go (inl long) x later = (3, inl (refl, (refused_line file too_long, inl ((all, at, long), refl))))
     go (inr few) (Ok value, gives) later =
@@ -114,9 +116,9 @@ refusal_once : (A : Type 0) (kind : Kind A) (file : List ℕ) (content : List �
     RefusedIn kind (told content) file x → RefusedIn kind (told content) file y → x ≡ y
 refusal_once A kind file content x y regular (inl a) (inl b) = a.1 ∙ sym b.1
 refusal_once A kind file content x y regular (inl ((all, at, many), says)) (inr (bytes, words, is, few, refused, line)) =
-    absurd (let same = ap length (some_once (content file) all bytes at is) in omega arith)
+    absurd (let few_all = subst (λ b. length b ≤ kind.limit b) (some_once (content file) bytes all is at) few in omega arith)
 refusal_once A kind file content x y regular (inr (bytes, words, is, few, refused, line)) (inl ((all, at, many), says)) =
-    absurd (let same = ap length (some_once (content file) all bytes at is) in omega arith)
+    absurd (let few_all = subst (λ b. length b ≤ kind.limit b) (some_once (content file) bytes all is at) few in omega arith)
 refusal_once A kind file content x y regular (inr (bytes, words, at, few, refused, line)) (inr (all, other, is, short, denied, says)) =
     line ∙ ap (refused_line file) (err_once {A = A} words other
     (regular.once all (Err words) (Err other) (subst (λ b. kind.gives b (Err words)) (some_once (content file) bytes all at is) refused) denied)) ∙ sym says
@@ -135,11 +137,11 @@ pub text_some : (r : Reading) (content : List ℕ → Option (List ℕ)) → Are
     (s : ℕ) × (text : List ℕ) × Means r (told content) s text
 text_some (answers a) content regular one is = one.some
 text_some (reads A kind file next) content regular one (all, at, rest) =
-    go (cases_lt kind.limit (length all)) (regular.0.some all)
+    go (cases_lt (kind.limit all) (length all)) (regular.0.some all)
     (λ few value gives. text_some (next value) content (regular.1 value) (one all value gives) (rest few value gives))
   where
-    go : (kind.limit < length all) ⊎ (length all ≤ kind.limit) → (x : Result A (List ℕ)) × kind.gives all x →
-        (length all ≤ kind.limit → (value : A) → kind.gives all (Ok value) → (s : ℕ) × (text : List ℕ) × Means (next value) (told content) s text) →
+    go : (kind.limit all < length all) ⊎ (length all ≤ kind.limit all) → (x : Result A (List ℕ)) × kind.gives all x →
+        (length all ≤ kind.limit all → (value : A) → kind.gives all (Ok value) → (s : ℕ) × (text : List ℕ) × Means (next value) (told content) s text) →
         (s : ℕ) × (text : List ℕ) × Means (reads A kind file next) (told content) s text
     go (inl long) x later = (3, refused_line file too_long, inl (refl, inl ((all, at, long), refl)))
     go (inr few) (Ok value, gives) later =

@@ -1,11 +1,10 @@
 pub mod Following
 pub mod Telling
 pub mod Plans
-pub mod Reaching
-pub mod Owed
 pub mod Verdict
 pub mod Ending
 pub mod Regular
+pub mod Converting
 pub mod Table
 pub mod Delivering
 pub mod Answering

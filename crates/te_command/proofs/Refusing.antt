@@ -1,5 +1,6 @@
 -- A file that is told and gives a value is not refused.
 use Rattle.std.proofs.Common.{◌≡◌, ℕ, List, Option, Some, inl, inr, sym, ap, ◌∙◌}
+use Rattle.te_ports.specs.Limit.{IsLimit}
 use Rattle.te_ports.specs.Ports.{Told}
 use Rattle.te_command.specs.Files.{given, told, known}
 use Rattle.te_command.specs.Reading.{Kind, Reading, answers, reads, RefusedIn, Means, RefusesUntold}
@@ -8,10 +9,10 @@ use Rattle.te_command.proofs.Ending.{AtEnd, AreRegular, IsRegular, IsSound, not_
 
 -- a refusal of what is known of a told file is one of what is told
 refused_told : (A : Type 0) (kind : Kind A) (file : List ℕ) (content : List ℕ → Option (List ℕ)) (gave : List ℕ → ℕ → List ℕ → Type 0) (line all : List ℕ) →
-    Agrees content gave → content file ≡ Some all → RefusedIn kind (given gave) file line → RefusedIn kind (told content) file line
-refused_told A kind file content gave line all agrees at (inl (past, says)) =
-    inl ((all, at, ((given_is_known content gave agrees).longer file kind.limit past).1 all at), says)
-refused_told A kind file content gave line all agrees at (inr (bytes, words, read, few, refused, says)) =
+    IsLimit kind.limit → Agrees content gave → content file ≡ Some all → RefusedIn kind (given gave) file line → RefusedIn kind (told content) file line
+refused_told A kind file content gave line all limited agrees at (inl (past, says)) =
+    inl ((all, at, ((given_is_known content gave agrees).longer file kind.limit limited past).1 all at), says)
+refused_told A kind file content gave line all limited agrees at (inr (bytes, words, read, few, refused, says)) =
     let same : bytes ≡ all = ((given_is_known content gave agrees).whole file bytes read).1 all at in
     inr (bytes, words, at ∙ ap Some (sym same), few, refused, says)
 
@@ -22,7 +23,7 @@ refuses_untold Form (reads A kind file next) content gave text regular sound agr
     inl (
       refused,
       λ bytes is few value gives.
-          not_both A kind file content value text regular.0 (bytes, is, few, gives) (refused_told A kind file content gave text bytes agrees is refused),
+          not_both A kind file content value text regular.0 (bytes, is, few, gives) (refused_told A kind file content gave text bytes regular.0.limited agrees is refused),
     )
 refuses_untold Form (reads A kind file next) content gave text regular sound agrees (inr (value, gives, later)) =
     inr (value, gives, refuses_untold Form (next value) content gave text (regular.1 value) (sound gives.0 value gives.3) agrees later)

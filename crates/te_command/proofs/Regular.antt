@@ -2,12 +2,12 @@
 use Rattle.std.proofs.Common.{◌≡◌, ◌⊎◌, ℕ, List, Result, Ok, Err, inl, inr, refl, sym, ap, ◌∙◌}
 use Rattle.te_model.specs.declared.certificate.Certificate.{Certificate}
 use Rattle.te_model.specs.declared.certificate.RuleFault.{RuleFault}
-use Rattle.te_model.specs.declared.limits.TheConstants.{FORMAT_1}
 use Rattle.te_model.specs.Text.{Spells}
 use Rattle.te_model.specs.Faults.{IsShapeFault, IsRuleFault}
 use Rattle.cert_text.proofs.Laws.{one_spelling, one_fault, one_rule_fault, spelled_or_ruled, some_reading}
 use Rattle.te_command.specs.CertificateFile.{certificates, GivesCertificate, shape_reason, rule_reason}
 use Rattle.te_command.specs.InputFile.{inputs, in_words}
+use Rattle.te_command.specs.Limits.{certificate_limits, input_limits}
 use Rattle.te_command.proofs.Ending.{IsRegular}
 
 fault_once : (bytes x y : List ℕ) → GivesCertificate bytes (Err x) → GivesCertificate bytes (Err y) → x ≡ y
@@ -26,15 +26,15 @@ certificate_once bytes (Ok c) (Err y) p q = absurd (spelled_accepted bytes c y p
 certificate_once bytes (Err x) (Ok d) p q = absurd (spelled_accepted bytes d x q p)
 certificate_once bytes (Err x) (Err y) p q = ap Err (fault_once bytes x y p q)
 
-certificate_some : (bytes : List ℕ) → ((c : Certificate) × Spells bytes c) ⊎ (((k : ℕ) × IsShapeFault FORMAT_1 bytes k) ⊎ ((f : RuleFault) × IsRuleFault FORMAT_1 bytes f)) →
+certificate_some : (bytes : List ℕ) → ((c : Certificate) × Spells bytes c) ⊎ (((k : ℕ) × IsShapeFault bytes k) ⊎ ((f : RuleFault) × IsRuleFault bytes f)) →
     (x : Result Certificate (List ℕ)) × GivesCertificate bytes x
 certificate_some bytes (inl c) = (Ok c.0, c.1)
 certificate_some bytes (inr (inl k)) = (Err (shape_reason k.0), inl (k.0, k.1, refl))
 certificate_some bytes (inr (inr f)) = (Err (rule_reason f.0), inr (f.0, f.1, refl))
 
 pub certificates_regular : IsRegular certificates
-certificates_regular = record { once = certificate_once; some = λ bytes. certificate_some bytes (some_reading bytes) }
+certificates_regular = record { limited = certificate_limits; once = certificate_once; some = λ bytes. certificate_some bytes (some_reading bytes) }
 
 -- what a function of the bytes reads is read in one way
 pub inputs_regular : {A F : Type 0} (reason : F → List ℕ) (reader : List ℕ → Result A F) → IsRegular (inputs reason reader)
-inputs_regular reason reader = record { once = λ bytes x y p q. sym p ∙ q; some = λ bytes. (in_words reason (reader bytes), refl) }
+inputs_regular reason reader = record { limited = input_limits; once = λ bytes x y p q. sym p ∙ q; some = λ bytes. (in_words reason (reader bytes), refl) }

@@ -4,13 +4,16 @@ use Rattle.te_model.specs.declared.certificate.Certificate.{Certificate}
 use Rattle.te_model.specs.declared.network.Network.{Network}
 use Rattle.te_model.specs.Inequalities.{LinkFailure, first_failure}
 use Rattle.te_model.specs.Text.{Spells}
+use Rattle.te_model.proofs.SameNetworks.{same_or_not}
 use Rattle.te_model.proofs.Failures.{holds_from_none}
 use Rattle.te_model.proofs.Oblivious.{holds_is_oblivious}
 use Rattle.te_command.specs.Reading.{Reading, answers}
 use Rattle.te_command.specs.Check.{IsVerdict, IsNetworkVerdict, IsProof, yes_line, no_line, no_network_line, verdict_on, network_verdict_on}
 use Rattle.te_command.specs.TopologyFile.{topology_reason}
 use Rattle.topology.specs.Topology.{topology_of}
-use Rattle.scheme.specs.Reach.{AllReached, IsFirstWithout, pair_at}
+use Rattle.te_model.specs.Pairs.{pair_at}
+use Rattle.scheme.specs.Reach.{AllReached, IsFirstWithout}
+use Rattle.scheme.proofs.Reaching.{reached_or_first}
 use Rattle.traffic_matrix.specs.declared.series.Series.{Series}
 use Rattle.traffic_matrix.specs.Rows.{series_in}
 use Rattle.failure.specs.declared.outage.Failures.{Failures}
@@ -27,12 +30,11 @@ use Rattle.te_command.specs.Publish.{IsPublicationStatus, IsPublication, IsProve
 use Rattle.te_command.specs.Report.{report_of}
 use Rattle.te_command.specs.Commands.{publish, run, with_failures}
 use Rattle.te_command.specs.Form.{IsAnsweredYes}
-use Rattle.te_command.proofs.Reaching.{reached_or_first}
-use Rattle.te_command.specs.Commands.{Command, check, check_network, reading_of}
-use Rattle.te_command.specs.Form.{IsAnswer, IsCheck}
-use Rattle.te_command.proofs.Owed.{same_or_not}
+use Rattle.te_command.specs.Commands.{Command, check, check_network, convert, reading_of}
+use Rattle.te_command.specs.Form.{IsAnswer, IsOfCertificate}
 use Rattle.te_command.proofs.Ending.{AtEnd, AreRegular, IsSound, HasOneText}
 use Rattle.te_command.proofs.Regular.{certificates_regular, inputs_regular}
+use Rattle.te_command.proofs.Converting.{conversion_sound, conversion_text}
 
 failure_once : (o : Option LinkFailure) (f g : LinkFailure) → o ≡ Some f → o ≡ Some g → f ≡ g
 failure_once o f g ef eg = cc
@@ -114,13 +116,12 @@ network_verdict_sound bytes c n spells = record {
 published_answered : (plan : Experiment) (n : Network) (series : Series) (text : List ℕ) → IsPublished plan n series text → IsAnsweredYes text
 published_answered plan n series text published =
     let is = published_accepted plan n series text published in
-    let fits : length text ≤ 134217728 = omega (arith, is.fits) in
     record {
-      fits = fits;
+      fits = is.fits;
       certificate = is.certificate;
       spelled = is.spelled;
       proof = record { holds = is.holds; ratio = is.ratio };
-      answer = λ file. inr (is.certificate, (text, refl, fits, is.spelled), inl (refl, record { holds = is.no_failure; line_is = refl }));
+      answer = λ file. inr (is.certificate, (text, refl, is.fits, is.spelled), inl (refl, record { holds = is.no_failure; line_is = refl }));
     }
 
 published_proves : (plan : Experiment) (n : Network) (series : Series) (text : List ℕ) → IsPublication plan n series 0 text → IsProvedFile plan n series text
@@ -192,12 +193,14 @@ failures_regular plan n series (Some file) = (inputs_regular failures_reason (fa
 pub sound : (command : Command) → AtEnd (reading_of command) (IsSound (IsAnswer command))
 sound (check file) = λ bytes c spells. verdict_sound bytes c spells
 sound (check_network file topology) = λ bytes c spells rows n makes. network_verdict_sound bytes c n spells
+sound (convert file) = λ bytes c spells. conversion_sound bytes c spells
 sound (publish file) = λ bytes plan says rows n makes demands series reads. publication_sound plan n series
 sound (run file) = λ bytes plan says rows n makes demands series reads. reported plan n series plan.failures
 
 pub regular : (command : Command) → AreRegular (reading_of command)
 regular (check file) = (certificates_regular, λ c. tt)
 regular (check_network file topology) = (certificates_regular, λ c. (inputs_regular topology_reason topology_of, λ n. tt))
+regular (convert file) = (certificates_regular, λ c. tt)
 regular (publish file) =
     (inputs_regular plan_reason plan_of, λ plan. (inputs_regular topology_reason topology_of, λ n. (inputs_regular matrices_reason (series_in n), λ series. tt)))
 regular (run file) = (
@@ -211,10 +214,11 @@ regular (run file) = (
   ),
 )
 
--- the answers of `check` have one text
-pub one_text : (command : Command) → IsCheck command → AtEnd (reading_of command) HasOneText
+-- an answer on a certificate has one text
+pub one_text : (command : Command) → IsOfCertificate command → AtEnd (reading_of command) HasOneText
 one_text (check file) is = λ bytes c spells. record { some = verdict_some c; once = λ s t x y p q. (verdict_once c s t x y p q).1 }
 one_text (check_network file topology) is = λ bytes c spells rows n makes.
     record { some = network_verdict_some c n; once = λ s t x y p q. (network_verdict_once c n s t x y p q).1 }
+one_text (convert file) is = λ bytes c spells. conversion_text c
 one_text (publish file) is = absurd is
 one_text (run file) is = absurd is

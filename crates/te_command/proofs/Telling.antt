@@ -1,12 +1,15 @@
 -- What reads gave of told files is what is told.
-use Rattle.std.proofs.Common.{◌≡◌, ℕ, ◌+◌, ◌<◌, ◌≤◌, List, [], length, take, Option, Some, Result, Ok, Err, inl, inr, refl, sym, ap, ◌∙◌, subst, arith, length-take}
+use Rattle.std.proofs.Common.{◌≡◌, ℕ, ◌+◌, ◌<◌, ◌≤◌, List, [], ◌++◌, length, take, drop, Option, Some, Result, Ok, Err, inl, inr, refl, sym, ap, ◌∙◌, subst, arith, length-take}
 use Rattle.std.proofs.lemmas.Grind.{common_steps}
+use Rattle.std.proofs.lemmas.List.{take-append-drop}
 use Rattle.te_ports.specs.Ports.{Told}
-use Rattle.te_ports.specs.Record.{IsPiece, IsPieceOf, HasGiven, nothing, more, IsRead, IsReadPast}
+use Rattle.te_ports.specs.Record.{IsPiece, IsPieceOf, HasGiven, nothing, more, IsRead, IsReadPastAllowed}
 use Rattle.te_ports.specs.PieceOf.{piece_of_told}
-use Rattle.te_ports.proofs.Giving.{read_is, past_is}
+use Rattle.te_ports.specs.Limit.{IsLimit}
+use Rattle.te_ports.proofs.Giving.{read_is, past_allowed}
 use Rattle.te_command.specs.Files.{Files, given, told, known}
 use Rattle.te_command.specs.Reading.{Kind, Reading, answers, reads, GivesIn, Means, IsTold, ReadFailed}
+use Rattle.te_command.proofs.Ending.{AreRegular}
 
 -- what reads gave of told files are pieces of them
 abbrev pub Agrees : (List ℕ → Option (List ℕ)) → (List ℕ → ℕ → List ℕ → Type 0) → Type 0
@@ -15,22 +18,22 @@ Agrees content gave = (name bytes : List ℕ) → content name ≡ Some bytes �
 -- no less is known of files
 pub record Covers (f g : Files) : Type 0 where
   pub whole : (file bytes : List ℕ) → f.whole file bytes → g.whole file bytes
-  pub longer : (file : List ℕ) (limit : ℕ) → f.longer file limit → g.longer file limit
+  pub longer : (file : List ℕ) (limit : List ℕ → ℕ) → IsLimit limit → f.longer file limit → g.longer file limit
 
 -- what reads gave of a told file is what is told
 pub given_is_known : (content : List ℕ → Option (List ℕ)) (gave : List ℕ → ℕ → List ℕ → Type 0) → Agrees content gave → Covers (given gave) (known gave content)
 given_is_known content gave agrees = record {
   whole = λ file bytes read. (read, λ all at. read_is (gave file) all bytes (agrees file all at) read);
-  longer = λ file limit past. (past, λ all at. past_is (gave file) all limit (agrees file all at) past);
+  longer = λ file limit is past. (past, λ all at. past_allowed (gave file) all limit is (agrees file all at) past);
 }
 
-pub means_along : (r : Reading) (f g : Files) (s : ℕ) (text : List ℕ) → Covers f g → Means r f s text → Means r g s text
-means_along (answers a) f g s text covers means = means
-means_along (reads A kind file next) f g s text covers (inl (three, inl (past, line))) = inl (three, inl (covers.longer file kind.limit past, line))
-means_along (reads A kind file next) f g s text covers (inl (three, inr (bytes, words, read, few, refused, line))) =
+pub means_along : (r : Reading) (f g : Files) (s : ℕ) (text : List ℕ) → AreRegular r → Covers f g → Means r f s text → Means r g s text
+means_along (answers a) f g s text regular covers means = means
+means_along (reads A kind file next) f g s text regular covers (inl (three, inl (past, line))) = inl (three, inl (covers.longer file kind.limit regular.0.limited past, line))
+means_along (reads A kind file next) f g s text regular covers (inl (three, inr (bytes, words, read, few, refused, line))) =
     inl (three, inr (bytes, words, covers.whole file bytes read, few, refused, line))
-means_along (reads A kind file next) f g s text covers (inr (value, (bytes, read, few, gives), later)) =
-    inr (value, (bytes, covers.whole file bytes read, few, gives), means_along (next value) f g s text covers later)
+means_along (reads A kind file next) f g s text regular covers (inr (value, (bytes, read, few, gives), later)) =
+    inr (value, (bytes, covers.whole file bytes read, few, gives), means_along (next value) f g s text (regular.1 value) covers later)
 
 pub failed_along : (r : Reading) (f g : Files) (Fails : List ℕ → Type 0) → Covers f g → ReadFailed r f Fails → ReadFailed r g Fails
 failed_along (answers a) f g Fails covers failed = failed
@@ -49,7 +52,7 @@ means_told (reads A kind file next) content gave s text (all, at, rest) (inl (th
     inl (three, inr (bytes, words, at ∙ ap Some (sym same), few, refused, line))
 means_told (reads A kind file next) content gave s text (all, at, rest) (inr (value, (bytes, (read, is), few, gives), later)) =
     let same : bytes ≡ all = is all at in
-    let on = rest (subst (λ b. length b ≤ kind.limit) same few) value (subst (λ b. kind.gives b (Ok value)) same gives) in
+    let on = rest (subst (λ b. length b ≤ kind.limit b) same few) value (subst (λ b. kind.gives b (Ok value)) same gives) in
     inr (value, (bytes, at ∙ ap Some (sym same), few, gives), means_told (next value) content gave s text on later)
 
 pub failed_told : (r : Reading) (content : List ℕ → Option (List ℕ)) (gave : List ℕ → ℕ → List ℕ → Type 0) (Fails : List ℕ → Type 0) →
@@ -58,7 +61,7 @@ failed_told (answers a) content gave Fails is failed = failed
 failed_told (reads A kind file next) content gave Fails is (inl here) = inl here
 failed_told (reads A kind file next) content gave Fails (all, at, rest) (inr (value, (bytes, (read, is), few, gives), later)) =
     let same : bytes ≡ all = is all at in
-    let on = rest (subst (λ b. length b ≤ kind.limit) same few) value (subst (λ b. kind.gives b (Ok value)) same gives) in
+    let on = rest (subst (λ b. length b ≤ kind.limit b) same few) value (subst (λ b. kind.gives b (Ok value)) same gives) in
     inr (value, (bytes, at ∙ ap Some (sym same), few, gives), failed_told (next value) content gave Fails on later)
 
 -- where reads give just the pieces of what is told
@@ -73,28 +76,39 @@ whole_to all bytes is = record {
   ends = (bytes, is, record { bytes_are = grind (arith, common_steps); ends = λ none. omega arith });
 }
 
-content_of : (all : Option (List ℕ)) (limit : ℕ) → IsReadPast (IsPieceOf all) limit → (front : List ℕ) → HasGiven (IsPieceOf all) front →
-    length front ≡ limit + 1 → (bytes : List ℕ) × (all ≡ Some bytes) × (limit < length bytes)
-content_of all limit past _ (nothing bytes is) many = absurd (let none = ap length is in omega arith)
-content_of all limit past _ (more bytes before piece given next is) many =
-    (next.0, next.1, past_is (IsPieceOf all) next.0 limit (λ at p. piece_of_told all next.0 at p next.1) past)
+content_of : (all : Option (List ℕ)) (limit : List ℕ → ℕ) → IsLimit limit → IsReadPastAllowed (IsPieceOf all) limit → (front : List ℕ) →
+    HasGiven (IsPieceOf all) front → 0 < length front → (bytes : List ℕ) × (all ≡ Some bytes) × (limit bytes < length bytes)
+content_of all limit is past _ (nothing bytes none) many = absurd (let empty = ap length none in omega arith)
+content_of all limit is past _ (more bytes before piece given next made) many =
+    (next.0, next.1, past_allowed (IsPieceOf all) next.0 limit is (λ at p. piece_of_told all next.0 at p next.1) past)
 
-longer_to : (all : Option (List ℕ)) (limit : ℕ) (bytes : List ℕ) → all ≡ Some bytes → limit < length bytes → IsReadPast (IsPieceOf all) limit
-longer_to all limit bytes is many = record {
-  bytes = take (limit + 1) bytes;
-  given = more (take (limit + 1) bytes) [] (take (limit + 1) bytes) (nothing [] refl)
-      (bytes, is, record { bytes_are = grind (arith, common_steps); ends = λ none. omega (arith, length-take (limit + 1) bytes) }) refl;
-  past = omega (arith, length-take (limit + 1) bytes);
+-- the first bytes of a file that is longer than its limit have the limit of the whole
+front_limit : (limit : List ℕ → ℕ) (bytes : List ℕ) → IsLimit limit → limit bytes < length bytes →
+    limit (take (limit bytes + 1) bytes) ≡ limit bytes
+front_limit limit bytes is many =
+    let whole : take (limit bytes + 1) bytes ++ drop (limit bytes + 1) bytes ≡ bytes = take-append-drop (limit bytes + 1) bytes in
+    let rises = is.rises (take (limit bytes + 1) bytes) (drop (limit bytes + 1) bytes) in
+    let below : limit (take (limit bytes + 1) bytes) ≤ limit bytes =
+    subst (λ all. limit (take (limit bytes + 1) bytes) ≤ limit all) whole rises in
+    sym (is.settled (take (limit bytes + 1) bytes) (drop (limit bytes + 1) bytes) (omega (arith, length-take (limit bytes + 1) bytes, below))) ∙ ap limit whole
+
+longer_to : (all : Option (List ℕ)) (limit : List ℕ → ℕ) (bytes : List ℕ) → IsLimit limit → all ≡ Some bytes → limit bytes < length bytes →
+    IsReadPastAllowed (IsPieceOf all) limit
+longer_to all limit bytes is at many = record {
+  bytes = take (limit bytes + 1) bytes;
+  given = more (take (limit bytes + 1) bytes) [] (take (limit bytes + 1) bytes) (nothing [] refl)
+      (bytes, at, record { bytes_are = grind (arith, common_steps); ends = λ none. omega (arith, length-take (limit bytes + 1) bytes) }) refl;
+  past = omega (arith, length-take (limit bytes + 1) bytes, front_limit limit bytes is many);
 }
 
 pub pieces_are_told : (content : List ℕ → Option (List ℕ)) → Covers (given (λ file. IsPieceOf (content file))) (told content)
 pieces_are_told content = record {
   whole = λ file bytes. whole_from (content file) bytes;
-  longer = λ file limit past. content_of (content file) limit past past.bytes past.given past.past;
+  longer = λ file limit is past. content_of (content file) limit is past past.bytes past.given (let past_is = past.past in omega arith);
 }
 
 pub told_are_pieces : (content : List ℕ → Option (List ℕ)) → Covers (told content) (given (λ file. IsPieceOf (content file)))
 told_are_pieces content = record {
   whole = λ file bytes. whole_to (content file) bytes;
-  longer = λ file limit is. longer_to (content file) limit is.0 is.1 is.2;
+  longer = λ file limit is long. longer_to (content file) limit long.0 is long.1 long.2;
 }

@@ -3,9 +3,9 @@ use Rattle.std.specs.Prelude.{◌≡◌, ◌⊎◌, ℕ, List, ◌++◌, codes, 
 use Rattle.std.specs.Fmt.{decimal}
 use Rattle.te_model.specs.declared.certificate.Certificate.{Certificate}
 use Rattle.te_model.specs.declared.certificate.RuleFault.{RuleFault}
-use Rattle.te_model.specs.declared.limits.TheConstants.{FORMAT_1}
 use Rattle.te_model.specs.Text.{Spells}
 use Rattle.te_model.specs.Faults.{IsShapeFault, IsRuleFault}
+use Rattle.te_model.specs.FileLimit.{file_limit}
 use Rattle.te_command.specs.Reading.{Kind}
 
 -- the words for bytes that leave the grammar at a line, and for those that spell what breaks a rule
@@ -19,9 +19,9 @@ rule_reason rule = codes "rule V" ++ (decimal rule.number ++ (codes " at " ++ de
 abbrev pub GivesCertificate : List ℕ → Result Certificate (List ℕ) → Type 0
 GivesCertificate bytes (Ok certificate) = Spells bytes certificate
 GivesCertificate bytes (Err words) =
-    ((line : ℕ) × IsShapeFault FORMAT_1 bytes line × (words ≡ shape_reason line))
-    ⊎ ((rule : RuleFault) × IsRuleFault FORMAT_1 bytes rule × (words ≡ rule_reason rule))
+    ((line : ℕ) × IsShapeFault bytes line × (words ≡ shape_reason line))
+    ⊎ ((rule : RuleFault) × IsRuleFault bytes rule × (words ≡ rule_reason rule))
 
--- 128 MiB at most
+-- as many bytes at most as the format allows in which the file begins
 abbrev pub certificates : Kind Certificate
-certificates = record { limit = 134217728; gives = GivesCertificate }
+certificates = record { limit = file_limit; gives = GivesCertificate }

@@ -3,7 +3,7 @@ use Rattle.std.specs.Prelude.{◌≡◌, ◌≢◌, ◌⊎◌, ℕ, List, [], �
 use Rattle.std.specs.Fmt.{decimal}
 use Rattle.te_model.specs.declared.certificate.Certificate.{Certificate}
 use Rattle.te_model.specs.declared.demand.DemandSet.{DemandSet}
-use Rattle.te_model.specs.declared.demand.DemandSet.TheVariants.{All, Margin}
+use Rattle.te_model.specs.declared.demand.DemandSet.TheVariants.{All, Margin, Box}
 use Rattle.te_model.specs.declared.network.Network.{Network}
 use Rattle.te_model.specs.Inequalities.{LinkFailure, first_failure, Holds}
 use Rattle.te_model.specs.Ratio.{IsObliviousRatio}
@@ -14,6 +14,7 @@ abbrev pub yes_line : ℕ → DemandSet → List ℕ
 yes_line ratio All = codes "yes ratio " ++ (decimal ratio ++ (codes " set all" ++ 10 ∷ []))
 yes_line ratio (Margin num den base) =
     codes "yes ratio " ++ (decimal ratio ++ (codes " set margin " ++ (decimal num ++ (codes " " ++ (decimal den ++ 10 ∷ [])))))
+yes_line ratio (Box lower upper) = codes "yes ratio " ++ (decimal ratio ++ (codes " set box" ++ 10 ∷ []))
 
 -- the line of a no: the link, the inequality and the place of the first failure
 abbrev pub no_line : ℕ → ℕ → ℕ → List ℕ

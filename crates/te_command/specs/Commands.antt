@@ -13,14 +13,16 @@ use Rattle.te_command.specs.MatrixFile.{matrices}
 use Rattle.te_command.specs.FailureFile.{failure_files, no_failures}
 use Rattle.te_command.specs.PlanFile.{plans}
 use Rattle.te_command.specs.Check.{verdict_on, network_verdict_on}
+use Rattle.te_command.specs.Convert.{conversion_of}
 use Rattle.te_command.specs.Publish.{publication_of}
 use Rattle.te_command.specs.Report.{report_of}
 
--- what is asked for: of `check`, the name of the certificate, and of the topology where one is given; of `publish`
--- and `run`, the name of the plan
+-- what is asked for: of `check` and `convert`, the name of the certificate, and of `check` that of the topology where one is
+-- given; of `publish` and `run`, the name of the plan
 pub data Command : Type 0 where
   check : List ℕ → Command
   check_network : List ℕ → List ℕ → Command
+  convert : List ℕ → Command
   publish : List ℕ → Command
   run : List ℕ → Command
 
@@ -30,6 +32,7 @@ command_of [] = None
 command_of (word ∷ []) = None
 command_of (word ∷ file ∷ []) =
     if bytes_eq word (codes "check") then Some (check file)
+    else if bytes_eq word (codes "convert") then Some (convert file)
     else if bytes_eq word (codes "publish") then Some (publish file)
     else if bytes_eq word (codes "run") then Some (run file)
     else None
@@ -52,6 +55,7 @@ abbrev pub reading_of : Command → Reading
 reading_of (check certificate) = reads Certificate certificates certificate (λ spelled. answers (verdict_on spelled))
 reading_of (check_network certificate topology) =
     reads Certificate certificates certificate (λ spelled. reads Network topologies topology (λ network. answers (network_verdict_on spelled network)))
+reading_of (convert certificate) = reads Certificate certificates certificate (λ spelled. answers (conversion_of spelled))
 reading_of (publish plan) = with_plan plan (λ named network series. answers (publication_of named network series))
 reading_of (run plan) =
     with_plan plan (λ named network series. with_failures network series named.failures (λ failures. answers (report_of named network series failures)))

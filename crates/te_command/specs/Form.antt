@@ -1,33 +1,45 @@
 -- What a command may answer, whatever its files hold.
 use Rattle.std.specs.Prelude.{◌≡◌, ◌≤◌, ◌⊎◌, ℕ, List, length, Some}
 use Rattle.te_model.specs.declared.certificate.Certificate.{Certificate}
+use Rattle.te_model.specs.declared.limits.TheConstants.{FORMAT_2}
 use Rattle.te_model.specs.Text.{Spells}
 use Rattle.te_command.specs.Files.{told}
 use Rattle.te_command.specs.Reading.{Means}
 use Rattle.te_command.specs.CertificateFile.{certificates}
 use Rattle.te_command.specs.Check.{IsProof, yes_line}
-use Rattle.te_command.specs.Commands.{Command, check, check_network, publish, run, reading_of}
+use Rattle.te_command.specs.Commands.{Command, check, check_network, convert, publish, run, reading_of}
 
 -- a file to which `check` says yes: it is not too long, proves a ratio, and under any name its answer is the line of that yes
 pub record IsAnsweredYes (bytes : List ℕ) : Type 0 where
-  pub fits : length bytes ≤ certificates.limit
+  pub fits : length bytes ≤ certificates.limit bytes
   pub certificate : Certificate
   pub spelled : Spells bytes certificate
   pub proof : IsProof certificate
   pub answer : (file : List ℕ) →
       Means (reading_of (check file)) (told (λ name. Some bytes)) 0 (yes_line certificate.head.ratio certificate.head.set)
 
--- `check` says yes or no, `publish` writes a file to which `check` says yes, or names a pair without a path, and `run` writes
+-- a file that `convert` has made: it is not too long, spells a certificate of the second format, and under any name is converted to
+-- the same bytes
+pub record IsConverted (bytes : List ℕ) : Type 0 where
+  pub fits : length bytes ≤ certificates.limit bytes
+  pub certificate : Certificate
+  pub spelled : Spells bytes certificate
+  pub format : certificate.head.format ≡ FORMAT_2.format
+  pub answer : (file : List ℕ) → Means (reading_of (convert file)) (told (λ name. Some bytes)) 0 bytes
+
+-- `check` says yes or no, `convert` writes a file of the second format, `publish` writes a file to which `check` says yes, or names a pair without a path, and `run` writes
 -- a report
 abbrev pub IsAnswer : Command → ℕ → List ℕ → Type 0
 IsAnswer (check certificate) status text = status ≤ 1
 IsAnswer (check_network certificate topology) status text = status ≤ 1
+IsAnswer (convert certificate) status text = (status ≡ 0) × IsConverted text
 IsAnswer (publish plan) status text = ((status ≡ 0) × IsAnsweredYes text) ⊎ (status ≡ 7)
 IsAnswer (run plan) status text = status ≡ 0
 
--- the command is a form of `check`, of which told files mean one text
-abbrev pub IsCheck : Command → Type 0
-IsCheck (check certificate) = Unit {0}
-IsCheck (check_network certificate topology) = Unit {0}
-IsCheck (publish plan) = ⊥
-IsCheck (run plan) = ⊥
+-- the command is of a certificate, and then told files mean one text
+abbrev pub IsOfCertificate : Command → Type 0
+IsOfCertificate (check certificate) = Unit {0}
+IsOfCertificate (check_network certificate topology) = Unit {0}
+IsOfCertificate (convert certificate) = Unit {0}
+IsOfCertificate (publish plan) = ⊥
+IsOfCertificate (run plan) = ⊥

@@ -13,4 +13,4 @@ in_words reason (Err fault) = Err (reason fault)
 
 -- the files that this reader reads
 abbrev pub inputs : {A F : Type 0} → (F → List ℕ) → (List ℕ → Result A F) → Kind A
-inputs reason reader = record { limit = input_limit; gives = λ bytes answer. in_words reason (reader bytes) ≡ answer }
+inputs reason reader = record { limit = λ _. input_limit; gives = λ bytes answer. in_words reason (reader bytes) ≡ answer }

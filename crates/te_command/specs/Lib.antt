@@ -2,12 +2,14 @@ pub mod Files
 pub mod Reading
 pub mod CertificateFile
 pub mod InputFile
+pub mod Limits
 pub mod TopologyFile
 pub mod MatrixFile
 pub mod FailureFile
 pub mod PlanFile
 pub mod Refusals
 pub mod Check
+pub mod Convert
 pub mod Publish
 pub mod Report
 pub mod Commands

@@ -5,7 +5,8 @@ use Rattle.te_model.specs.declared.network.Network.{Network}
 use Rattle.te_model.specs.declared.route.Pair.{Pair}
 use Rattle.te_model.specs.Network.{name_at}
 use Rattle.te_model.specs.Text.{Spells}
-use Rattle.scheme.specs.Reach.{AllReached, IsFirstWithout, pair_at}
+use Rattle.te_model.specs.Pairs.{pair_at}
+use Rattle.scheme.specs.Reach.{AllReached, IsFirstWithout}
 use Rattle.traffic_matrix.specs.declared.series.Series.{Series}
 use Rattle.plan.specs.declared.experiment.Experiment.{Experiment}
 use Rattle.experiment.specs.Published.{IsPublished}

@@ -2,9 +2,10 @@
 use Rattle.std.specs.Prelude.{◌≡◌, ◌≤◌, ◌⊎◌, ℕ, List, [], ◌∷◌, ◌++◌, codes, length, Option, Some, Result, Ok, Err}
 use Rattle.te_command.specs.Files.{Files}
 
--- a kind of files: how many bytes one may have, and what its bytes give, a value or the words for which they are refused
+-- a kind of files: how many bytes one may have that begins with these, and what its bytes give, a value or the words for which they
+-- are refused
 pub record Kind (A : Type 0) : Type 1 where
-  pub limit : ℕ
+  pub limit : List ℕ → ℕ
   pub gives : List ℕ → Result A (List ℕ) → Type 0
 
 -- what a command answers: its status alone, its status and its text, and what its text at status 0 proves
@@ -30,13 +31,13 @@ too_long = codes "too long"
 -- the bytes of the file give the value
 abbrev pub GivesIn : {A : Type 0} → Kind A → Files → List ℕ → A → Type 0
 GivesIn kind files file value =
-    (bytes : List ℕ) × files.whole file bytes × (length bytes ≤ kind.limit) × kind.gives bytes (Ok value)
+    (bytes : List ℕ) × files.whole file bytes × (length bytes ≤ kind.limit bytes) × kind.gives bytes (Ok value)
 
 -- the file is refused, which the line says
 abbrev pub RefusedIn : {A : Type 0} → Kind A → Files → List ℕ → List ℕ → Type 0
 RefusedIn kind files file line =
     (files.longer file kind.limit × (line ≡ refused_line file too_long))
-    ⊎ ((bytes : List ℕ) × (words : List ℕ) × files.whole file bytes × (length bytes ≤ kind.limit) × kind.gives bytes (Err words)
+    ⊎ ((bytes : List ℕ) × (words : List ℕ) × files.whole file bytes × (length bytes ≤ kind.limit bytes) × kind.gives bytes (Err words)
     × (line ≡ refused_line file words))
 
 -- the status and the text that the files mean: the text goes to the standard output at 0 and 1, and to the standard error
@@ -70,12 +71,12 @@ abbrev pub IsTold : Reading → (List ℕ → Option (List ℕ)) → Type 0
 IsTold (answers a) content = Unit {0}
 IsTold (reads A kind file next) content =
     (bytes : List ℕ) × (content file ≡ Some bytes)
-    × (length bytes ≤ kind.limit → (value : A) → kind.gives bytes (Ok value) → IsTold (next value) content)
+    × (length bytes ≤ kind.limit bytes → (value : A) → kind.gives bytes (Ok value) → IsTold (next value) content)
 
 -- the line refuses a file of which nothing is told that gives a value
 abbrev pub RefusesUntold : Reading → Files → (List ℕ → Option (List ℕ)) → List ℕ → Type 0
 RefusesUntold (answers a) files content line = ⊥
 RefusesUntold (reads A kind file next) files content line =
     (RefusedIn kind files file line
-    × ((bytes : List ℕ) → content file ≡ Some bytes → length bytes ≤ kind.limit → (value : A) → ¬ kind.gives bytes (Ok value)))
+    × ((bytes : List ℕ) → content file ≡ Some bytes → length bytes ≤ kind.limit bytes → (value : A) → ¬ kind.gives bytes (Ok value)))
     ⊎ ((value : A) × GivesIn kind files file value × RefusesUntold (next value) files content line)

@@ -1,10 +1,12 @@
 //! The commands.
 mod check;
 mod check_network;
+mod convert;
 mod publish;
 mod run_plan;
 
 pub use check::Check;
 pub use check_network::CheckNetwork;
+pub use convert::Convert;
 pub use publish::Publish;
 pub use run_plan::RunPlan;

@@ -8,7 +8,21 @@ use crate::answer::Fault;
 use crate::kind::FileKind;
 use crate::refusal::{BytesFault, Refusal};
 use std::alloc::Global;
-use te_ports::{Depot, LoadFault, load};
+use te_ports::{Depot, Limit, LoadFault, load_within};
+
+// How many bytes a file of the kind may have.
+#[derive(Drop)]
+struct LimitOf<'a, K> {
+    kind: &'a K,
+}
+
+impl<'a, K: FileKind> Limit for LimitOf<'a, K> {
+    ghost allowed = { λ of. (K.kind of.kind.now).limit };
+
+    fn allowed(&self, bytes: &[u8]) -> u64 {
+        self.kind.limit(bytes)
+    }
+}
 
 // The fault of a file that has too many bytes.
 fn too_long(alloc: Global, file: &str) -> Fault
@@ -38,7 +52,7 @@ fn value_of<K: FileKind>(
     bytes: &[u8],
 ) -> Result<K::Value, Fault>
     requires ready { K.is_ready kind.now }
-    requires few { length bytes.now ≤ (K.kind kind.now).limit }
+    requires few { length bytes.now ≤ (K.kind kind.now).limit bytes.now }
     ensures reads { ReadsBytesOf (K.kind kind.now) file.now bytes.now result }
     ensures sound { IfOk result (K.IsSound kind.now) }
 {
@@ -63,7 +77,7 @@ pub fn value_in<D: Depot, K: FileKind>(
         (shown D.content D.gave D.faults depot.new) result }
     ensures sound { IfOk result (K.IsSound kind.now) }
 {
-    match load(alloc, depot, file, kind.limit()) {
+    match load_within(alloc, depot, file, &LimitOf { kind }) {
         Ok(bytes) => value_of(alloc, kind, file, &bytes),
         Err(LoadFault::TooLong) => Err(too_long(alloc, file)),
         Err(LoadFault::Failed) => Err(Fault::Read),

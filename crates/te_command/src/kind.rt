@@ -4,6 +4,7 @@ ghost use Rattle.te_model.specs.Network.{is_well_formed, link_count, node_count}
 ghost use Rattle.te_model.specs.Validity.{IsValid};
 ghost use Rattle.traffic_matrix.specs.Limits.{IsSeries};
 ghost use Rattle.plan.specs.Plan.{InRange};
+ghost use Rattle.te_ports.specs.Limit.{IsLimit};
 ghost use Rattle.te_command.specs.Reading.{Kind};
 ghost use Rattle.te_command.specs.Outcome.{ReadsBytes};
 
@@ -12,14 +13,11 @@ use cert_text::CertFault;
 use failure::{FailureFault, Failures};
 use plan::{Experiment, PlanFault, read_plan};
 use std::alloc::Global;
-use te_model::{Certificate, Network};
+use te_model::{Certificate, Network, file_limit};
 use topology::TopologyFault;
 use traffic_matrix::{MatrixFault, Series};
 
-/// The greatest certificate file, in bytes.
-const CERTIFICATE_LIMIT: u64 = 134_217_728;
-
-/// The greatest file of another kind, in bytes.
+/// The greatest file of another kind than a certificate, in bytes.
 const INPUT_LIMIT: u64 = 67_108_864;
 
 /// A kind of files.
@@ -36,17 +34,19 @@ pub trait FileKind {
     /// What holds of a value that a file gives.
     ghost IsSound: { Self → Self.Value → Type 0 };
 
-    /// How many bytes a file may have.
-    fn limit(&self) -> u64
-        ensures limit { result ≡ (kind self.now).limit }
-        ensures few { result ≤ 2 ^ 30 };
+    /// How many bytes a file may have that begins with these.
+    fn limit(&self, start: &[u8]) -> u64
+        ensures { result ≡ (kind self.now).limit start.now };
 
     /// What the bytes give.
     fn read(&self, alloc: Global, bytes: &[u8]) -> Result<Self::Value, BytesFault>
         requires ready { is_ready self.now }
-        requires few { length bytes.now ≤ (kind self.now).limit }
+        requires few { length bytes.now ≤ (kind self.now).limit bytes.now }
         ensures reads { ReadsBytes (kind self.now) bytes.now result }
         ensures sound { IfOk result (IsSound self.now) };
+
+    /// The limit is one for files that are read piece by piece.
+    ghost limited: { (of : Self) → IsLimit (kind of).limit };
 }
 
 /// Certificates. What one gives is valid.
@@ -55,6 +55,7 @@ pub struct Certificates;
 
 impl FileKind for Certificates {
     ghost use Rattle.te_command.specs.CertificateFile.{certificates};
+    ghost use Rattle.te_command.specs.Limits.{certificate_limits};
 
     type Value = Certificate;
 
@@ -64,8 +65,10 @@ impl FileKind for Certificates {
 
     ghost IsSound = { λ _. IsValid };
 
-    fn limit(&self) -> u64 {
-        CERTIFICATE_LIMIT
+    ghost limited = { λ _. certificate_limits };
+
+    fn limit(&self, start: &[u8]) -> u64 {
+        file_limit(start)
     }
 
     fn read(&self, alloc: Global, bytes: &[u8]) -> Result<Certificate, BytesFault> {
@@ -84,6 +87,7 @@ pub struct Topologies;
 
 impl FileKind for Topologies {
     ghost use Rattle.te_command.specs.TopologyFile.{topologies};
+    ghost use Rattle.te_command.specs.Limits.{input_limits};
 
     type Value = Network;
 
@@ -93,7 +97,9 @@ impl FileKind for Topologies {
 
     ghost IsSound = { λ _ network. IsTrue (is_well_formed network) × (1 ≤ link_count network) };
 
-    fn limit(&self) -> u64 {
+    ghost limited = { λ _. input_limits };
+
+    fn limit(&self, _start: &[u8]) -> u64 {
         INPUT_LIMIT
     }
 
@@ -114,6 +120,7 @@ pub struct Matrices<'a> {
 
 impl<'a> FileKind for Matrices<'a> {
     ghost use Rattle.te_command.specs.MatrixFile.{matrices};
+    ghost use Rattle.te_command.specs.Limits.{input_limits};
 
     type Value = Series;
 
@@ -123,7 +130,9 @@ impl<'a> FileKind for Matrices<'a> {
 
     ghost IsSound = { λ of. IsSeries (node_count of.network.now) };
 
-    fn limit(&self) -> u64 {
+    ghost limited = { λ _. input_limits };
+
+    fn limit(&self, _start: &[u8]) -> u64 {
         INPUT_LIMIT
     }
 
@@ -145,6 +154,7 @@ pub struct FailureFiles<'a> {
 
 impl<'a> FileKind for FailureFiles<'a> {
     ghost use Rattle.te_command.specs.FailureFile.{failure_files};
+    ghost use Rattle.te_command.specs.Limits.{input_limits};
 
     type Value = Failures;
 
@@ -154,7 +164,9 @@ impl<'a> FileKind for FailureFiles<'a> {
 
     ghost IsSound = { λ _ _. Unit {0} };
 
-    fn limit(&self) -> u64 {
+    ghost limited = { λ _. input_limits };
+
+    fn limit(&self, _start: &[u8]) -> u64 {
         INPUT_LIMIT
     }
 
@@ -174,6 +186,7 @@ pub struct Plans;
 
 impl FileKind for Plans {
     ghost use Rattle.te_command.specs.PlanFile.{plans};
+    ghost use Rattle.te_command.specs.Limits.{input_limits};
 
     type Value = Experiment;
 
@@ -183,7 +196,9 @@ impl FileKind for Plans {
 
     ghost IsSound = { λ _. InRange };
 
-    fn limit(&self) -> u64 {
+    ghost limited = { λ _. input_limits };
+
+    fn limit(&self, _start: &[u8]) -> u64 {
         INPUT_LIMIT
     }
 

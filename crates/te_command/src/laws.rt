@@ -5,22 +5,22 @@ ghost use Rattle.te_ports.specs.Record.{IsPieceOf};
 ghost use Rattle.te_command.specs.Files.{given, told, known};
 ghost use Rattle.te_command.specs.Reading.{IsTold, Means, MeansStatus, Proves, ReadFailed, RefusesUntold};
 ghost use Rattle.te_command.specs.Commands.{Command, check_network, reading_of};
-ghost use Rattle.te_command.specs.Form.{IsCheck};
+ghost use Rattle.te_command.specs.Form.{IsOfCertificate};
 
 use te_ports::Depot;
 
-/// The told files of a command mean one status, and those of `check` one text.
+/// The told files of a command mean one status, and those of a command of a certificate one text.
 pub fn told_files_mean_one_answer()
     ensures some { (command : Command) → (content : List ℕ → Option (List ℕ)) → IsTold (reading_of command) content →
         (status : ℕ) × MeansStatus (reading_of command) (told content) status }
-    ensures some_text { (command : Command) → (content : List ℕ → Option (List ℕ)) → IsCheck command → IsTold (reading_of command) content →
+    ensures some_text { (command : Command) → (content : List ℕ → Option (List ℕ)) → IsOfCertificate command → IsTold (reading_of command) content →
         (status : ℕ) × (text : List ℕ) × Means (reading_of command) (told content) status text }
     ensures status { (command : Command) → (content : List ℕ → Option (List ℕ)) → (s : ℕ) → (text : List ℕ) →
         Means (reading_of command) (told content) s text → MeansStatus (reading_of command) (told content) s }
     ensures one { (command : Command) → (content : List ℕ → Option (List ℕ)) → (s : ℕ) → (t : ℕ) →
         MeansStatus (reading_of command) (told content) s → MeansStatus (reading_of command) (told content) t → s ≡ t }
     ensures one_text { (command : Command) → (content : List ℕ → Option (List ℕ)) → (s : ℕ) → (t : ℕ) → (a : List ℕ) → (b : List ℕ) →
-        IsCheck command → Means (reading_of command) (told content) s a → Means (reading_of command) (told content) t b → a ≡ b }
+        IsOfCertificate command → Means (reading_of command) (told content) s a → Means (reading_of command) (told content) t b → a ≡ b }
 {}
 
 /// What the told files of a command mean at status 0 proves what its text says.

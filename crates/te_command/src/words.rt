@@ -6,7 +6,7 @@ ghost use Rattle.te_command.specs.Asked.{meant};
 
 use crate::answer::{Answer, Fault};
 use crate::ask::Ask;
-use crate::commands::{Check, CheckNetwork, Publish, RunPlan};
+use crate::commands::{Check, CheckNetwork, Convert, Publish, RunPlan};
 use std::alloc::Global;
 use te_ports::Depot;
 
@@ -15,6 +15,7 @@ use te_ports::Depot;
 pub enum Command<'a> {
     Check(Check<'a>),
     CheckNetwork(CheckNetwork<'a>),
+    Convert(Convert<'a>),
     Publish(Publish<'a>),
     Run(RunPlan<'a>),
 }
@@ -28,6 +29,7 @@ impl<'a> Ask for Command<'a> {
         match self {
             Command::Check(command) => command.answer(alloc, depot),
             Command::CheckNetwork(command) => command.answer(alloc, depot),
+            Command::Convert(command) => command.answer(alloc, depot),
             Command::Publish(command) => command.answer(alloc, depot),
             Command::Run(command) => command.answer(alloc, depot),
         }
@@ -40,6 +42,9 @@ pub fn command_of(words: &[String]) -> Option<Command<'_>>
 {
     match words {
         [word, certificate] if word.as_str() == "check" => Some(Command::Check(Check {
+            certificate: certificate.as_str(),
+        })),
+        [word, certificate] if word.as_str() == "convert" => Some(Command::Convert(Convert {
             certificate: certificate.as_str(),
         })),
         [word, plan] if word.as_str() == "publish" => Some(Command::Publish(Publish {

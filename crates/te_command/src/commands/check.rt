@@ -39,6 +39,7 @@ fn yes_line(alloc: Global, ratio: u64, set: &DemandSet) -> Result<String, Memory
         DemandSet::Margin { num, den, .. } => {
             Ok(format!(in alloc; "yes ratio {ratio} set margin {num} {den}\n")?)
         }
+        DemandSet::Box { .. } => Ok(format!(in alloc; "yes ratio {ratio} set box\n")?),
     }
 }
 

@@ -1,0 +1,41 @@
+//! `convert CERT`: the certificate in a file, as a file of the second format.
+ghost use Rattle.std.specs.Prelude.{IfOk};
+ghost use Rattle.te_model.specs.Validity.{IsValid};
+ghost use Rattle.te_command.specs.Convert.{conversion_of};
+ghost use Rattle.te_command.specs.Outcome.{status_of, text_of};
+
+use crate::answer::{Answer, Fault};
+use crate::ask::Ask;
+use crate::files::value_in;
+use crate::kind::Certificates;
+use cert_text::{print, upgrade};
+use std::alloc::Global;
+use te_model::{Certificate, Memory};
+use te_ports::Depot;
+
+/// `convert CERT`.
+#[derive(Clone, Copy, Debug)]
+pub struct Convert<'a> {
+    pub certificate: &'a str,
+}
+
+impl<'a> Ask for Convert<'a> {
+    ghost use Rattle.te_command.specs.Commands.{reading_of, convert};
+
+    ghost reading = { λ c. reading_of (convert c.certificate.now) };
+
+    fn answer<D: Depot>(&self, alloc: Global, depot: &mut D) -> Result<Answer, Fault> {
+        let spelled = value_in(alloc, depot, &Certificates, self.certificate)?;
+        Ok(converted(alloc, spelled)?)
+    }
+}
+
+// The file of the certificate in the second format.
+fn converted(alloc: Global, certificate: Certificate) -> Result<Answer, Memory>
+    requires { IsValid certificate }
+    ensures { IfOk result (λ answer. (conversion_of certificate).text (status_of answer) (text_of answer)) }
+{
+    let upgraded = upgrade(alloc, certificate)?;
+    let file = print(alloc, &upgraded)?;
+    Ok(Answer::Done(file))
+}
