@@ -9,11 +9,15 @@ with the crates. It is slow and plain on purpose.
 import re
 import sys
 
-FILE_LIMIT = 134_217_728
 SHARE_UNIT = 1_000_000
 RATIO_UNIT = 1_000_000
 NAME = re.compile(rb"[A-Za-z0-9_.-]{1,32}\Z")
 NUMBER = re.compile(rb"(0|[1-9][0-9]*)\Z")
+# what each format allows: its first line, nodes, links, pairs, paths of a pair, links of a path, and bytes of a file
+FORMATS = {
+    1: (b"yates-ratio 1", 64, 512, 4032, 32, 63, 134_217_728),
+    2: (b"yates-ratio 2", 128, 1024, 16_256, 32, 127, 1_073_741_824),
+}
 
 
 class ShapeFault(Exception):
@@ -76,45 +80,49 @@ class Lines:
 def read(data):
     """The certificate that the bytes spell, whatever the rules say of it."""
     lines = Lines(data)
-    if lines.take() != b"yates-ratio 1":
+    first = lines.take()
+    cert = {"format": next((number for number, limits in FORMATS.items() if limits[0] == first), None)}
+    if cert["format"] is None:
         raise lines.fault()
-    cert = {}
-    nodes = lines.count(b"nodes", 2, 64)
+    _, most_nodes, most_links, most_pairs, most_paths, most_hops, _ = FORMATS[cert["format"]]
+    nodes = lines.count(b"nodes", 2, most_nodes)
     cert["names"] = []
     for _ in range(nodes):
         name = lines.take()
         if not NAME.match(name):
             raise lines.fault()
         cert["names"].append(name)
-    links = lines.count(b"links", 1, 512)
+    links = lines.count(b"links", 1, most_links)
     cert["links"] = [lines.row(4) for _ in range(links)]
-    pairs = lines.count(b"pairs", 0, 4032)
+    pairs = lines.count(b"pairs", 0, most_pairs)
     cert["pairs"] = []
     for _ in range(pairs):
         src, dst, count = lines.row(3)
-        if not 1 <= count <= 32:
+        if not 1 <= count <= most_paths:
             raise lines.fault()
         paths = []
         for _ in range(count):
             row = lines.row(None)
-            if len(row) < 2 or not 1 <= row[1] <= 63 or len(row) != 2 + row[1]:
+            if len(row) < 2 or not 1 <= row[1] <= most_hops or len(row) != 2 + row[1]:
                 raise lines.fault()
             paths.append((row[0], row[2:]))
         cert["pairs"].append((src, dst, paths))
     tokens = lines.tokens()
     if tokens == [b"set", b"all"]:
         cert["set"] = None
-    elif tokens[:2] == [b"set", b"margin"]:
+    elif cert["format"] == 1 and tokens[:2] == [b"set", b"margin"]:
         num, den = lines.numbers(tokens[2:], 2)
-        cert["set"] = (num, den, lines.worded(b"base", pairs))
+        cert["set"] = ("margin", num, den, lines.worded(b"base", pairs))
+    elif cert["format"] == 2 and tokens == [b"set", b"box"]:
+        cert["set"] = ("box", lines.worded(b"lower", pairs), lines.worded(b"upper", pairs))
     else:
         raise lines.fault()
     cert["ratio"] = lines.worded(b"ratio", 1)[0]
-    blocks = lines.count(b"blocks", 0, 512)
+    blocks = lines.count(b"blocks", 0, most_links)
     cert["blocks"] = []
     for _ in range(blocks):
         link, a, b, rows = lines.row(4)
-        if rows > 64:
+        if rows > most_nodes:
             raise lines.fault()
         block = {"link": link, "a": a, "b": b, "weights": lines.row(links)}
         block["rows"] = []
@@ -161,11 +169,14 @@ def first_rule(cert):
             yield 5, p, all(a[1] < b[1] for a, b in zip(paths, paths[1:]))
         for p, (_, _, paths) in enumerate(pairs):
             yield 6, p, all(w >= 1 for w, _ in paths) and sum(w for w, _ in paths) == SHARE_UNIT
-        if cert["set"]:
-            num, den, base = cert["set"]
+        if cert["set"] and cert["set"][0] == "margin":
+            _, num, den, base = cert["set"]
             yield 7, 0, 1 <= num <= 1000 and 1 <= den <= 1000 and num >= den
             for p, demand in enumerate(base):
                 yield 7, 1 + p, demand <= 2**32
+        if cert["set"] and cert["set"][0] == "box":
+            for p, (low, high) in enumerate(zip(*cert["set"][1:])):
+                yield 7, 1 + p, low <= high <= 2**52
         yield 8, 0, cert["ratio"] < 10**19
         for k, b in enumerate(blocks):
             above = k == 0 or blocks[k - 1]["link"] < b["link"]
@@ -181,6 +192,14 @@ def first_rule(cert):
             )
 
     return next(((rule, place) for rule, place, holds in rules() if not holds), None)
+
+
+def bounds(cert):
+    """The least and the greatest demand of each pair, up to a common factor."""
+    if cert["set"][0] == "box":
+        return cert["set"][1:]
+    _, num, den, base = cert["set"]
+    return [d * den * den for d in base], [d * num * num for d in base]
 
 
 def first_failure(cert):
@@ -209,9 +228,9 @@ def first_failure(cert):
             if share * b + a * minus > a * (distance + plus):
                 return e, 2, p
         if cert["set"] and block["plus"]:
-            num, den, base = cert["set"]
-            added = sum(d * num * num * x for d, x in zip(base, block["plus"]))
-            taken = sum(d * den * den * x for d, x in zip(base, block["minus"]))
+            lower, upper = bounds(cert)
+            added = sum(d * x for d, x in zip(upper, block["plus"]))
+            taken = sum(d * x for d, x in zip(lower, block["minus"]))
             if added > taken:
                 return e, 3, 0
         weighted = sum(link[2] * w for link, w in zip(cert["links"], weights))
@@ -222,7 +241,7 @@ def first_failure(cert):
 
 def check(name, data):
     """The text that is printed, to standard output or error, and the status."""
-    if len(data) > FILE_LIMIT:
+    if len(data) > FORMATS[2 if data.startswith(FORMATS[2][0] + b"\n") else 1][-1]:
         return "", f"refused: {name}: too long\n", 3
     try:
         cert = read(data)
@@ -234,7 +253,8 @@ def check(name, data):
     failed = first_failure(cert)
     if failed:
         return "no link %d rule I%d place %d\n" % failed, "", 1
-    kind = "all" if cert["set"] is None else "margin %d %d" % cert["set"][:2]
+    kinds = {"margin": lambda num, den, _: f"margin {num} {den}", "box": lambda *_: "box"}
+    kind = kinds[cert["set"][0]](*cert["set"][1:]) if cert["set"] else "all"
     return f"yes ratio {cert['ratio']} set {kind}\n", "", 0
 
 
