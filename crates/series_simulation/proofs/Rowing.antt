@@ -28,10 +28,10 @@ module _ {Plan Note : Type 0} (limit : ℕ) (is_plan : Network → List Pair →
     (relates : Network → List Pair → Plan → List ℕ → List PairRoutes → Note → Type 0) (low : Note → Option ℕ)
     (net : Network) (series : Series) (failures : Failures) (recovery : Recovery) (plan : Plan) where
   -- the row of step k, by the plan
-  pub record IsRowOf (k : ℕ) (row : StepRow) : Type 0 where
-    pub step : row.step ≡ k
-    pub row : IsStepRow limit is_plan relates low net (marks_of net failures k) series.pairs.list (demands_in series k) recovery plan row
-    pub conserved : IsConservedStep (demands_in series k) row.result
+  pub record IsRowOf (k : ℕ) (r : StepRow) : Type 0 where
+    pub step : r.step ≡ k
+    pub row : IsStepRow limit is_plan relates low net (marks_of net failures k) series.pairs.list (demands_in series k) recovery plan r
+    pub conserved : IsConservedStep (demands_in series k) r.result
 
   -- the rows of the first n steps
   pub record AreRowsBefore (n : ℕ) (rows : List StepRow) : Type 0 where

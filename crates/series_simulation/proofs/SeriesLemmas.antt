@@ -19,16 +19,11 @@ use Rattle.series_simulation.proofs.FewPairs.{network_pairs_few}
 pub ascending_pairs : (n : ℕ) (series : Series) → IsSeries n series → AscendPairs series.pairs.list
 ascending_pairs n series is k below = is.ascending k (suc k) no_pair (omega arith) below
 
-each_pair : (net : Network) (series : Series) → IsSeries (node_count net) series → All (IsPairOf net) series.pairs.list
-each_pair net series is k d below =
-    let pair = is.pairs k d below in
-    record { src_inside = pair.src_inside; dst_inside = pair.dst_inside; apart = pair.apart }
-
 -- pairs as schemes want them
 pub series_pairs : (net : Network) (series : Series) → is_well_formed net ≡ true → IsSeries (node_count net) series → ArePairsOf net series.pairs.list
 series_pairs net series formed is =
-    let each = each_pair net series is in
-    record { each = each; few = omega (arith, network_pairs_few net series.pairs.list formed each (ascending_pairs (node_count net) series is)) }
+    let few = network_pairs_few net series.pairs.list formed is.pairs (ascending_pairs (node_count net) series is) in
+    record { each = is.pairs; few = omega (arith, few) }
 
 -- pairs as a step wants them
 pub series_rates : (net : Network) (series : Series) → IsSeries (node_count net) series → ArePairs net series.pairs.list

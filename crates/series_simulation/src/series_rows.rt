@@ -65,8 +65,9 @@ pub fn row_of<S: Scheme>(
 
 /// One row for each step of the series, by a scheme whose pairs have at most 4,096 paths each.
 ///
-/// The scheme is prepared for the declared pairs that have a path in the network, and each row is that of `row_of`. The only error is `Memory`, where memory is wanting. An outage of a link that the network does not have
-/// changes nothing. (After YATES; Kumar and others, 2018.)
+/// The scheme is prepared for the declared pairs that have a path in the network, and each row is that of `row_of`. The only error is
+/// `Memory`, where memory is wanting. An outage of a link that the network does not have changes nothing. (After YATES; Kumar and
+/// others, 2018.)
 pub fn drive<S: Scheme>(
     alloc: Global,
     scheme: &S,

@@ -13,8 +13,10 @@ prepare_connected-requires-clause-pairs g c = series_pairs c.args.net.now c.args
 
 pub loop-step-init : goal.loop-step-init
 loop-step-init g c =
-    rows_begin g.S.Scheme.PATHS (g.S.Scheme.is_plan c.args.scheme.now) (g.S.Scheme.relates c.args.scheme.now) g.S.Note.LowNote.low c.args.net.now
-    c.args.series.now c.args.failures.now c.args.recovery c.in_ok-prepared.prepared.plan
+    subst (AreRowsBefore g.S.Scheme.PATHS (g.S.Scheme.is_plan c.args.scheme.now) (g.S.Scheme.relates c.args.scheme.now) g.S.Note.LowNote.low c.args.net.now
+    c.args.series.now c.args.failures.now c.args.recovery c.in_ok-prepared.prepared.plan 0) (sym c.new-rows.ensures.items)
+    (rows_begin g.S.Scheme.PATHS (g.S.Scheme.is_plan c.args.scheme.now) (g.S.Scheme.relates c.args.scheme.now) g.S.Note.LowNote.low c.args.net.now
+    c.args.series.now c.args.failures.now c.args.recovery c.in_ok-prepared.prepared.plan)
 
 pub index-requires : goal.index-requires
 index-requires g c =
@@ -25,7 +27,7 @@ index-requires g c =
       series_count c.args.net.now c.args.failures.now (length c.as_slice-steps.result.now) c.in_ok-marks.marks.items c.in_ok-marks.ensures,
     )
 
-pub row_of-requires-clause-marks : goal.step_row-requires-clause-marks
+pub row_of-requires-clause-marks : goal.row_of-requires-clause-marks
 row_of-requires-clause-marks g c =
     let net = c.args.net.now in
     let failed : c.as_slice.result.now ≡ marks_of net c.args.failures.now c.loop-step.step =
