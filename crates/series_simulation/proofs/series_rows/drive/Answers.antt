@@ -1,10 +1,10 @@
-use Rattle.std.proofs.Common.{◌≡◌, ℕ, ◌+◌, ◌<◌, Bool, List, [], ◌∷◌, ◌++◌, length, arith, ap, sym, subst, ◌∙◌}
+use Rattle.std.proofs.Common.{◌≡◌, ℕ, ◌+◌, ◌<◌, Bool, List, length, arith, ap, sym, subst, ◌∙◌}
 use Rattle.failure.specs.Series.{marks_of}
 use Rattle.series_simulation.specs.declared.step_row.StepRow.{StepRow}
 use Rattle.series_simulation.specs.Rows.{AreStepRows, IsStepRow, demands_in, step_row_at}
 use Rattle.series_simulation.specs.Simulation.{IsConservedStep}
 use Rattle.series_simulation.proofs.Marking.{marks_at, marks_count, series_count}
-use Rattle.series_simulation.proofs.Rowing.{AreRowsBefore, IsRowOf, rows_begin, rows_next, rows_end}
+use Rattle.series_simulation.proofs.Rowing.{AreRowsBefore, rows_begin, rows_next, rows_end}
 use Rattle.series_simulation.proofs.SeriesLemmas.{series_pairs}
 use Rattle.series_simulation.proofs.series_rows.drive.Goals as goal
 
