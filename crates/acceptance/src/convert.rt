@@ -80,7 +80,7 @@ const CERTIFICATES: &[(&[&str], u8, &str)] = &[
     (
         TRIANGLE_MARGIN_IN_SECOND,
         3,
-        "refused: c: shape at line 15\n",
+        "refused: c: shape at line 16\n",
     ),
     (TRIANGLE_BOX_IN_FIRST, 3, "refused: c: shape at line 16\n"),
 ];

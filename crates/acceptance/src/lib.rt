@@ -6,6 +6,8 @@ mod call;
 #[cfg(test)]
 mod certificates;
 #[cfg(test)]
+mod chain;
+#[cfg(test)]
 mod changes;
 #[cfg(test)]
 mod check;
