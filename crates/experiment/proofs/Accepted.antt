@@ -1,6 +1,7 @@
 -- Published files are accepted.
 use Rattle.std.proofs.Common.{ℕ, List}
 use Rattle.te_model.specs.declared.network.Network.{Network}
+use Rattle.te_model.specs.Text.{Spells}
 use Rattle.te_model.proofs.Failures.{none_from_holds}
 use Rattle.te_model.proofs.Oblivious.{holds_is_oblivious}
 use Rattle.traffic_matrix.specs.declared.series.Series.{Series}
@@ -12,7 +13,7 @@ pub published_accepted : (plan : Experiment) (network : Network) (series : Serie
     IsPublished plan network series bytes → IsAccepted bytes
 published_accepted plan network series bytes is =
     let made = is.file.made in
-    let spelled = (made.valid, is.file.text_is) in
+    let spelled : Spells bytes is.file.certificate = (made.valid, is.file.text_is) in
     record {
       fits = fits_file bytes is.file.certificate spelled;
       certificate = is.file.certificate;

@@ -2,5 +2,6 @@ mod RoutingWithin
 mod PublishedSets
 mod Fields
 mod Reports
+mod SchemeLines
 mod ByName
 pub mod Accepted

@@ -1,17 +1,11 @@
-use Rattle.std.proofs.Common.{◌≡◌, ℕ, ◌<◌, ◌≤◌, ◌*◌, ◌+◌, ◌^◌, ◌∙◌, Bool, List, [], ◌∷◌, ◌++◌, None, length, ap, sym, subst, arith, refl}
-use Rattle.std.specs.Prelude.{codes}
-use Rattle.std.specs.List.{flat_map}
-use Rattle.std.proofs.lemmas.List.{append-nil}
-use Rattle.std.proofs.lemmas.List.Concat.{flat_map-append}
-use Rattle.std.proofs.lemmas.List.Sums.{fold_push}
+use Rattle.std.proofs.Common.{◌≡◌, ℕ, ◌≤◌, ◌*◌, ◌^◌, ◌∙◌, Bool, List, [], ◌∷◌, ◌++◌, length, ap, sym, subst, arith}
 use Rattle.failure.specs.Series.{marks_of}
 use Rattle.series_simulation.specs.Rows.{IsStepRow, demands_in}
 use Rattle.series_simulation.proofs.Marking.{marks_at, marks_count, series_count}
 use Rattle.series_simulation.proofs.Rowing.{rows_begin, rows_next, rows_end}
 use Rattle.series_simulation.proofs.SeriesLemmas.{series_pairs}
-use Rattle.experiment.specs.declared.figures.Figures.{Figures}
-use Rattle.series_simulation.specs.declared.step_row.StepRow.{StepRow}
-use Rattle.experiment.specs.Text.{AmountsAtMost, figures_of, line, no_figures, row_line, with_step}
+use Rattle.experiment.specs.Text.{AmountsAtMost}
+use Rattle.experiment.proofs.SchemeLines.{lines_end, lines_next, total_next}
 use Rattle.experiment.proofs.reporting.lines_of.Goals as goal
 
 pub prepare_connected-requires-clause-pairs : goal.prepare_connected-requires-clause-pairs
@@ -21,8 +15,9 @@ pub loop-step-init : goal.loop-step-init
 loop-step-init g c = record {
   written = (
     [],
-    rows_begin g.S.Scheme.PATHS (g.S.Scheme.is_plan c.args.scheme.now) (g.S.Scheme.relates c.args.scheme.now) g.S.Note.LowNote.low c.args.network.now c.args.series.now c.args.failures.now c.args.recovery c.in_ok-prepared.prepared.plan,
-    c.new-text.ensures,
+    rows_begin g.S.Scheme.PATHS (g.S.Scheme.is_plan c.args.scheme.now) (g.S.Scheme.relates c.args.scheme.now) g.S.Note.LowNote.low
+        c.args.network.now c.args.series.now c.args.failures.now c.args.recovery c.in_ok-prepared.prepared.plan,
+    c.new-text.ensures.items,
     c.none-total.ensures,
   );
   small = subst (AmountsAtMost 0) (sym c.none-total.ensures)
@@ -38,7 +33,7 @@ index-requires g c =
       series_count c.args.network.now c.args.failures.now (length c.as_slice-steps.result.now) c.in_ok-marks.marks.items c.in_ok-marks.ensures,
     )
 
-pub row_of-requires-clause-marks : goal.step_row-requires-clause-marks
+pub row_of-requires-clause-marks : goal.row_of-requires-clause-marks
 row_of-requires-clause-marks g c =
     let net = c.args.network.now in
     let failed : c.as_slice-failed.result.now ≡ marks_of net c.args.failures.now c.loop-step.step =
@@ -62,31 +57,29 @@ pub loop-step-preserved : goal.loop-step-preserved
 loop-step-preserved g c =
     let net = c.args.network.now in
     let series = c.args.series.now in
+    let failures = c.args.failures.now in
+    let plan = c.in_ok-prepared.prepared.plan in
     let step = c.loop-step.step in
     let row = c.in_ok-row.row in
-    let word = c.args.word.now in
     let so_far = c.loop-step.invariant in
     let rows = so_far.written.0 in
-    let failed : c.as_slice-failed.result.now ≡ marks_of net c.args.failures.now step =
-    c.as_slice-failed.ensures ∙ marks_at net c.args.failures.now (length c.as_slice-steps.result.now) step c.in_ok-marks.marks.items
+    let failed : c.as_slice-failed.result.now ≡ marks_of net failures step =
+    c.as_slice-failed.ensures ∙ marks_at net failures (length c.as_slice-steps.result.now) step c.in_ok-marks.marks.items
     c.index.result.now c.in_ok-marks.ensures c.loop-step-test.true c.index.ensures in
     record {
       written = (
         rows ++ row ∷ [],
-        rows_next g.S.Scheme.PATHS (g.S.Scheme.is_plan c.args.scheme.now) (g.S.Scheme.relates c.args.scheme.now) g.S.Note.LowNote.low c.args.network.now c.args.series.now c.args.failures.now c.args.recovery c.in_ok-prepared.prepared.plan step rows row so_far.written.1
+        rows_next g.S.Scheme.PATHS (g.S.Scheme.is_plan c.args.scheme.now) (g.S.Scheme.relates c.args.scheme.now) g.S.Note.LowNote.low
+            net series failures c.args.recovery plan step rows row so_far.written.1
             (record {
               step = c.in_ok-row.ensures.step;
-              row = subst (λ (marks : List Bool). IsStepRow g.S.Scheme.PATHS (g.S.Scheme.is_plan c.args.scheme.now) (g.S.Scheme.relates c.args.scheme.now) g.S.Note.LowNote.low net marks series.pairs.list (demands_in series step) c.args.recovery
-                  c.in_ok-prepared.prepared.plan row) failed c.in_ok-row.ensures.row;
+              row = subst (λ (marks : List Bool). IsStepRow g.S.Scheme.PATHS (g.S.Scheme.is_plan c.args.scheme.now)
+                  (g.S.Scheme.relates c.args.scheme.now) g.S.Note.LowNote.low net marks series.pairs.list (demands_in series step)
+                  c.args.recovery plan row) failed c.in_ok-row.ensures.row;
               conserved = c.in_ok-row.ensures.conserved;
             }),
-        c.in_ok-print_row.ensures
-            ∙ (ap (λ (t : List ℕ). t ++ row_line word row) so_far.written.2
-            ∙ sym (flat_map-append (row_line word) rows (row ∷ []) ∙ ap (λ (l : List ℕ). flat_map (row_line word) rows ++ l) (append-nil (row_line word row)))),
-        c.add.ensures.total
-            ∙ (ap (λ (s : Figures). with_step c.loop-step.total s) c.of.ensures.figures
-            ∙ (ap (λ (f : Figures). with_step f (figures_of row)) so_far.written.3
-            ∙ sym (fold_push (λ (f : Figures) (r : StepRow). with_step f (figures_of r)) no_figures rows row))),
+        lines_next c.args.word.now c.loop-step.text.items c.print_row.new.text.items rows row so_far.written.2 c.in_ok-print_row.ensures,
+        total_next c.loop-step.total c.of.result c.add.new.self rows row so_far.written.3 c.of.ensures.figures c.add.ensures.total,
       );
       small = subst (λ (n : ℕ). AmountsAtMost n c.add.new.self) (omega arith) (c.add.ensures.small (step * 2 ^ 64) so_far.small);
     }
@@ -95,13 +88,13 @@ pub returns : goal.returns
 returns g c =
     let so_far = c.loop-step.invariant in
     let rows = so_far.written.0 in
-    let word = c.args.word.now in
     let every : c.loop-step.step ≡ length c.args.series.now.steps =
     omega (arith, c.loop-step-test.false, c.loop-step.auto.step-end, ap length c.as_slice-steps.ensures)
     in (
       rows,
-      rows_end g.S.Scheme.PATHS (g.S.Scheme.is_plan c.args.scheme.now) (g.S.Scheme.relates c.args.scheme.now) g.S.Note.LowNote.low c.args.network.now c.args.series.now c.args.failures.now c.args.recovery c.in_ok-prepared.prepared.plan c.loop-step.step rows every so_far.written.1,
-      c.in_ok-print_total.ensures
-          ∙ (ap (λ (t : List ℕ). t ++ line word (codes "total") c.loop-step.total None) so_far.written.2
-          ∙ ap (λ (f : Figures). flat_map (row_line word) rows ++ line word (codes "total") f None) so_far.written.3),
+      rows_end g.S.Scheme.PATHS (g.S.Scheme.is_plan c.args.scheme.now) (g.S.Scheme.relates c.args.scheme.now) g.S.Note.LowNote.low
+          c.args.network.now c.args.series.now c.args.failures.now c.args.recovery c.in_ok-prepared.prepared.plan c.loop-step.step rows every
+          so_far.written.1,
+      lines_end c.args.word.now c.loop-step.text.items c.print_total.new.text.items c.loop-step.total rows so_far.written.2 so_far.written.3
+          c.in_ok-print_total.ensures,
     )
