@@ -26,7 +26,7 @@ upgraded_once : (c : Certificate) → upgraded (upgraded c) ≡ upgraded c
 unfolding with_set
 upgraded_once c = ap (with_set c) (box_once c.head.set)
 
-spells_upgraded : (c : Certificate) (bytes file : List ℕ) → Spells bytes c → file ≡ text_of (upgraded c) → Spells file (upgraded c)
+pub spells_upgraded : (c : Certificate) (bytes file : List ℕ) → Spells bytes c → file ≡ text_of (upgraded c) → Spells file (upgraded c)
 spells_upgraded c bytes file spells is = (valid_kept c spells.0, is)
 
 is_converted : (c : Certificate) (bytes file : List ℕ) → Spells bytes c → file ≡ text_of (upgraded c) → IsConverted file

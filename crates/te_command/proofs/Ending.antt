@@ -43,7 +43,7 @@ formed Form (reads A kind file next) files s text sound other (inl x) = absurd (
 formed Form (reads A kind file next) files s text sound other (inr (value, gives, later)) =
     formed Form (next value) files s text (sound gives.0 value gives.3) other later
 
-some_once : (o : Option (List ℕ)) (x y : List ℕ) → o ≡ Some x → o ≡ Some y → x ≡ y
+pub some_once : (o : Option (List ℕ)) (x y : List ℕ) → o ≡ Some x → o ≡ Some y → x ≡ y
 some_once o x y p q = cc
 
 ok_or_err : {A : Type 0} (x : A) (y : List ℕ) → ◌≡◌ {A = Result A (List ℕ)} (Ok x) (Err y) → ⊥

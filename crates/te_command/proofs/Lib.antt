@@ -5,6 +5,7 @@ pub mod Verdict
 pub mod Ending
 pub mod Regular
 pub mod Converting
+pub mod Alike
 pub mod Table
 pub mod Delivering
 pub mod Answering

@@ -27,8 +27,8 @@ pub record IsConverted (bytes : List ℕ) : Type 0 where
   pub format : certificate.head.format ≡ FORMAT_2.format
   pub answer : (file : List ℕ) → Means (reading_of (convert file)) (told (λ name. Some bytes)) 0 bytes
 
--- `check` says yes or no, `convert` writes a file of the second format, `publish` writes a file to which `check` says yes, or names a pair without a path, and `run` writes
--- a report
+-- `check` says yes or no, `convert` writes a file of the second format, `publish` writes a file to which `check` says yes, or names
+-- a pair without a path, and `run` writes a report
 abbrev pub IsAnswer : Command → ℕ → List ℕ → Type 0
 IsAnswer (check certificate) status text = status ≤ 1
 IsAnswer (check_network certificate topology) status text = status ≤ 1

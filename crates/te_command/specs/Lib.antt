@@ -14,6 +14,7 @@ pub mod Publish
 pub mod Report
 pub mod Commands
 pub mod Form
+pub mod Converted
 pub mod Run
 pub mod Asked
 pub mod Outcome

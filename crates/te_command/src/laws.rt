@@ -4,8 +4,9 @@ ghost use Rattle.te_ports.specs.Ports.{Rose};
 ghost use Rattle.te_ports.specs.Record.{IsPieceOf};
 ghost use Rattle.te_command.specs.Files.{given, told, known};
 ghost use Rattle.te_command.specs.Reading.{IsTold, Means, MeansStatus, Proves, ReadFailed, RefusesUntold};
-ghost use Rattle.te_command.specs.Commands.{Command, check_network, reading_of};
+ghost use Rattle.te_command.specs.Commands.{Command, check, check_network, reading_of};
 ghost use Rattle.te_command.specs.Form.{IsOfCertificate};
+ghost use Rattle.te_command.specs.Converted.{AreConverted, SayYesAlike};
 
 use te_ports::Depot;
 
@@ -27,6 +28,16 @@ pub fn told_files_mean_one_answer()
 pub fn told_yes_is_a_proof()
     ensures { (command : Command) → (content : List ℕ → Option (List ℕ)) → (text : List ℕ) →
         Means (reading_of command) (told content) 0 text → Proves (reading_of command) (told content) text }
+{}
+
+/// `check` says of the file that `convert` made what it says of the one that was converted: no by the same inequality, or yes
+/// to the same ratio.
+pub fn converted_files_are_answered_alike()
+    ensures no { (content : List ℕ → Option (List ℕ)) → (file : List ℕ) → (made : List ℕ) → AreConverted content file made → (line : List ℕ) →
+        Means (reading_of (check file)) (told content) 1 line → Means (reading_of (check made)) (told content) 1 line }
+    ensures yes { (content : List ℕ → Option (List ℕ)) → (file : List ℕ) → (made : List ℕ) → AreConverted content file made → (line : List ℕ) →
+        Means (reading_of (check file)) (told content) 0 line →
+        (boxed : List ℕ) × SayYesAlike line boxed × Means (reading_of (check made)) (told content) 0 boxed }
 {}
 
 /// Of any depot, what reads gave of told files is what is told, and so it means what the told files mean.

@@ -18,7 +18,7 @@ use te_ports::{Depot, Sink};
 ///
 /// | Status | When | What is written |
 /// |---|---|---|
-/// | 0 | the answer is yes, a certificate is published, or the schemes are compared | the line, the certificate's file or the report, to `out` |
+/// | 0 | the answer is yes, a certificate is published or converted, or the schemes are compared | the line, the certificate's file or the report, to `out` |
 /// | 1 | the answer is no | the line, to `out` |
 /// | 2 | the words are no form of a command | `usage`, to `err` |
 /// | 3 | a file is refused | the file and the reason, to `err` |
@@ -48,7 +48,8 @@ pub fn run<D: Depot, O: Sink, E: Sink>(
         Answered (reading_of command) (told (D.content depot.old)) result
         (change O.written O.faults out.old out.new) (change E.written E.faults err.old err.new)) }
 
-    // Whatever the files hold, the command may answer so, and each file that is published is one to which `check` says yes.
+    // Whatever the files hold, the command may answer so: each file that is published is one to which `check` says yes, and each
+    // that is converted is one of the second format.
     ensures form { OfCommand (texts words.now) (λ command.
         HasForm command result (change O.written O.faults out.old out.new) (change E.written E.faults err.old err.new)) }
 
