@@ -1,4 +1,6 @@
 //! Calls of the program over files and sinks in memory, and what they leave.
+ghost use Rattle.std.specs.Prelude.{◌≤◌};
+
 use std::alloc::Global;
 use std::process::Abort;
 use std::test::Fail;
@@ -107,7 +109,9 @@ fn status_of<D: Depot>(
 }
 
 /// The files, which are given in pieces of so many bytes.
-fn depot_in_pieces(alloc: Global, files: &[File<'_>], piece: usize) -> Result<MemDepot, Fail> {
+fn depot_in_pieces(alloc: Global, files: &[File<'_>], piece: usize) -> Result<MemDepot, Fail>
+    requires { 1 ≤ piece }
+{
     let mut depot = MemDepot::new(alloc, piece)?;
     for (name, parts) in files {
         if !parts.is_empty() {
