@@ -1,0 +1,70 @@
+-- The summary of a drawn network: what is published on it, judged and simulated.
+use Rattle.std.specs.Prelude.{◌≡◌, ℕ, List, [], length, sum_by}
+use Rattle.te_model.specs.declared.network.Network.{Network}
+use Rattle.te_model.specs.declared.route.Pair.{Pair}
+use Rattle.te_model.specs.declared.route.PairRoutes.{PairRoutes}
+use Rattle.te_model.specs.declared.demand.DemandSet.TheVariants.{All}
+use Rattle.te_model.specs.Network.{link_count, node_count}
+use Rattle.te_model.specs.Ratio.{IsObliviousRatio}
+use Rattle.random_network.specs.Drawn.{network_of}
+use Rattle.failure.specs.declared.outage.Failures.{Failures}
+use Rattle.traffic_matrix.specs.Gravity.{every_pair, gravity_of}
+use Rattle.plan.specs.declared.recovery.Recovery.TheVariants.{Keep}
+use Rattle.path_budget.specs.Budget.{trimmed}
+use Rattle.racke_mix.specs.declared.round.Round.{Round}
+use Rattle.racke_mix.specs.Racke.{IsRackePlan}
+use Rattle.ratio_checker.specs.declared.finding.Finding.TheVariants.{Yes}
+use Rattle.scheme.specs.Least.{IsLeastSplit}
+use Rattle.scheme.specs.declared.spf.SpfPlan.{SpfPlan}
+use Rattle.series_simulation.specs.declared.step_row.StepRow.{StepRow}
+use Rattle.series_simulation.specs.Rows.{AreStepRows}
+use Rattle.experiment.specs.Published.{IsMadeFile}
+use Rattle.experiment.specs.Schemes.{SchemeMeaning, rule_scheme, spf_paths}
+use Rattle.generation.specs.declared.lines.Summary.{Summary}
+use Rattle.generation.specs.Text.{lines_of}
+
+-- the file of a certificate, for all matrices, that is made of the routing over four trees of the seed, of which each pair keeps the 32
+-- heaviest paths
+pub record IsDrawnFile (seed : ℕ) (net : Network) (pairs : List Pair) (file : List ℕ) : Type 0 where
+  pub rounds : List Round
+  pub routes : List PairRoutes
+  pub mix : IsRackePlan 4 seed net pairs rounds routes
+  pub made : IsMadeFile net (trimmed 32 routes) All file
+
+-- least paths by cost
+abbrev pub least_paths : SchemeMeaning
+least_paths = rule_scheme (λ (p : SpfPlan). p.routing.routes) spf_paths IsLeastSplit
+
+-- no link fails
+abbrev pub no_failures : Failures
+no_failures = record { list = [] }
+
+-- the rows of least paths over three drawn matrices, in which no link fails
+abbrev pub AreDrawnRows : ℕ → ℕ → List StepRow → Type 0
+AreDrawnRows n seed rows =
+    AreStepRows least_paths.limit least_paths.is_plan least_paths.relates least_paths.low (network_of n seed) (gravity_of n seed 3) no_failures Keep rows
+
+-- the lines of the network, of all pairs of two nodes, of a ratio to which the verdict is yes, and of the sums over the rows
+abbrev pub summary_text : Network → ℕ → ℕ → List StepRow → List ℕ
+summary_text net pairs ratio rows = lines_of (record {
+  nodes = node_count net;
+  links = link_count net;
+  pairs = pairs;
+  ratio = ratio;
+  finding = Yes;
+  offered = sum_by (λ (row : StepRow). row.result.offered) rows;
+  delivered = sum_by (λ (row : StepRow). row.result.delivered) rows;
+})
+
+-- the seven lines of a certificate that was made of the drawn network, and of the rows of least paths
+pub record IsSummary (n seed : ℕ) (text : List ℕ) : Type 0 where
+  pub file : List ℕ
+  pub published : IsDrawnFile seed (network_of n seed) (every_pair n) file
+  pub rows : List StepRow
+  pub driven : AreDrawnRows n seed rows
+  pub text_is : text ≡ summary_text (network_of n seed) (length (every_pair n)) published.made.certificate.head.ratio rows
+
+-- the ratio in the lines is an oblivious ratio, for all matrices, of the routing that was drawn
+pub record ProvesRatio (n seed : ℕ) (text : List ℕ) : Type 0 where
+  pub summary : IsSummary n seed text
+  pub ratio : IsObliviousRatio (network_of n seed) (trimmed 32 summary.published.routes) All summary.published.made.certificate.head.ratio

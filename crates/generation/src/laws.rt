@@ -1,0 +1,8 @@
+//! Laws of summaries. A law is the contract of a function that does nothing.
+ghost use Rattle.std.specs.Prelude.{ℕ, List};
+ghost use Rattle.generation.specs.Summary.{IsSummary, ProvesRatio};
+
+/// The ratio of a summary is an oblivious ratio of the routing that was drawn.
+pub fn summaries_prove_ratios()
+    ensures { (n seed : ℕ) → (text : List ℕ) → IsSummary n seed text → ProvesRatio n seed text }
+{}

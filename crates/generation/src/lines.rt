@@ -1,0 +1,55 @@
+//! The lines of a summary.
+ghost use Rattle.std.specs.Prelude.{◌≡◌, IfOk};
+ghost use Rattle.generation.specs.Text.{answer_word, lines_of};
+
+use ratio_checker::Finding;
+use std::alloc::Global;
+use te_model::Memory;
+
+/// What a summary says.
+#[derive(Clone, Copy)]
+pub struct Summary {
+    /// Nodes of the network.
+    pub nodes: usize,
+    /// Links of the network.
+    pub links: usize,
+    /// Declared pairs.
+    pub pairs: usize,
+    /// The ratio of the certificate, in millionths.
+    pub ratio: u64,
+    /// What was found of the certificate.
+    pub finding: Finding,
+    /// The demands of all pairs in all steps.
+    pub offered: u128,
+    /// What arrived of them.
+    pub delivered: u128,
+}
+
+fn answer_word(finding: Finding) -> &'static str
+    ensures { result.now ≡ answer_word finding }
+{
+    match finding {
+        Finding::Yes => "yes",
+        Finding::No { .. } => "no",
+    }
+}
+
+/// Writes the lines. The only error is `Memory`, where memory is wanting.
+pub fn print_lines(alloc: Global, summary: &Summary) -> Result<Vec<u8>, Memory>
+    ensures { IfOk result (λ text. text.items ≡ lines_of summary.now) }
+{
+    let Summary {
+        nodes,
+        links,
+        pairs,
+        ratio,
+        offered,
+        delivered,
+        ..
+    } = summary;
+    let answer = answer_word(summary.finding);
+    let text = format!(in alloc;
+        "nodes {nodes}\nlinks {links}\npairs {pairs}\nratio {ratio}\nanswer {answer}\noffered {offered}\ndelivered {delivered}\n"
+    )?;
+    Ok(text.into_bytes())
+}
