@@ -4,7 +4,7 @@ ghost use Rattle.generation.specs.Summary.{IsSummary};
 
 use crate::drawn_file::{drawn_file, read_back};
 use crate::lines::{Summary, print_lines};
-use crate::totals::total_of;
+use crate::totals::{delivered_in, offered_in};
 use failure::Failures;
 use plan::Recovery;
 use random_network::network;
@@ -33,15 +33,15 @@ pub fn summary(alloc: Global, nodes: u32, seed: u64) -> Result<Vec<u8>, Memory>
         list: Items::new(Vec::new(alloc)),
     };
     let rows = drive(alloc, &Spf, &network, &series, &none, Recovery::Keep)?;
-    let total = total_of(rows.as_slice());
     let summary = Summary {
         nodes: network.names.as_slice().len(),
         links: network.links.as_slice().len(),
         pairs: series.pairs.list.as_slice().len(),
         ratio: certificate.head.ratio,
         finding: verdict(&certificate),
-        offered: total.offered,
-        delivered: total.delivered,
+        offered: offered_in(rows.as_slice()),
+        delivered: delivered_in(rows.as_slice()),
     };
-    print_lines(alloc, &summary)
+    let text = print_lines(alloc, &summary)?;
+    Ok(text)
 }

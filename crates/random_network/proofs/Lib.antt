@@ -1,3 +1,3 @@
 mod Drawing
-mod Formed
+pub mod Formed
 mod Connected
