@@ -1,6 +1,6 @@
 //! The lines of a summary.
-ghost use Rattle.std.specs.Prelude.{◌≡◌, IfOk};
-ghost use Rattle.generation.specs.Text.{answer_word, lines_of};
+ghost use Rattle.std.specs.Prelude.{◌≡◌, IfOk, string_bytes};
+ghost use Rattle.generation.specs.Text.{answer_word, first_lines, last_lines, lines_of};
 
 use ratio_checker::Finding;
 use std::alloc::Global;
@@ -34,22 +34,39 @@ fn answer_word(finding: Finding) -> &'static str
     }
 }
 
-/// Writes the lines. The only error is `Memory`, where memory is wanting.
-pub fn print_lines(alloc: Global, summary: &Summary) -> Result<Vec<u8>, Memory>
-    ensures { IfOk result (λ text. text.items ≡ lines_of summary.now) }
+// The lines of the network and the ratio.
+fn first_lines(alloc: Global, summary: &Summary) -> Result<String, Memory>
+    ensures { IfOk result (λ text. string_bytes text ≡ first_lines summary.now) }
 {
     let Summary {
         nodes,
         links,
         pairs,
         ratio,
+        ..
+    } = summary;
+    Ok(format!(in alloc; "nodes {nodes}\nlinks {links}\npairs {pairs}\nratio {ratio}\n")?)
+}
+
+// The lines of the answer and the traffic.
+fn last_lines(alloc: Global, summary: &Summary) -> Result<String, Memory>
+    ensures { IfOk result (λ text. string_bytes text ≡ last_lines summary.now) }
+{
+    let answer = answer_word(summary.finding);
+    let Summary {
         offered,
         delivered,
         ..
     } = summary;
-    let answer = answer_word(summary.finding);
-    let text = format!(in alloc;
-        "nodes {nodes}\nlinks {links}\npairs {pairs}\nratio {ratio}\nanswer {answer}\noffered {offered}\ndelivered {delivered}\n"
-    )?;
-    Ok(text.into_bytes())
+    Ok(format!(in alloc; "answer {answer}\noffered {offered}\ndelivered {delivered}\n")?)
+}
+
+/// Writes the lines. The only error is `Memory`, where memory is wanting.
+pub fn print_lines(alloc: Global, summary: &Summary) -> Result<Vec<u8>, Memory>
+    ensures { IfOk result (λ text. text.items ≡ lines_of summary.now) }
+{
+    let mut text = first_lines(alloc, summary)?.into_bytes();
+    let rest = last_lines(alloc, summary)?;
+    text.extend_from_slice(rest.as_bytes())?;
+    Ok(text)
 }

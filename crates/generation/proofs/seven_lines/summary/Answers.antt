@@ -22,4 +22,7 @@ returns c =
     summed c.args.nodes c.args.seed c.in_ok-network.network c.in_ok-series.series _ c.in_ok-network.ensures.drawn c.in_ok-series.ensures.series
     (ap (λ (l : List Outage). let f : Failures = record { list = l } in f) (c.new-2.ensures ∙ c.new.ensures.items))
     c.in_ok-file.file.items c.as_slice.result.now c.in_ok-certificate.certificate c.in_ok-rows.rows _ _ c.in_ok-file.ensures c.as_slice.ensures.value
-    c.in_ok-certificate.ensures c.in_ok-rows.ensures.rows ? ? ? refl c.verdict.ensures.finding ? ? c.in_ok-text.ensures
+    c.in_ok-certificate.ensures c.in_ok-rows.ensures.rows (ap (λ (names : List (List ℕ)). length names) c.as_slice-2.ensures)
+    (ap (λ (links : List Link). length links) c.as_slice-3.ensures) (ap (λ (pairs : List Pair). length pairs) c.as_slice-4.ensures) refl c.verdict.ensures.finding
+    (c.offered_in.ensures ∙ ap (λ (rows : List StepRow). sum_by (λ row. row.result.offered) rows) c.as_slice-5.ensures)
+    (c.delivered_in.ensures ∙ ap (λ (rows : List StepRow). sum_by (λ row. row.result.delivered) rows) c.as_slice-6.ensures) c.in_ok-text.ensures
