@@ -7,6 +7,10 @@ use Rattle.failure.specs.declared.outage.Outage.{Outage}
 use Rattle.failure.specs.declared.outage.Failures.{Failures}
 use Rattle.failure.specs.Failed.{has_failed}
 
+-- no link fails
+abbrev pub no_failures : Failures
+no_failures = record { list = [] }
+
 -- for each link whether it has failed in the step
 abbrev pub marks_of : Network → Failures → ℕ → List Bool
 marks_of net failures step = map (has_failed failures step) (range_with_len 0 (link_count net))

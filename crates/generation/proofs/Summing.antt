@@ -20,7 +20,8 @@ use Rattle.ratio_checker.specs.Finding.{finding_of}
 use Rattle.series_simulation.specs.declared.step_row.StepRow.{StepRow}
 use Rattle.series_simulation.specs.Rows.{AreStepRows}
 use Rattle.generation.specs.declared.lines.Summary.{Summary}
-use Rattle.generation.specs.Summary.{AreDrawnRows, IsDrawnFile, IsSummary, least_paths, no_failures, summary_text}
+use Rattle.failure.specs.Series.{no_failures}
+use Rattle.generation.specs.Summary.{AreDrawnRows, IsDrawnFile, IsSummary, least_paths, summary_text}
 use Rattle.generation.specs.Text.{lines_of}
 
 -- a drawn file spells its certificate

@@ -7,7 +7,7 @@ use Rattle.te_model.specs.declared.demand.DemandSet.TheVariants.{All}
 use Rattle.te_model.specs.Network.{link_count, node_count}
 use Rattle.te_model.specs.Ratio.{IsObliviousRatio}
 use Rattle.random_network.specs.Drawn.{network_of}
-use Rattle.failure.specs.declared.outage.Failures.{Failures}
+use Rattle.failure.specs.Series.{no_failures}
 use Rattle.traffic_matrix.specs.Gravity.{every_pair, gravity_of}
 use Rattle.plan.specs.declared.recovery.Recovery.TheVariants.{Keep}
 use Rattle.path_budget.specs.Budget.{trimmed}
@@ -34,10 +34,6 @@ pub record IsDrawnFile (seed : ℕ) (net : Network) (pairs : List Pair) (file : 
 -- least paths by cost
 abbrev pub least_paths : SchemeMeaning
 least_paths = rule_scheme (λ (p : SpfPlan). p.routing.routes) spf_paths IsLeastSplit
-
--- no link fails
-abbrev pub no_failures : Failures
-no_failures = record { list = [] }
 
 -- the rows of least paths over three drawn matrices, in which no link fails
 abbrev pub AreDrawnRows : ℕ → ℕ → List StepRow → Type 0

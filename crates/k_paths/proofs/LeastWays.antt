@@ -7,10 +7,10 @@ use Rattle.te_model.specs.declared.network.Network.{Network}
 use Rattle.te_model.specs.Network.{node_count, link_count, tail_of, head_of}
 use Rattle.shortest_path.specs.Links.{is_open, every_link}
 use Rattle.shortest_path.specs.Graph.{distance_at}
-use Rattle.shortest_path.specs.Least.{is_sum, is_tight}
+use Rattle.shortest_path.specs.Least.{first_at, is_sum, is_tight}
 use Rattle.shortest_path.proofs.Walks.{AllOpen}
 use Rattle.shortest_path.proofs.LeastSums.{all_open}
-use Rattle.k_paths.specs.Ways.{first_at, IsFirstTightBelow, AreFirstLinks, IsFirstLeastAt}
+use Rattle.k_paths.specs.Ways.{IsFirstTightBelow, AreFirstLinks, IsFirstLeastAt}
 
 pub every_open : (net : Network) → AllOpen net (every_link net)
 every_open net = all_open net

@@ -6,7 +6,7 @@ use Rattle.te_model.specs.declared.network.Network.{Network}
 use Rattle.te_model.specs.Network.{node_count, link_count, tail_of, head_of, no_link}
 use Rattle.shortest_path.specs.Costs.{HasCosts}
 use Rattle.shortest_path.specs.Graph.{distance_at}
-use Rattle.shortest_path.specs.Least.{AreLeastSums, IsLeastWalk, is_tight}
+use Rattle.shortest_path.specs.Least.{AreLeastSums, IsLeastWalk, first_at, is_tight}
 use Rattle.shortest_path.specs.Links.{every_link}
 use Rattle.k_paths.specs.declared.ways.Ways.{Ways}
 use Rattle.k_paths.specs.Classes.{is_allowed_link}
@@ -17,9 +17,6 @@ IsFirstTightBelow net costs sums m u first =
     MatchOption first ((k : ℕ) → k < m → is_tight net costs (every_link net) sums u k ≡ false)
     (λ h. (h < m) × (is_tight net costs (every_link net) sums u h ≡ true)
     × ((k : ℕ) → k < h → is_tight net costs (every_link net) sums u k ≡ false))
-
-abbrev pub first_at : List (Option ℕ) → ℕ → Option ℕ
-first_at firsts v = slice_index_or firsts v None
 
 -- for each node the first of the links below m with which a least walk from it begins, or none where none does
 pub record AreFirstLinks (net : Network) (costs : List ℕ) (sums : List (Option ℕ)) (m : ℕ) (firsts : List (Option ℕ)) : Type 0 where

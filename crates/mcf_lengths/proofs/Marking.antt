@@ -5,10 +5,11 @@ use Rattle.std.proofs.lemmas.List.{get_or-set_other, get_or-set_same, get_or_app
 use Rattle.std.proofs.Math.Seq.{get_or-append_seam}
 use Rattle.te_model.specs.declared.network.Network.{Network}
 use Rattle.te_model.specs.declared.route.Pair.{Pair}
+use Rattle.te_model.specs.Marks.{is_marked}
 use Rattle.te_model.specs.Network.{node_count}
 use Rattle.shortest_path.specs.Least.{AreLeastSums}
 use Rattle.scheme.specs.Reach.{pair_at}
-use Rattle.mcf_lengths.specs.Sums.{AreSumsToward, MarksDestinations, is_marked}
+use Rattle.mcf_lengths.specs.Sums.{AreSumsToward, MarksDestinations}
 
 -- the destinations of the first p pairs are marked
 pub record MarkedSoFar (net : Network) (pairs : List Pair) (p : ℕ) (marks : List Bool) : Type 0 where

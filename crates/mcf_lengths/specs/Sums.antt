@@ -2,12 +2,10 @@
 use Rattle.std.specs.Prelude.{◌≡◌, ℕ, ◌<◌, Bool, true, false, List, [], Option, length, slice_index_or}
 use Rattle.te_model.specs.declared.network.Network.{Network}
 use Rattle.te_model.specs.declared.route.Pair.{Pair}
+use Rattle.te_model.specs.Marks.{is_marked}
 use Rattle.te_model.specs.Network.{node_count}
 use Rattle.shortest_path.specs.Least.{AreLeastSums}
 use Rattle.scheme.specs.Reach.{pair_at}
-
-abbrev pub is_marked : List Bool → ℕ → Bool
-is_marked marks v = slice_index_or marks v false
 
 -- the destination of each pair is marked
 pub record MarksDestinations (net : Network) (pairs : List Pair) (marks : List Bool) : Type 0 where

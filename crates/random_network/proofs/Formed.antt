@@ -14,20 +14,11 @@ use Rattle.te_model.specs.declared.network.Link.{Link}
 use Rattle.te_model.specs.declared.network.Network.{Network}
 use Rattle.te_model.specs.Network.{is_name, is_new_name, is_sound_link, is_well_formed, link_at, name_at, node_count, no_link}
 use Rattle.te_model.proofs.Searches.{all_below_at, all_below_from}
+use Rattle.te_model.proofs.SoundLinks.{IsLink, sound_link}
 use Rattle.te_model.proofs.Tests.{all_to_tests}
 use Rattle.te_model.proofs.WellFormed.{well_formed_from}
 use Rattle.random_words.specs.Words.{word}
 use Rattle.random_network.specs.Drawn.{both_ways, chord_links, chords_of, network_of, node_names, ring_links, ring_of}
-
--- a link between two of n nodes, within the limits
-record IsLink (n : ℕ) (l : Link) : Type 0 where
-  tail : l.tail < n
-  head : l.head < n
-  differ : l.tail ≢ l.head
-  capacity_low : 1 ≤ l.capacity
-  capacity_high : l.capacity ≤ 2 ^ 32
-  cost_low : 1 ≤ l.cost
-  cost_high : l.cost ≤ 65535
 
 drawn_link : (n i j w v : ℕ) → i < n → j < n → i ≢ j → IsLink n (record { tail = i; head = j; capacity = 1000 * (1 + w % 10); cost = 1 + v % 10 })
 drawn_link n i j w v one two apart = record {
@@ -137,17 +128,6 @@ new_name n seed v few low =
     (λ u below. not_from_false (bytes_eq (name_at net u) (name_at net v))
     (false_from_ne_true (bytes_eq (name_at net u) (name_at net v))
     (λ same. names_differ n seed u v few below low ((bytes_eq-Decides (name_at net u) (name_at net v)).0 same))))
-
-sound_link : (net : Network) (h : ℕ) → IsLink (node_count net) (link_at net h) → is_sound_link net h ≡ true
-sound_link net h l =
-    let a = l.tail in
-    let b = l.head in
-    let c = l.differ in
-    let d = l.capacity_low in
-    let e = l.capacity_high in
-    let f = l.cost_low in
-    let g = l.cost_high in
-    grind (arith, nat_tests)
 
 pub nodes_are : (n seed : ℕ) → node_count (network_of n seed) ≡ n
 nodes_are n seed = length-map-range_with_len (λ i. codes "n" ++ decimal i) 0 n

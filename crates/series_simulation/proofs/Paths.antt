@@ -4,11 +4,12 @@ use Rattle.std.specs.Prelude.{IsTrue}
 use Rattle.std.proofs.lemmas.Bool.{and_parts, eqb-true, false≢true}
 use Rattle.std.proofs.lemmas.List.{get_or-map}
 use Rattle.te_model.specs.declared.network.Network.{Network}
+use Rattle.te_model.specs.Marks.{is_marked}
 use Rattle.te_model.specs.Network.{node_count}
 use Rattle.te_model.specs.Path.{chains, is_distinct, is_path, nodes_visited}
 use Rattle.shortest_path.specs.Paths.{AreDistances, HasPath, IsDistance}
 use Rattle.series_simulation.specs.declared.reachability.Reachability.{Reachability}
-use Rattle.series_simulation.specs.Connected.{MarksReachable, TellsPaths, is_marked, connects}
+use Rattle.series_simulation.specs.Connected.{MarksReachable, TellsPaths, connects}
 
 path_some : (net : Network) (s t : ℕ) (links : List ℕ) → (s ≡ t → ⊥) → is_path net s t links ≡ true → HasPath net s t
 path_some net s t links apart path = go links (and_parts (chains net s t links) (is_distinct (nodes_visited net s links)) path).0

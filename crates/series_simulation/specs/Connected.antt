@@ -2,6 +2,7 @@
 use Rattle.std.specs.Prelude.{ℕ, ◌≡◌, ◌↔◌, Bool, false, IsTrue, List, [], ◌∷◌, slice_index_or, if◌then◌else◌}
 use Rattle.te_model.specs.declared.network.Network.{Network}
 use Rattle.te_model.specs.declared.route.Pair.{Pair}
+use Rattle.te_model.specs.Marks.{is_marked}
 use Rattle.shortest_path.specs.Paths.{HasPath}
 use Rattle.scheme.specs.Reach.{IsPairOf}
 use Rattle.series_simulation.specs.declared.reachability.Reachability.{Reachability}
@@ -15,10 +16,6 @@ abbrev pub demands_of : (Pair → Bool) → List Pair → List ℕ → List ℕ
 demands_of has_path [] demand = []
 demands_of has_path (p ∷ ps) [] = []
 demands_of has_path (p ∷ ps) (d ∷ ds) = if has_path p then d ∷ demands_of has_path ps ds else demands_of has_path ps ds
-
--- the mark at a place, and none past the end
-abbrev pub is_marked : List Bool → ℕ → Bool
-is_marked marks place = slice_index_or marks place false
 
 -- whether the table has a path from the source to the destination of the pair
 abbrev pub connects : Reachability → Pair → Bool

@@ -2,7 +2,8 @@
 ghost use Rattle.std.specs.Prelude.{◌≡◌, ◌<◌, List, IfOk, IsTrue, length, map, is_some};
 ghost use Rattle.te_model.specs.Network.{is_well_formed, node_count};
 ghost use Rattle.shortest_path.specs.Costs.{HasCosts};
-ghost use Rattle.series_simulation.specs.Connected.{MarksReachable, TellsPaths, is_marked, connects};
+ghost use Rattle.te_model.specs.Marks.{is_marked};
+ghost use Rattle.series_simulation.specs.Connected.{MarksReachable, TellsPaths, connects};
 
 use shortest_path::{costs, distances};
 use std::alloc::Global;

@@ -11,7 +11,8 @@ use Rattle.te_command.specs.Files.{Files, given}
 use Rattle.te_command.specs.Reading.{Reading, answers, reads, Means, ReadFailed}
 use Rattle.te_command.specs.TopologyFile.{topologies}
 use Rattle.te_command.specs.MatrixFile.{matrices}
-use Rattle.te_command.specs.FailureFile.{failure_files, no_failures}
+use Rattle.failure.specs.Series.{no_failures}
+use Rattle.te_command.specs.FailureFile.{failure_files}
 use Rattle.te_command.specs.PlanFile.{plans}
 use Rattle.te_command.specs.Commands.{with_plan, with_failures}
 use Rattle.te_command.specs.Outcome.{Shown, ReadsFile, GivesPlan, ReadsFailures, Follows, no_answer}

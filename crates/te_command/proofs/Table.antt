@@ -24,7 +24,8 @@ use Rattle.experiment.specs.Published.{IsPublished}
 use Rattle.experiment.proofs.Accepted.{published_accepted}
 use Rattle.te_model.specs.Network.{link_count}
 use Rattle.te_command.specs.MatrixFile.{matrices_reason}
-use Rattle.te_command.specs.FailureFile.{failures_reason, no_failures}
+use Rattle.failure.specs.Series.{no_failures}
+use Rattle.te_command.specs.FailureFile.{failures_reason}
 use Rattle.te_command.specs.PlanFile.{plan_reason}
 use Rattle.te_command.specs.Publish.{IsPublicationStatus, IsPublication, IsProvedFile, no_path_line, publication_of}
 use Rattle.te_command.specs.Report.{report_of}

@@ -10,7 +10,8 @@ use Rattle.te_command.specs.Reading.{Reading, answers, reads}
 use Rattle.te_command.specs.CertificateFile.{certificates}
 use Rattle.te_command.specs.TopologyFile.{topologies}
 use Rattle.te_command.specs.MatrixFile.{matrices}
-use Rattle.te_command.specs.FailureFile.{failure_files, no_failures}
+use Rattle.failure.specs.Series.{no_failures}
+use Rattle.te_command.specs.FailureFile.{failure_files}
 use Rattle.te_command.specs.PlanFile.{plans}
 use Rattle.te_command.specs.Check.{verdict_on, network_verdict_on}
 use Rattle.te_command.specs.Convert.{conversion_of}

@@ -23,7 +23,3 @@ failures_reason Memory = codes "memory"
 -- the outages that the rows make for the network and the steps of the series, or their first fault
 abbrev pub failure_files : Network → Series → Kind Failures
 failure_files network series = inputs failures_reason (failures_of (link_count network) (length series.steps))
-
--- no link fails
-abbrev pub no_failures : Failures
-no_failures = record { list = [] }

@@ -20,7 +20,8 @@ use Rattle.te_command.specs.Files.{Files, given}
 use Rattle.te_command.specs.Reading.{Kind, Answers, Reading, answers, refused_line, GivesIn, RefusedIn, Means, ReadFailed}
 use Rattle.te_command.specs.TopologyFile.{topologies}
 use Rattle.te_command.specs.MatrixFile.{matrices}
-use Rattle.te_command.specs.FailureFile.{failure_files, no_failures}
+use Rattle.failure.specs.Series.{no_failures}
+use Rattle.te_command.specs.FailureFile.{failure_files}
 use Rattle.te_command.specs.PlanFile.{plans}
 use Rattle.te_command.specs.Refusals.{reason}
 use Rattle.te_command.specs.Check.{yes_line, no_line}

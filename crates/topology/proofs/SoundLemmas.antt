@@ -11,7 +11,8 @@ use Rattle.te_model.specs.declared.limits.TheConstants.{MAX_LINKS, MAX_NODES}
 use Rattle.te_model.specs.Network.{is_name, is_well_formed, link_count}
 use Rattle.csv_records.specs.Field.{digits_from, is_number_within}
 use Rattle.csv_records.proofs.FieldFacts.{within-bounds}
-use Rattle.topology.proofs.WellFormed.{IsLink, WellFormed, well-formed}
+use Rattle.te_model.proofs.SoundLinks.{IsLink}
+use Rattle.topology.proofs.WellFormed.{WellFormed, well-formed}
 use Rattle.topology.specs.declared.fault.TopologyFault.{TopologyFault}
 use Rattle.topology.specs.declared.fault.TopologyFault.TheVariants as fault
 use Rattle.topology.specs.Numbering.{with_name, number_in}

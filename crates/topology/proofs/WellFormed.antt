@@ -9,18 +9,9 @@ use Rattle.te_model.specs.declared.network.Network.{Network}
 use Rattle.te_model.specs.declared.limits.TheConstants.{MAX_LINKS, MAX_NODES}
 use Rattle.te_model.specs.Network.{is_name, is_new_name, is_sound_link, is_well_formed, node_count, link_at, name_at, no_link}
 use Rattle.te_model.proofs.Searches.{all_below_from}
+use Rattle.te_model.proofs.SoundLinks.{IsLink, sound_link}
 use Rattle.te_model.proofs.Tests.{all_to_tests}
 use Rattle.te_model.proofs.WellFormed.{well_formed_from}
-
--- a link between two of n nodes, within the limits
-pub record IsLink (n : ℕ) (l : Link) : Type 0 where
-  pub tail : l.tail < n
-  pub head : l.head < n
-  pub differ : l.tail ≢ l.head
-  pub capacity_low : 1 ≤ l.capacity
-  pub capacity_high : l.capacity ≤ 2 ^ 32
-  pub cost_low : 1 ≤ l.cost
-  pub cost_high : l.cost ≤ 65535
 
 -- no two names are equal
 abbrev pub AreDistinct : List (List ℕ) → Type 0
@@ -41,17 +32,6 @@ new-name net distinct v low =
     (false_from_ne_true (bytes_eq (name_at net u) (name_at net v))
     (λ same. distinct u v below low ((bytes_eq-Decides (name_at net u) (name_at net v)).0 same))))
 
-sound-link : (net : Network) (h : ℕ) → IsLink (node_count net) (link_at net h) → is_sound_link net h ≡ true
-sound-link net h l =
-    let a = l.tail in
-    let b = l.head in
-    let c = l.differ in
-    let d = l.capacity_low in
-    let e = l.capacity_high in
-    let f = l.cost_low in
-    let g = l.cost_high in
-    grind (arith, nat_tests)
-
 -- a network that has a link is well formed by the test
 pub well-formed : (net : Network) → WellFormed net → 0 < length net.links → is_well_formed net ≡ true
 well-formed net w some =
@@ -65,5 +45,5 @@ well-formed net w some =
       links = w.few_links;
       names = all_to_tests is_name (λ n. is_name n ≡ true) (λ n is. is) net.names w.names;
       new_names = new-name net w.distinct;
-      sound_links = λ h low. sound-link net h (w.links h no_link low);
+      sound_links = λ h low. sound_link net h (w.links h no_link low);
     })

@@ -3,8 +3,8 @@ use Rattle.std.proofs.lemmas.List.{get_or_read}
 use Rattle.te_model.specs.declared.network.Link.{Link}
 use Rattle.te_model.specs.Network.{link_at, link_count, node_count, no_link, head_of, tail_of}
 use Rattle.shortest_path.specs.Graph.{distance_at}
-use Rattle.shortest_path.specs.Least.{is_sum}
-use Rattle.k_paths.specs.Ways.{AreFirstLinks, first_at}
+use Rattle.shortest_path.specs.Least.{first_at, is_sum}
+use Rattle.k_paths.specs.Ways.{AreFirstLinks}
 use Rattle.k_paths.proofs.LeastWays.{firsts_skip, firsts_more, none_read, some_read}
 use Rattle.k_paths.proofs.ways.first_links.Goals as goal
 use Rattle.k_paths.proofs.ways.first_links.Goals.{then-is_none+then-is_sum, else-is_none, else-is_none-via-then-is_none+else-is_sum, else-is_none-via-else-is_none}

@@ -3,9 +3,10 @@ use Rattle.std.proofs.lemmas.Grind.{common_steps}
 use Rattle.std.proofs.lemmas.List.Elements.{All-get_or}
 use Rattle.te_model.specs.Network.{head_of, link_count, no_link}
 use Rattle.shortest_path.specs.Graph.{distance_at}
+use Rattle.shortest_path.specs.Least.{first_at}
 use Rattle.shortest_path.proofs.Tight.{GreedySoFar, greedy_step, greedy_end, no_walk, some_tight}
 use Rattle.shortest_path.specs.Links.{every_link}
-use Rattle.k_paths.specs.Ways.{IsFirstTightBelow, first_at}
+use Rattle.k_paths.specs.Ways.{IsFirstTightBelow}
 use Rattle.k_paths.proofs.ways.way_from.Goals as goal
 
 pub returns-then-is_none : goal.returns-then-is_none
