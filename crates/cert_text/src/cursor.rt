@@ -44,6 +44,13 @@ impl<'a> Bytes<'a> {
     {
         Bytes { bytes }
     }
+
+    /// The bytes that are left.
+    pub fn left(&self) -> &'a [u8]
+        ensures { result.now ≡ self.now.bytes.now }
+    {
+        self.bytes
+    }
 }
 
 impl<'a> Cursor for Bytes<'a> {

@@ -20,9 +20,13 @@ use te_model::{
     PairRoutes, PathShare, Row, limits_of,
 };
 
-// A word and a number within the range, on a line of their own.
+/// A word and a number within the range, on a line of their own.
+///
+/// # Errors
+///
+/// `Stop::Shape` with the line that is not so.
 #[tactic(auto, unfolding(crate::specs::Grammar::counted_at))]
-fn counted<C: Cursor>(r: &mut Reader<C>, word: &[u8], low: u64, high: u64) -> Result<u64, Stop>
+pub fn counted<C: Cursor>(r: &mut Reader<C>, word: &[u8], low: u64, high: u64) -> Result<u64, Stop>
     ensures fits { IfOk result (λ x. is_count low high x ≡ true) }
     ensures told { C.is_told r.new.source → C.is_told r.old.source }
     ensures reads { C.is_told r.new.source → Reads result (place r.new.line (C.rest r.new.source))
@@ -114,8 +118,13 @@ fn links<C: Cursor>(r: &mut Reader<C>, alloc: Global, count: u64) -> Result<Item
     Ok(Items::new(items))
 }
 
+/// The counts and lines of the nodes and of the links.
+///
+/// # Errors
+///
+/// `Stop::Shape` with the first line that is not so; `Stop::Memory` where memory is short.
 #[tactic(auto, unfolding(crate::specs::Grammar::network_at))]
-fn network<C: Cursor>(r: &mut Reader<C>, alloc: Global, limits: &Limits) -> Result<Network, Stop>
+pub fn network<C: Cursor>(r: &mut Reader<C>, alloc: Global, limits: &Limits) -> Result<Network, Stop>
     ensures fits { IfOk result (λ x. FitsNetwork limits.now x) }
     ensures told { C.is_told r.new.source → C.is_told r.old.source }
     ensures reads { C.is_told r.new.source → Reads result (place r.new.line (C.rest r.new.source))
@@ -175,9 +184,13 @@ fn paths<C: Cursor>(
     Ok(Items::new(items))
 }
 
-// A pair and its paths.
+/// A pair and its paths.
+///
+/// # Errors
+///
+/// `Stop::Shape` with the first line that is not so; `Stop::Memory` where memory is short.
 #[tactic(auto, unfolding(crate::specs::Grammar::pair_at))]
-fn pair<C: Cursor>(r: &mut Reader<C>, alloc: Global, limits: &Limits) -> Result<PairRoutes, Stop>
+pub fn pair<C: Cursor>(r: &mut Reader<C>, alloc: Global, limits: &Limits) -> Result<PairRoutes, Stop>
     ensures fits { IfOk result (λ x. FitsPair limits.now x) }
     ensures told { C.is_told r.new.source → C.is_told r.old.source }
     ensures reads { C.is_told r.new.source → Reads result (place r.new.line (C.rest r.new.source))
@@ -288,9 +301,13 @@ fn bounds<C: Cursor>(
     })
 }
 
-// All matrices, where an `a` stands next, and else the set with bounds that the format has.
+/// All matrices, where an `a` stands next, and else the set with bounds that the format has.
+///
+/// # Errors
+///
+/// `Stop::Shape` with the first line that is not so; `Stop::Memory` where memory is short.
 #[tactic(auto, unfolding(crate::specs::Grammar::set_at))]
-fn set<C: Cursor>(
+pub fn set<C: Cursor>(
     r: &mut Reader<C>,
     alloc: Global,
     limits: &Limits,
@@ -311,8 +328,13 @@ fn set<C: Cursor>(
     }
 }
 
+/// The line of the ratio, in millionths.
+///
+/// # Errors
+///
+/// `Stop::Shape` with the line that is not so.
 #[tactic(auto, unfolding(crate::specs::Grammar::ratio_at))]
-fn ratio<C: Cursor>(r: &mut Reader<C>) -> Result<u64, Stop>
+pub fn ratio<C: Cursor>(r: &mut Reader<C>) -> Result<u64, Stop>
     ensures told { C.is_told r.new.source → C.is_told r.old.source }
     ensures reads { C.is_told r.new.source → Reads result (place r.new.line (C.rest r.new.source))
         (ratio_at (place r.old.line (C.rest r.old.source))) }
@@ -472,9 +494,13 @@ fn blocks<C: Cursor>(
     Ok(Items::new(items))
 }
 
-// The last line, after which nothing stands.
+/// The last line, after which nothing stands.
+///
+/// # Errors
+///
+/// `Stop::Shape` with the line that is not so.
 #[tactic(auto, unfolding(crate::specs::Grammar::closing_at))]
-fn closing<C: Cursor>(r: &mut Reader<C>) -> Result<(), Stop>
+pub fn closing<C: Cursor>(r: &mut Reader<C>) -> Result<(), Stop>
     ensures told { C.is_told r.new.source → C.is_told r.old.source }
     ensures reads { C.is_told r.new.source → Passes result (place r.new.line (C.rest r.new.source))
         (closing_at (place r.old.line (C.rest r.old.source))) }
@@ -497,9 +523,13 @@ fn digit<C: Cursor>(r: &mut Reader<C>, format: u8) -> Result<u32, Stop>
     Ok(u32::from(format))
 }
 
-// The first line, and the number of the format: 2 where a `2` stands next, and else 1, whose digit is then due.
+/// The first line, and the number of the format: 2 where a `2` stands next, and else 1, whose digit is then due.
+///
+/// # Errors
+///
+/// `Stop::Shape` with the line that is not so.
 #[tactic(auto, unfolding(crate::specs::Grammar::format_at))]
-fn format<C: Cursor>(r: &mut Reader<C>) -> Result<u32, Stop>
+pub fn format<C: Cursor>(r: &mut Reader<C>) -> Result<u32, Stop>
     ensures told { C.is_told r.new.source → C.is_told r.old.source }
     ensures reads { C.is_told r.new.source → Reads result (place r.new.line (C.rest r.new.source))
         (format_at (place r.old.line (C.rest r.old.source))) }
@@ -526,8 +556,8 @@ fn opening<C: Cursor>(r: &mut Reader<C>, alloc: Global) -> Result<(Head, u64), S
     Ok((head, count))
 }
 
-// What the lines of a block are counted by.
-fn counts_of_head(head: &Head) -> Counts
+/// What the lines of a block are counted by.
+pub fn counts_of_head(head: &Head) -> Counts
     ensures { result ≡ counts_of head.now }
 {
     Counts {

@@ -37,6 +37,29 @@ impl<C: Cursor> Reader<C> {
         Reader { source, line: 1 }
     }
 
+    /// Stands at this line, counted from 1.
+    pub fn at_line(source: C, line: u64) -> Reader<C>
+        requires { line + C.bound source < 2 ^ 64 }
+        ensures source { result.source ≡ source }
+        ensures line { result.line ≡ line }
+    {
+        Reader { source, line }
+    }
+
+    /// The line that is read, counted from 1.
+    pub fn line(&self) -> u64
+        ensures { result ≡ self.now.line }
+    {
+        self.line
+    }
+
+    /// What is left to read.
+    pub fn source(&self) -> &C
+        ensures { result.now ≡ self.now.source }
+    {
+        &self.source
+    }
+
     /// The fault of the line that is read.
     pub fn fault(&self) -> Stop
         ensures { result ≡ Stop.Shape self.now.line }
