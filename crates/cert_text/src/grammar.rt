@@ -124,7 +124,11 @@ fn links<C: Cursor>(r: &mut Reader<C>, alloc: Global, count: u64) -> Result<Item
 ///
 /// `Stop::Shape` with the first line that is not so; `Stop::Memory` where memory is short.
 #[tactic(auto, unfolding(crate::specs::Grammar::network_at))]
-pub fn network<C: Cursor>(r: &mut Reader<C>, alloc: Global, limits: &Limits) -> Result<Network, Stop>
+pub fn network<C: Cursor>(
+    r: &mut Reader<C>,
+    alloc: Global,
+    limits: &Limits,
+) -> Result<Network, Stop>
     ensures fits { IfOk result (λ x. FitsNetwork limits.now x) }
     ensures told { C.is_told r.new.source → C.is_told r.old.source }
     ensures reads { C.is_told r.new.source → Reads result (place r.new.line (C.rest r.new.source))
@@ -190,7 +194,11 @@ fn paths<C: Cursor>(
 ///
 /// `Stop::Shape` with the first line that is not so; `Stop::Memory` where memory is short.
 #[tactic(auto, unfolding(crate::specs::Grammar::pair_at))]
-pub fn pair<C: Cursor>(r: &mut Reader<C>, alloc: Global, limits: &Limits) -> Result<PairRoutes, Stop>
+pub fn pair<C: Cursor>(
+    r: &mut Reader<C>,
+    alloc: Global,
+    limits: &Limits,
+) -> Result<PairRoutes, Stop>
     ensures fits { IfOk result (λ x. FitsPair limits.now x) }
     ensures told { C.is_told r.new.source → C.is_told r.old.source }
     ensures reads { C.is_told r.new.source → Reads result (place r.new.line (C.rest r.new.source))

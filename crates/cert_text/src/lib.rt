@@ -9,8 +9,6 @@ mod printing;
 pub mod reader;
 mod reading;
 pub mod spelling;
-#[cfg(test)]
-mod tests;
 mod upgrading;
 
 pub use fault::{CertFault, Stop};

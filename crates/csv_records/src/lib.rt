@@ -6,6 +6,3 @@ mod rows;
 
 pub use field::{number, number_within};
 pub use rows::Rows;
-
-#[cfg(test)]
-mod tests;

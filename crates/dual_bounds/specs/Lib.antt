@@ -2,4 +2,3 @@ pub mod Dual
 pub mod Rows
 pub mod GivenPaths
 pub mod Choice
-pub mod Samples

@@ -13,6 +13,3 @@ mod rows;
 
 pub use every_routing::bracket;
 pub use given_paths::bracket_on_paths;
-
-#[cfg(test)]
-mod tests;

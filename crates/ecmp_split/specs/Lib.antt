@@ -2,4 +2,3 @@ pub mod Equal
 pub mod Laws
 pub mod Next
 pub mod Rule
-pub mod Samples

@@ -15,6 +15,3 @@ mod splitting;
 pub use ecmp::{Ecmp, EcmpPlan};
 pub use law::{equal_splits_are_one, multipath_splits_are_one};
 pub use splitting::split;
-
-#[cfg(test)]
-mod tests;

@@ -22,6 +22,3 @@ pub use published_file::certificate_file;
 pub use publishing::publish;
 pub use reporting::report;
 pub use series_simulation::{StepRow, drive};
-
-#[cfg(test)]
-mod tests;

@@ -11,6 +11,3 @@ pub use fault::FailureFault;
 pub use outage::{Failures, Outage};
 pub use reader::read;
 pub use survivor::{Survivor, surviving};
-
-#[cfg(test)]
-mod tests;

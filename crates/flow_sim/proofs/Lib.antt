@@ -10,4 +10,3 @@ pub mod ServeLaws
 pub mod StateLaws
 pub mod ResultLaws
 pub mod RatesLaws
-pub mod SampleLaws

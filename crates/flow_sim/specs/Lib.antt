@@ -4,7 +4,6 @@ pub mod Tables
 pub mod Traffic
 pub mod State
 pub mod Result
-pub mod Samples
 pub mod Asking
 pub mod Queues
 pub mod Serving

@@ -19,6 +19,3 @@ pub use fair::fair_share;
 pub use law::links_serve_fairly;
 pub use result::{PairResult, StepResult};
 pub use simulation::step;
-
-#[cfg(test)]
-mod tests;

@@ -1,5 +1,5 @@
 -- The ratio of a summary is an oblivious ratio of the routing that was drawn.
-use Rattle.std.proofs.Common.{ℕ, ◌≡◌, List, subst}
+use Rattle.std.proofs.Common.{ℕ, List, subst}
 use Rattle.te_model.specs.declared.demand.DemandSet.{DemandSet}
 use Rattle.te_model.specs.declared.demand.DemandSet.TheVariants.{All}
 use Rattle.te_model.specs.declared.network.Network.{Network}

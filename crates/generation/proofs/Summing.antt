@@ -14,14 +14,13 @@ use Rattle.failure.specs.declared.outage.Failures.{Failures}
 use Rattle.traffic_matrix.specs.declared.series.Series.{Series}
 use Rattle.traffic_matrix.specs.Gravity.{every_pair, gravity_of}
 use Rattle.plan.specs.declared.recovery.Recovery.TheVariants.{Keep}
-use Rattle.ratio_checker.specs.declared.finding.Finding.{Finding}
 use Rattle.ratio_checker.specs.declared.finding.Finding.TheVariants.{Yes}
 use Rattle.ratio_checker.specs.Finding.{finding_of}
 use Rattle.series_simulation.specs.declared.step_row.StepRow.{StepRow}
 use Rattle.series_simulation.specs.Rows.{AreStepRows}
 use Rattle.generation.specs.declared.lines.Summary.{Summary}
 use Rattle.failure.specs.Series.{no_failures}
-use Rattle.generation.specs.Summary.{AreDrawnRows, IsDrawnFile, IsSummary, least_paths, summary_text}
+use Rattle.generation.specs.Summary.{AreDrawnRows, IsDrawnFile, IsSummary, least_paths}
 use Rattle.generation.specs.Text.{lines_of}
 
 -- a drawn file spells its certificate

@@ -1,5 +1,5 @@
 -- The summary of a drawn network: what is published on it, judged and simulated.
-use Rattle.std.specs.Prelude.{◌≡◌, ℕ, List, [], length, sum_by}
+use Rattle.std.specs.Prelude.{◌≡◌, ℕ, List, length, sum_by}
 use Rattle.te_model.specs.declared.network.Network.{Network}
 use Rattle.te_model.specs.declared.route.Pair.{Pair}
 use Rattle.te_model.specs.declared.route.PairRoutes.{PairRoutes}
@@ -20,7 +20,6 @@ use Rattle.series_simulation.specs.declared.step_row.StepRow.{StepRow}
 use Rattle.series_simulation.specs.Rows.{AreStepRows}
 use Rattle.experiment.specs.Published.{IsMadeFile}
 use Rattle.experiment.specs.Schemes.{SchemeMeaning, rule_scheme, spf_paths}
-use Rattle.generation.specs.declared.lines.Summary.{Summary}
 use Rattle.generation.specs.Text.{lines_of}
 
 -- the file of a certificate, for all matrices, that is made of the routing over four trees of the seed, of which each pair keeps the 32

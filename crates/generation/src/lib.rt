@@ -14,6 +14,3 @@ mod totals;
 pub use laws::summaries_prove_ratios;
 pub use random_network::network;
 pub use seven_lines::summary;
-
-#[cfg(test)]
-mod tests;

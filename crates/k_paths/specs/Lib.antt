@@ -1,6 +1,5 @@
 pub mod Classes
 pub mod Search
 pub mod Even
-pub mod Samples
 pub mod Ways
 pub mod Sums

@@ -15,6 +15,3 @@ mod ways;
 
 pub use ksp::{Ksp, KspPlan};
 pub use least::k_least;
-
-#[cfg(test)]
-mod tests;

@@ -6,4 +6,3 @@ pub mod Peaks
 pub mod Taking
 pub mod Searching
 pub mod Settled
-mod SampleLaws

@@ -2,4 +2,3 @@ pub mod Moves
 pub mod Loads
 pub mod Search
 pub mod Shifting
-pub mod Samples

@@ -12,6 +12,3 @@ mod shifting;
 mod step;
 
 pub use settling::settle;
-
-#[cfg(test)]
-mod tests;

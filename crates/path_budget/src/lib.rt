@@ -7,6 +7,3 @@ mod budget;
 mod heavy;
 
 pub use budget::trim;
-
-#[cfg(test)]
-mod tests;

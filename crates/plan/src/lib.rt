@@ -19,6 +19,3 @@ pub use key::Key;
 pub use reader::read_plan;
 pub use recovery::Recovery;
 pub use scheme_name::SchemeName;
-
-#[cfg(test)]
-mod tests;

@@ -1,4 +1,3 @@
 pub mod Draws
 pub mod Mix
 pub mod Racke
-pub mod Samples

@@ -14,6 +14,3 @@ mod split;
 
 pub use racke::{Racke, RackePlan};
 pub use round::Round;
-
-#[cfg(test)]
-mod tests;

@@ -6,6 +6,3 @@ mod links;
 mod names;
 
 pub use drawn_network::network;
-
-#[cfg(test)]
-mod tests;

@@ -13,4 +13,3 @@ pub mod HeadValid
 pub mod BlockValid
 pub mod Starting
 pub mod Certificates
-pub mod SampleLaws

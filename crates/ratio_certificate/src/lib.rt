@@ -17,6 +17,3 @@ mod shares;
 pub use best::scale;
 pub use capacity::need;
 pub use making::make;
-
-#[cfg(test)]
-mod tests;

@@ -13,5 +13,3 @@ pub mod InOrder
 pub mod LowestPaths
 pub mod Decomposing
 pub mod TakingOff
-mod Thirds
-mod Halves

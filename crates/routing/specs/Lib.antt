@@ -7,4 +7,3 @@ pub mod Even
 pub mod Loops
 pub mod Decomposition
 pub mod Shares
-pub mod Samples

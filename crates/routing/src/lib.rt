@@ -29,6 +29,3 @@ pub use normal::normalize;
 pub use order::is_list_below;
 pub use routes::Routing;
 pub use shares::{PairShare, Shares};
-
-#[cfg(test)]
-mod tests;

@@ -3,4 +3,3 @@ pub mod Fault
 pub mod Fixed
 pub mod Least
 pub mod Low
-pub mod Samples

@@ -16,6 +16,3 @@ pub use fixed::{PairSplit, fixed_routing};
 pub use low::LowNote;
 pub use spf::{Spf, SpfPlan};
 pub use traits::{Oblivious, Scheme};
-
-#[cfg(test)]
-mod tests;

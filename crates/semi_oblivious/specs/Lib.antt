@@ -1,2 +1,1 @@
 pub mod Semi
-pub mod Samples

@@ -8,6 +8,3 @@ mod semi;
 mod stress;
 
 pub use semi::{Semi, SemiPlan};
-
-#[cfg(test)]
-mod tests;

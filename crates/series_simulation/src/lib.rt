@@ -20,6 +20,3 @@ mod step_simulation;
 pub use preparation::prepare_connected;
 pub use series_rows::{drive, row_of};
 pub use step_row::StepRow;
-
-#[cfg(test)]
-mod tests;

@@ -5,6 +5,5 @@ pub mod Links
 pub mod Least
 pub mod Rows
 pub mod Ways
-pub mod Samples
 pub mod Pairs
 pub mod Laws

@@ -29,6 +29,3 @@ pub use rows::Direction;
 pub use searches::Searches;
 pub use walk::{first_links, follow, least_walk, toward};
 pub use ways::{Ways, way_from, ways_to};
-
-#[cfg(test)]
-mod tests;

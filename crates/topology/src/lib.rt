@@ -8,6 +8,3 @@ mod reader;
 
 pub use fault::TopologyFault;
 pub use reader::read;
-
-#[cfg(test)]
-mod tests;

@@ -16,6 +16,3 @@ pub use generator::gravity;
 pub use reader::read;
 pub use series::Series;
 pub use writer::print;
-
-#[cfg(test)]
-mod tests;

@@ -3,4 +3,3 @@ pub mod Centers
 pub mod Chains
 pub mod TreePaths
 pub mod Tables
-pub mod Samples

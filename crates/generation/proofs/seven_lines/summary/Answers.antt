@@ -1,4 +1,4 @@
-use Rattle.std.proofs.Common.{ℕ, ◌≡◌, ◌∙◌, refl, ap, List, length, sum_by}
+use Rattle.std.proofs.Common.{ℕ, ◌∙◌, refl, ap, List, length, sum_by}
 use Rattle.te_model.specs.declared.network.Link.{Link}
 use Rattle.te_model.specs.declared.route.Pair.{Pair}
 use Rattle.failure.specs.declared.outage.Failures.{Failures}

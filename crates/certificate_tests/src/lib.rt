@@ -1,0 +1,7 @@
+//! Tests of certificates: their text, the verdict on one, and the making of one. There is nothing else here.
+#![tactic(auto)]
+
+#[cfg(test)]
+mod cert_text_tests;
+#[cfg(test)]
+mod ratio_certificate_tests;

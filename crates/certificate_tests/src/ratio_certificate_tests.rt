@@ -1,0 +1,170 @@
+ghost use Rattle.std.specs.Prelude.{◌≡◌, ◌≤◌, ◌^◌, All, IfOk, length};
+ghost use Rattle.te_model.specs.ThreeNodes.{straight_routes, three_nodes};
+ghost use Rattle.ratio_certificate.specs.Conditions.{IsSetWithin};
+
+use ratio_certificate::*;
+use routing::Routing;
+use sample_networks::{matrix, network, weighted_routes};
+use std::alloc::{AllocError, Global};
+use std::test::Fail;
+use te_model::{Block, Certificate, DemandSet, Memory, Network, Row};
+
+/// The nodes a, b and c, with links from a and from b to c, and both ways between a and b.
+fn three_nodes(alloc: Global) -> Result<Network, AllocError>
+    ensures { IfOk result (λ n. n ≡ three_nodes) }
+{
+    let ends = [(0, 2, 10, 1), (1, 2, 10, 1), (0, 1, 10, 1), (1, 0, 10, 1)];
+    network(alloc, &["a", "b", "c"], &ends)
+}
+
+/// The demands from a and from b to c, each on its own link.
+fn straight_routes(alloc: Global) -> Result<Routing, AllocError>
+    ensures { IfOk result (λ r. r.routes ≡ straight_routes) }
+{
+    let routes = weighted_routes(
+        alloc,
+        &[(0, 2, &[(&[0], 1_000_000)]), (1, 2, &[(&[1], 1_000_000)])],
+    )?;
+    Ok(Routing { routes })
+}
+
+/// The matrices in which both demands are equal, or all.
+fn demands(alloc: Global, equal: bool) -> Result<DemandSet, AllocError>
+    ensures { IfOk result (IsSetWithin 2) }
+{
+    if equal {
+        Ok(DemandSet::Margin {
+            num: 1,
+            den: 1,
+            base: matrix(alloc, &[10, 10])?,
+        })
+    } else {
+        Ok(DemandSet::All)
+    }
+}
+
+/// The matrices between two bounds that are the same, so those in which both demands are equal.
+fn bounded(alloc: Global) -> Result<DemandSet, AllocError>
+    ensures { IfOk result (IsSetWithin 2) }
+{
+    Ok(DemandSet::Box {
+        lower: matrix(alloc, &[10, 10])?,
+        upper: matrix(alloc, &[10, 10])?,
+    })
+}
+
+/// The best block of the first link for the weights, and its need.
+fn best_of_first(
+    alloc: Global,
+    set: &DemandSet,
+    weights: &[u64],
+) -> Result<Option<(Block, u128)>, Memory>
+    requires set { IsSetWithin 2 set.now }
+    requires count { length weights.now ≡ 4 }
+    requires small { All (λ w. w ≤ 2 ^ 28) weights.now }
+{
+    let net = three_nodes(alloc)?;
+    let routing = straight_routes(alloc)?;
+    match scale(alloc, &net, &routing, set, 0, weights)? {
+        Some(block) => {
+            let least = need(&net, &block);
+            Ok(Some((block, least)))
+        }
+        None => Ok(None),
+    }
+}
+
+/// Whether the rows have these sources and potentials.
+fn are_rows(rows: &[Row], expected: &[(u32, [u64; 3])]) -> bool {
+    for (row, (source, potential)) in rows.iter().zip(expected) {
+        if row.source != *source || row.potential.as_slice() != potential.as_slice() {
+            return false;
+        }
+    }
+    rows.len() == expected.len()
+}
+
+/// Whether the block is one of the link with these numbers, in which a is one million.
+fn is_block(
+    block: &Block,
+    link: u32,
+    b: u64,
+    weights: &[u64],
+    rows: &[(u32, [u64; 3])],
+    plus: &[u64],
+    minus: &[u64],
+) -> bool {
+    block.link == link
+        && block.a == 1_000_000
+        && block.b == b
+        && block.weights.as_slice() == weights
+        && are_rows(block.rows.as_slice(), rows)
+        && block.plus.as_slice() == plus
+        && block.minus.as_slice() == minus
+}
+
+/// Whether the best block of the first link, where both demands are equal, is the one that was found by hand.
+fn has_best_between(alloc: Global, set: &DemandSet) -> bool
+    requires { IsSetWithin 2 set.now }
+{
+    let weights = [1, 1, 0, 0];
+    let rows = [(0, [0, 0, 1]), (1, [0, 0, 1])];
+    match best_of_first(alloc, set, &weights) {
+        Ok(Some((block, least))) => {
+            is_block(&block, 0, 2, &weights, &rows, &[1, 0], &[0, 1]) && least == 1_000_000
+        }
+        _ => false,
+    }
+}
+
+#[test]
+fn best_blocks(rt: HostRuntime) -> Result<(), Fail> {
+    let alloc = rt.alloc();
+    let weights = [1, 1, 0, 0];
+    let all = demands(alloc, false)?;
+    match best_of_first(alloc, &all, &weights) {
+        Ok(Some((block, least))) => {
+            assert!(rt; is_block(&block, 0, 1, &weights, &[(0, [0, 0, 1])], &[], &[]));
+            assert_eq!(rt; least, 2_000_000);
+        }
+        _ => assert!(rt; false),
+    }
+    match best_of_first(alloc, &all, &[0, 0, 0, 0]) {
+        Ok(found) => assert!(rt; found.is_none()),
+        Err(_) => assert!(rt; false),
+    }
+    let margin = demands(alloc, true)?;
+    assert!(rt; has_best_between(alloc, &margin));
+    let bounds = bounded(alloc)?;
+    assert!(rt; has_best_between(alloc, &bounds));
+    Ok(())
+}
+
+/// The certificate of the straight routes for all matrices.
+fn made(alloc: Global) -> Result<Certificate, Memory> {
+    let net = three_nodes(alloc)?;
+    let routing = straight_routes(alloc)?;
+    make(alloc, &net, &routing, DemandSet::All)
+}
+
+#[test]
+fn a_made_certificate(rt: HostRuntime) {
+    match made(rt.alloc()) {
+        Ok(certificate) => {
+            // Each distance is one weight, and the weights of all four links are paid for.
+            assert_eq!(rt; certificate.head.ratio, 4_000_000);
+            let far = 1 << 20;
+            let weights = [far, far, far, far];
+            match certificate.blocks.as_slice() {
+                [first, second] => {
+                    let from_a = [(0, [0, far, far])];
+                    let from_b = [(1, [far, 0, far])];
+                    assert!(rt; is_block(first, 0, far, &weights, &from_a, &[], &[]));
+                    assert!(rt; is_block(second, 1, far, &weights, &from_b, &[], &[]));
+                }
+                _ => assert!(rt; false),
+            }
+        }
+        Err(_) => assert!(rt; false),
+    }
+}

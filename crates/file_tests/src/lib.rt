@@ -1,0 +1,13 @@
+//! Tests of the readers of files, and of what they print. There is nothing else here.
+#![tactic(auto)]
+
+#[cfg(test)]
+mod csv_records_tests;
+#[cfg(test)]
+mod failure_tests;
+#[cfg(test)]
+mod plan_tests;
+#[cfg(test)]
+mod topology_tests;
+#[cfg(test)]
+mod traffic_matrix_tests;

@@ -1,0 +1,92 @@
+use std::alloc::Global;
+use std::test::Fail;
+use te_model::MAX_NODES;
+use topology::*;
+
+fn fault_of(alloc: Global, bytes: &[u8]) -> Option<TopologyFault> {
+    read(alloc, bytes).err()
+}
+
+// The fault of a file whose second row is this one, after a good row.
+fn second_row(alloc: Global, row: &str) -> Result<Option<TopologyFault>, Fail> {
+    let text = format!(in alloc; "source,target,capacity,cost\na,b,10,1\n{row}\n")?;
+    Ok(fault_of(alloc, text.as_bytes()))
+}
+
+#[test]
+fn first_faults(rt: HostRuntime) -> Result<(), Fail> {
+    let alloc = rt.alloc();
+    assert_eq!(rt; fault_of(alloc, b""), Some(TopologyFault::Header));
+    assert_eq!(rt;
+        fault_of(alloc, b"source,target,capacity\n"),
+        Some(TopologyFault::Header)
+    );
+    assert_eq!(rt;
+        fault_of(alloc, b"source,target,capacity,cost\n"),
+        Some(TopologyFault::Empty)
+    );
+    assert_eq!(rt;
+        second_row(alloc, "a,b,10")?,
+        Some(TopologyFault::Fields(2))
+    );
+    assert_eq!(rt;
+        second_row(alloc, "a,a,10,1")?,
+        Some(TopologyFault::SelfLink(2))
+    );
+    assert_eq!(rt;
+        second_row(alloc, "a,b,10,0")?,
+        Some(TopologyFault::Number(2))
+    );
+    assert_eq!(rt;
+        second_row(alloc, "a,b,4294967297,1")?,
+        Some(TopologyFault::Number(2))
+    );
+    assert_eq!(rt;
+        second_row(alloc, "a b,c,10,1")?,
+        Some(TopologyFault::Name(2))
+    );
+    assert_eq!(rt;
+        second_row(alloc, "a b,c,0,1\na")?,
+        Some(TopologyFault::Name(2))
+    );
+    assert_eq!(rt; second_row(alloc, "a,b,10,1")?, None);
+    Ok(())
+}
+
+#[test]
+fn nodes_in_order_of_appearance(rt: HostRuntime) -> Result<(), Fail> {
+    let text =
+        b"source,target,capacity,cost\r\n\r\nb,a,4294967296,65535\r\n\"c\",b,0010,1\r\nb,a,1,1";
+    let net = read(rt.alloc(), text)?;
+    let names = net.names.as_slice();
+    assert_eq!(rt; names.len(), 3);
+    assert_eq!(rt; names[0].as_str(), "b");
+    assert_eq!(rt; names[1].as_str(), "a");
+    assert_eq!(rt; names[2].as_str(), "c");
+    let links = net.links.as_slice();
+    assert_eq!(rt; links.len(), 3);
+    assert_eq!(rt;
+        (
+            links[1].tail,
+            links[1].head,
+            links[1].capacity,
+            links[1].cost
+        ),
+        (2, 0, 10, 1)
+    );
+    Ok(())
+}
+
+#[test]
+fn no_more_nodes_than_the_limit(rt: HostRuntime) -> Result<(), Fail> {
+    let alloc = rt.alloc();
+    let mut text = String::from_str(alloc, "source,target,capacity,cost\n")?;
+    for node in 1..=MAX_NODES {
+        text.push_str(format!(in alloc; "n0,n{node},1,1\n")?.as_str())?;
+    }
+    assert_eq!(rt;
+        fault_of(alloc, text.as_bytes()),
+        Some(TopologyFault::TooMany(MAX_NODES as u64))
+    );
+    Ok(())
+}

@@ -1,0 +1,2 @@
+pub mod RoutingThirds
+pub mod RoutingHalves

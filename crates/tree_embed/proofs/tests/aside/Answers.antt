@@ -1,5 +1,0 @@
-use Rattle.std.proofs.Common.{[], ◌∷◌, refl, lit<}
-use Rattle.tree_embed.proofs.tests.aside.Goals as goal
-
-pub embed-requires-clause-order : goal.embed-requires-clause-order
-embed-requires-clause-order c = rw c.requires (record { moves = (0, 1) ∷ []; below = (lit< tt, lit< tt, tt); is = refl })

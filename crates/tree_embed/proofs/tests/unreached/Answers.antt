@@ -1,6 +1,0 @@
-use Rattle.std.proofs.Common.{[], ◌∷◌, rules}
-use Rattle.std.proofs.lemmas.List.Sorted.{IsPermutation-refl}
-use Rattle.tree_embed.proofs.tests.unreached.Goals as goal
-
-pub embed-requires-clause-order : goal.embed-requires-clause-order
-embed-requires-clause-order c = rw c.requires (IsPermutation-refl (0 ∷ 1 ∷ 2 ∷ []))
