@@ -27,6 +27,14 @@ ascends_at number low (x ∷ xs) (suc k) d ascends below =
     let first = ascends.0 in
     omega arith
 
+-- each number is above the one before it
+pub ascends_next : {X : Type 0} (number : X → ℕ) (low : ℕ) (xs : List X) (k : ℕ) (d : X) → AscendsFrom number low xs → suc k < length xs →
+    number (get_or xs k d) < number (get_or xs (suc k) d)
+ascends_next number low [] k d ascends below = absurd (omega arith)
+ascends_next number low (x ∷ xs) zero d ascends below =
+    let h = ascends_at number (number x + 1) xs 0 d ascends.1 (omega arith) in omega arith
+ascends_next number low (x ∷ xs) (suc k) d ascends below = ascends_next number (number x + 1) xs k d ascends.1 (omega arith)
+
 -- a lower number stands earlier
 pub ascends_order : {X : Type 0} (number : X → ℕ) (low : ℕ) (xs : List X) (j k : ℕ) (d : X) → AscendsFrom number low xs →
     j < length xs → k < length xs → number (get_or xs j d) < number (get_or xs k d) → j < k

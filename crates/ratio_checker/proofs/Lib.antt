@@ -4,9 +4,12 @@ pub mod RowFailures
 pub mod AddedWeights
 pub mod SourceRows
 pub mod UncoveredLinks
+pub mod ShareTables
 pub mod SimplePaths
 pub mod Sizes
 pub mod Absent
+pub mod FedBlocks
+pub mod MoreBlocks
 pub mod Validity
 pub mod Verdicts
 mod Weighed

@@ -1,12 +1,17 @@
 -- The first link on which the share of some pair is not covered.
-use Rattle.std.specs.Prelude.{◌≡◌, ℕ, ◌<◌, Option, Some, None, List, if◌then◌else◌, ◌==◌}
+use Rattle.std.specs.Prelude.{◌≡◌, ℕ, ◌+◌, ◌*◌, ◌<◌, Bool, Option, Some, None, List, if◌then◌else◌, nat_le, ◌==◌}
 use Rattle.te_model.specs.declared.route.PairRoutes.{PairRoutes}
 use Rattle.te_model.specs.declared.certificate.Block.{Block}
 use Rattle.te_model.specs.declared.inequality.InequalityFault.{InequalityFault}
 use Rattle.te_model.specs.Counting.{first_below, unless}
-use Rattle.te_model.specs.Certificate.{block_of}
+use Rattle.te_model.specs.Certificate.{block_of, plus_of, minus_of}
 use Rattle.te_model.specs.Inequalities.{covers_share, failure_at}
 use Rattle.ratio_checker.specs.declared.shares.Uncovered.{Uncovered}
+
+-- I2 of pair p: the block covers so large a share by this distance from its source to its destination
+abbrev pub covers_by : Block → ℕ → ℕ → ℕ → Bool
+covers_by block p share distance =
+    nat_le (share * block.b + block.a * minus_of block p) (block.a * (distance + plus_of block p))
 
 -- where I2 fails first of the pairs below n, on link e
 abbrev pub failure_among : List PairRoutes → List Block → ℕ → ℕ → Option InequalityFault

@@ -29,8 +29,19 @@ pub enum Finding {
     No { link: u32, rule: u8, place: u64 },
 }
 
+// The failure as one of the link.
+pub fn failing(link: u32, failure: InequalityFault) -> Finding
+    ensures { result ≡ Finding.No link failure.number failure.place }
+{
+    Finding::No {
+        link,
+        rule: failure.number,
+        place: failure.place,
+    }
+}
+
 // The first inequality that fails of what the block says of its link, where `shares` is what fails of I2.
-fn block_failure(
+pub fn block_failure(
     head: &Head,
     block: &Block,
     shares: Option<InequalityFault>,
@@ -91,11 +102,7 @@ fn first_finding(cert: &Certificate) -> Finding
     for e in 0..cert.head.network.links.as_slice().len() {
         let link = e as u32;
         if let Some(failure) = link_failure(&cert.head, blocks, link, fault_on(uncovered, link)) {
-            return Finding::No {
-                link,
-                rule: failure.number,
-                place: failure.place,
-            };
+            return failing(link, failure);
         }
         blocks = blocks_after(blocks, link);
     }

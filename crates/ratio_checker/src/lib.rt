@@ -4,12 +4,16 @@
 mod blocks;
 mod bounds;
 mod capacity;
+pub mod feed;
 pub mod finding;
 mod link_shares;
 mod potentials;
 mod rows;
+mod share_rows;
+mod share_table;
 mod shares;
 
+pub use feed::Feed;
 pub use finding::{Finding, verdict};
 
 #[cfg(test)]

@@ -1,5 +1,6 @@
 //! The shares of a pair on all links at once.
 ghost use Rattle.std.specs.Prelude.{◌≡◌, ℕ, ◌+◌, ◌^◌, ◌<◌, length, slice_index, sum_by, All, IsTrue};
+ghost use Rattle.te_model.specs.declared.limits.TheConstants.{FORMAT_2};
 ghost use Rattle.te_model.specs.Path.{amount_on, is_distinct, weight_on};
 ghost use Rattle.ratio_checker.specs.Checked.{IsSimplePath};
 
@@ -25,7 +26,8 @@ fn add_weight(shares: &mut [u64], links: &[u32], weight: u64)
 pub fn shares_by_link(paths: &[PathShare]) -> [u64; MOST]
     requires paths { All IsSimplePath paths.now }
     requires weights { sum_by (λ s. s.weight) paths.now < 2 ^ 64 }
-    ensures { (e : ℕ) → slice_index result e ≡ weight_on paths.now e }
+    ensures count { length result ≡ FORMAT_2.links }
+    ensures shares { (e : ℕ) → slice_index result e ≡ weight_on paths.now e }
 {
     let mut shares = [0; MOST];
     for path in paths {

@@ -1,15 +1,15 @@
 //! I2: the share of each pair on each link is covered by the distance from its source to its destination.
-ghost use Rattle.std.specs.Prelude.{◌≡◌, ℕ, ◌+◌, ◌*◌, ◌<◌, ◌≤◌, nat_le, length, All};
+ghost use Rattle.std.specs.Prelude.{◌≡◌, ℕ, ◌^◌, ◌<◌, ◌≤◌, length, All, IsTrue};
 ghost use Rattle.te_model.specs.declared.units.TheConstants.{SHARE_UNIT};
 ghost use Rattle.te_model.specs.Counting.{first_below, unless};
 ghost use Rattle.te_model.specs.Network.{link_count};
 ghost use Rattle.te_model.specs.Path.{weight_on, routes_at};
-ghost use Rattle.te_model.specs.Certificate.{block_of, potential, plus_of, minus_of};
+ghost use Rattle.te_model.specs.Certificate.{block_of, potential};
 ghost use Rattle.te_model.specs.Inequalities.{covers_share};
 ghost use Rattle.te_model.specs.Bounds.{HasSmallNumbers};
 ghost use Rattle.ratio_checker.specs.Ascending.{AscendsFrom};
 ghost use Rattle.ratio_checker.specs.Checked.{CanCheckHead, CanCheckBlock};
-ghost use Rattle.ratio_checker.specs.Uncovered.{IsFirstUncovered, fault_on};
+ghost use Rattle.ratio_checker.specs.Uncovered.{covers_by, IsFirstUncovered, fault_on};
 
 use crate::blocks::blocks_after;
 use crate::link_shares::shares_by_link;
@@ -23,25 +23,41 @@ pub struct Uncovered {
     pub pair: u64,
 }
 
+// A pair without a share on the link of the block is covered at any distance, where its minus is at most its plus.
+#[tactic(auto, using(crate::proofs::Absent::covers_nothing))]
+pub fn is_free(block: &Block, p: usize, share: u64) -> bool
+    ensures { IsTrue result → (distance : ℕ) → IsTrue (covers_by block.now p share distance) }
+{
+    share == 0 && number_at(block.minus.as_slice(), p) <= number_at(block.plus.as_slice(), p)
+}
+
+// The distance from its source to its destination covers the share of the pair on the link of the block.
+#[tactic(auto, using(crate::proofs::Sizes::sizes))]
+pub fn covers(block: &Block, p: usize, share: u64, distance: u64) -> bool
+    requires share { share ≤ SHARE_UNIT }
+    requires block { HasSmallNumbers block.now }
+    requires distance { distance ≤ 2 ^ 36 }
+    ensures { result ≡ covers_by block.now p share distance }
+{
+    let plus = number_at(block.plus.as_slice(), p);
+    let minus = number_at(block.minus.as_slice(), p);
+    let left = share as u128 * block.b as u128 + block.a as u128 * minus as u128;
+    let right = block.a as u128 * (distance as u128 + plus as u128);
+    left <= right
+}
+
 // The share of the pair on the link of the block is covered. Most pairs have none, and then no potential is read.
-#[tactic(auto, using(crate::proofs::Sizes::sizes, crate::proofs::Absent::covers_nothing))]
 fn covers_share(block: &Block, pair: Pair, p: usize, share: u64) -> bool
     requires share { share ≤ SHARE_UNIT }
     requires block { HasSmallNumbers block.now }
     requires rows { AscendsFrom (λ r. r.source) 0 block.now.rows }
-    ensures { result ≡ nat_le (share * block.now.b + block.now.a * minus_of block.now p)
-        (block.now.a * (potential block.now pair.src pair.dst + plus_of block.now p)) }
+    ensures { result ≡ covers_by block.now p share (potential block.now pair.src pair.dst) }
 {
-    let plus = number_at(block.plus.as_slice(), p);
-    let minus = number_at(block.minus.as_slice(), p);
-    if share == 0 && minus <= plus {
+    if is_free(block, p, share) {
         return true;
     }
     let row = potentials_of(block.rows.as_slice(), pair.src);
-    let distance = number_at(row, pair.dst as usize);
-    let left = share as u128 * block.b as u128 + block.a as u128 * minus as u128;
-    let right = block.a as u128 * (distance as u128 + plus as u128);
-    left <= right
+    covers(block, p, share, number_at(row, pair.dst as usize))
 }
 
 // The share of the pair on the link, whose block is the first if it is there, is covered.

@@ -2,14 +2,15 @@ ghost use Rattle.std.specs.Prelude.{◌≡◌, ◌∷◌, [], IfOk};
 ghost use Rattle.te_model.specs.declared.demand.DemandSet.TheVariants.{All};
 ghost use Rattle.te_model.specs.ThreeNodes.{blocks_for_all, block_for_double, blocks_for_double, block_for_equal, box_between, double_demands, equal_demands, three_nodes_in};
 ghost use Rattle.te_model.specs.TwoLinks.{half_block, out_of_reach_certificate, parallel_certificate};
-ghost use Rattle.ratio_checker.specs.Samples.{equal_blocks};
+ghost use Rattle.te_model.specs.Validity.{IsValid};
+ghost use Rattle.ratio_checker.specs.Samples.{equal_blocks, straight_block};
 
 use super::*;
 use std::alloc::{AllocError, Global};
 use std::test::Fail;
 use te_model::{
-    Block, Certificate, DemandSet, Head, Items, Link, Matrix, Name, Network, Pair, PairRoutes,
-    PathShare, Row,
+    Block, Certificate, DemandSet, Head, Items, Link, Matrix, Memory, Name, Network, Pair,
+    PairRoutes, PathShare, Row,
 };
 
 fn numbers(alloc: Global, numbers: &[u64]) -> Result<Items<u64>, AllocError>
@@ -130,27 +131,26 @@ fn three_nodes(
     })
 }
 
+// The block for every matrix of a link to the third node.
+fn straight_block(alloc: Global, link: u32) -> Result<Block, AllocError>
+    ensures { IfOk result (λ block. block ≡ straight_block link) }
+{
+    Ok(Block {
+        link,
+        a: 1_000_000,
+        b: 1,
+        weights: numbers(alloc, &[1, 1, 0, 0])?,
+        rows: Items::new(vec![in alloc; row(alloc, link, &[0, 0, 1])?]?),
+        plus: Items::new(Vec::new(alloc)),
+        minus: Items::new(Vec::new(alloc)),
+    })
+}
+
 fn for_all(alloc: Global, ratio: u64) -> Result<Certificate, AllocError>
     ensures { IfOk result (λ cert. cert ≡ three_nodes_in 1 All ratio blocks_for_all) }
 {
-    let first = Block {
-        link: 0,
-        a: 1_000_000,
-        b: 1,
-        weights: numbers(alloc, &[1, 1, 0, 0])?,
-        rows: Items::new(vec![in alloc; row(alloc, 0, &[0, 0, 1])?]?),
-        plus: Items::new(Vec::new(alloc)),
-        minus: Items::new(Vec::new(alloc)),
-    };
-    let second = Block {
-        link: 1,
-        a: 1_000_000,
-        b: 1,
-        weights: numbers(alloc, &[1, 1, 0, 0])?,
-        rows: Items::new(vec![in alloc; row(alloc, 1, &[0, 0, 1])?]?),
-        plus: Items::new(Vec::new(alloc)),
-        minus: Items::new(Vec::new(alloc)),
-    };
+    let first = straight_block(alloc, 0)?;
+    let second = straight_block(alloc, 1)?;
     three_nodes(
         alloc,
         1,
@@ -276,44 +276,67 @@ fn out_of_reach(alloc: Global, potential: u64) -> Result<Certificate, AllocError
     })
 }
 
-fn no(link: u32, rule: u8, place: u64) -> Finding {
-    Finding::No { link, rule, place }
+// What is found of a certificate, where the whole and its blocks one at a time give the same.
+fn found(alloc: Global, cert: Certificate) -> Result<Option<Finding>, Memory>
+    requires { IsValid cert }
+{
+    let whole = verdict(&cert);
+    let blocks = cert.blocks;
+    let mut feed = Feed::new(alloc, cert.head)?;
+    for block in blocks.as_slice() {
+        feed.block(block);
+    }
+    let same = feed.finish() == whole;
+    Ok(same.then_some(whole))
+}
+
+fn yes() -> Option<Finding> {
+    Some(Finding::Yes)
+}
+
+fn no(link: u32, rule: u8, place: u64) -> Option<Finding> {
+    Some(Finding::No { link, rule, place })
 }
 
 #[test]
 fn parallel_links(rt: HostRuntime) -> Result<(), Fail> {
     let alloc = rt.alloc();
     let both = vec![in alloc; half(alloc, 0)?, half(alloc, 1)?]?;
-    assert_eq!(rt; verdict(&parallel(alloc, both)?), Finding::Yes);
+    assert_eq!(rt; found(alloc, parallel(alloc, both)?)?, yes());
     let first = vec![in alloc; half(alloc, 0)?]?;
-    assert_eq!(rt; verdict(&parallel(alloc, first)?), no(1, 2, 0));
+    assert_eq!(rt; found(alloc, parallel(alloc, first)?)?, no(1, 2, 0));
+    let second = vec![in alloc; half(alloc, 1)?]?;
+    assert_eq!(rt; found(alloc, parallel(alloc, second)?)?, no(0, 2, 0));
     Ok(())
 }
 
 #[test]
 fn two_of_three_nodes_send(rt: HostRuntime) -> Result<(), Fail> {
     let alloc = rt.alloc();
-    assert_eq!(rt; verdict(&for_all(alloc, 2_000_000)?), Finding::Yes);
-    assert_eq!(rt; verdict(&for_all(alloc, 1_999_999)?), no(0, 4, 0));
-    assert_eq!(rt; verdict(&for_equal(alloc, &[0, 1])?), Finding::Yes);
-    assert_eq!(rt; verdict(&for_equal(alloc, &[0, 0])?), no(0, 3, 0));
+    assert_eq!(rt; found(alloc, for_all(alloc, 2_000_000)?)?, yes());
+    assert_eq!(rt; found(alloc, for_all(alloc, 1_999_999)?)?, no(0, 4, 0));
+    assert_eq!(rt; found(alloc, for_equal(alloc, &[0, 1])?)?, yes());
+    assert_eq!(rt; found(alloc, for_equal(alloc, &[0, 0])?)?, no(0, 3, 0));
+    let second = vec![in alloc; straight_block(alloc, 1)?]?;
+    let cert = three_nodes(alloc, 1, DemandSet::All, 1_999_999, second)?;
+    assert_eq!(rt; found(alloc, cert)?, no(0, 2, 0));
     Ok(())
 }
 
 #[test]
 fn a_node_is_out_of_reach(rt: HostRuntime) -> Result<(), Fail> {
     let alloc = rt.alloc();
-    assert_eq!(rt; verdict(&out_of_reach(alloc, 0)?), no(0, 1, 2));
-    assert_eq!(rt; verdict(&out_of_reach(alloc, 1)?), Finding::Yes);
+    assert_eq!(rt; found(alloc, out_of_reach(alloc, 0)?)?, no(0, 1, 2));
+    assert_eq!(rt; found(alloc, out_of_reach(alloc, 1)?)?, yes());
     Ok(())
 }
 
 #[test]
 fn demands_between_bounds(rt: HostRuntime) -> Result<(), Fail> {
     let alloc = rt.alloc();
-    assert_eq!(rt; verdict(&for_box(alloc, &[10, 10])?), Finding::Yes);
-    assert_eq!(rt; verdict(&for_box(alloc, &[20, 20])?), no(0, 3, 0));
-    assert_eq!(rt; verdict(&for_double(alloc, 1_333_334)?), Finding::Yes);
-    assert_eq!(rt; verdict(&for_double(alloc, 1_333_333)?), no(0, 4, 0));
+    assert_eq!(rt; found(alloc, for_box(alloc, &[10, 10])?)?, yes());
+    assert_eq!(rt; found(alloc, for_box(alloc, &[20, 20])?)?, no(0, 3, 0));
+    assert_eq!(rt; found(alloc, for_double(alloc, 1_333_334)?)?, yes());
+    assert_eq!(rt; found(alloc, for_double(alloc, 1_333_333)?)?, no(0, 4, 0));
     Ok(())
 }
