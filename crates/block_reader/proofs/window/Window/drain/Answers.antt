@@ -1,0 +1,57 @@
+use Rattle.std.proofs.Common.{◌≡◌, ◌≢◌, ◌∙◌, ◌++◌, refl, sym, ap, subst, inl, inr, arith, rules, append_assoc}
+use Rattle.te_ports.specs.Ports.{Rose}
+use Rattle.block_reader.specs.declared.window.State.TheVariants.{Open, Failed}
+use Rattle.block_reader.specs.Standing.{ready, StandsAt, StandsIn}
+use Rattle.block_reader.proofs.Going.{at_clear, in_clear}
+use Rattle.block_reader.proofs.window.Window.drain.Goals as goal
+
+pub pieces-init : goal.pieces-init
+pieces-init g c =
+    let w = c.args.self.now in
+    let clear = c.clear.ensures in (
+      refl,
+      (λ passed s. (ready w, at_clear _ w c.clear.new.self passed clear.ready clear.fetched clear.limit clear.state s)),
+      (λ told is passed s. (ready w, in_clear told w c.clear.new.self passed clear.ready clear.fetched clear.limit clear.state s)),
+      clear.ready,
+      clear.end,
+      clear.room,
+      clear.limit,
+      (λ closed. (clear.state, refl)),
+      (λ is. inl (sym clear.state ∙ is)),
+      (λ is. refl),
+      (λ other. omega arith),
+      (λ other at bytes given. given),
+    )
+
+pub pieces-preserved : goal.pieces-preserved
+pieces-preserved g c =
+    let all = c.pieces.invariant in
+    let next = c.fetch.ensures in
+    let clear = c.clear-in-pieces.ensures in
+    let w = c.fetch.new.self in
+    let after = c.clear-in-pieces.new.self in
+    let name = c.args.name.now in
+    let is_open : c.pieces.self.state ≡ Open = search rules in
+    let sound : c.pieces.self.state ≢ Failed = (λ (is : c.pieces.self.state ≡ Failed). cc) in (
+      next.content ∙ all.0,
+      (λ passed s. let h = all.1 passed s in (
+        h.0 ++ ready w,
+        subst (StandsAt (g.D.Depot.gave c.fetch.new.depot name) after) (append_assoc passed h.0 (ready w))
+            (at_clear _ w after (passed ++ h.0) clear.ready clear.fetched clear.limit clear.state (next.stands (passed ++ h.0) h.1)),
+      )),
+      (λ told is passed s. let h = all.2 told is passed s in (
+        h.0 ++ ready w,
+        subst (StandsIn told after) (append_assoc passed h.0 (ready w))
+            (in_clear told w after (passed ++ h.0) clear.ready clear.fetched clear.limit clear.state
+            (next.told told (ap (λ f. f name) all.0 ∙ is) (passed ++ h.0) h.1)),
+      )),
+      clear.ready,
+      clear.end,
+      clear.room ∙ next.room ∙ all.5,
+      clear.limit ∙ next.limit ∙ all.6,
+      (λ closed. absurd (closed (sym (all.7 closed).0 ∙ is_open))),
+      (λ is. inr (subst (λ f. Rose (f name) (g.D.Depot.faults c.fetch.new.depot name)) (all.9 sound) (next.failed (sym clear.state ∙ is)))),
+      (λ is. next.steady (λ failed. is (clear.state ∙ failed)) ∙ all.9 sound),
+      (λ other. omega (arith, all.10 other, next.later other)),
+      (λ other at bytes given. next.kept other at bytes (all.11 other at bytes given)),
+    )

@@ -1,0 +1,40 @@
+//! Laws of windows and of how far reading looks. A law is the contract of a function that does nothing.
+ghost use Rattle.std.specs.Prelude.{◌≡◌, ℕ, List, ◌++◌, Some, codes};
+ghost use Rattle.te_model.specs.declared.limits.Limits.{Limits};
+ghost use Rattle.te_ports.specs.Record.{IsRead, IsReadPastAllowed};
+ghost use Rattle.cert_text.specs.declared.limits.Counts.{Counts};
+ghost use Rattle.cert_text.specs.Grammar.{format_at, network_at, counted_at, pair_at, set_at, ratio_at, block_at, closing_at};
+ghost use Rattle.block_reader.specs.declared.window.State.TheVariants.{Ended as IsEnded, TooLong as IsTooLong};
+ghost use Rattle.block_reader.specs.Standing.{ready, state_of, limit_of, StandsAt, StandsIn};
+ghost use Rattle.block_reader.specs.Ahead.{IsAhead, passing};
+ghost use Rattle.block_reader.specs.Sizes.{format_size, network_size, count_size, pair_size, set_size, ratio_size, block_size, closing_size};
+
+use crate::Window;
+use te_ports::Depot;
+
+/// A window that stands in what reads gave stands in the told content; where the file ended, reads gave what was passed
+/// and what stands ready, and nothing else; and where it is too long, they gave one byte more than its limit allows.
+pub fn windows_stand_in_what_is_told<D: Depot>(depot: &D, window: &Window)
+    ensures told { (name : List ℕ) → (told : List ℕ) → D.content depot.now name ≡ Some told → (passed : List ℕ) →
+        StandsAt (D.gave depot.now name) window.now passed → StandsIn told window.now passed }
+    ensures whole { (name : List ℕ) → (passed : List ℕ) → StandsAt (D.gave depot.now name) window.now passed →
+        state_of window.now ≡ IsEnded → IsRead (D.gave depot.now name) (passed ++ ready window.now) }
+    ensures past { (name : List ℕ) → (passed : List ℕ) → (allowed : List ℕ → ℕ) →
+        StandsAt (D.gave depot.now name) window.now passed → limit_of window.now ≡ allowed (passed ++ ready window.now) →
+        state_of window.now ≡ IsTooLong → IsReadPastAllowed (D.gave depot.now name) allowed }
+{}
+
+/// Reading of each part of a certificate of either format takes at most so many bytes, and what stands behind as many
+/// changes neither what is read nor the faulty line.
+pub fn reading_looks_so_far()
+    ensures format { IsAhead format_size format_at }
+    ensures network { (limits : Limits) → (keep : ℕ → ℕ) → IsAhead (network_size limits) (network_at limits keep) }
+    ensures pairs { (limits : Limits) → IsAhead count_size (counted_at (codes "pairs ") 0 limits.pairs) }
+    ensures pair { (limits : Limits) → (keep : ℕ → ℕ) → IsAhead (pair_size limits) (pair_at limits keep) }
+    ensures set { (limits : Limits) → (pairs : ℕ) → IsAhead (set_size pairs) (set_at limits pairs) }
+    ensures ratio { IsAhead ratio_size ratio_at }
+    ensures blocks { (limits : Limits) → IsAhead count_size (counted_at (codes "blocks ") 0 limits.links) }
+    ensures block { (limits : Limits) → (keep : ℕ → ℕ) → (counts : Counts) →
+        IsAhead (block_size limits.nodes counts) (block_at limits keep counts) }
+    ensures closing { IsAhead closing_size (passing closing_at) }
+{}

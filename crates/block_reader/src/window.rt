@@ -1,0 +1,267 @@
+//! The bytes of a file that stand ready, fetched piece by piece.
+ghost use Rattle.std.specs.Prelude.{◌≡◌, ◌≢◌, ◌≤◌, ◌<◌, ◌+◌, ◌-◌, ◌⊎◌, ◌^◌, ℕ, List, [], ◌++◌, length, take, drop, vec_len, IfOk, OnErr};
+ghost use Rattle.te_ports.specs.Ports.{Rose, Told};
+ghost use Rattle.te_ports.specs.Limit.{IsLimit};
+ghost use Rattle.te_ports.specs.Record.{Grows};
+ghost use Rattle.block_reader.specs.declared.window.State.{State};
+
+use std::alloc::{AllocError, Global};
+use te_ports::{Depot, Failed, Limit};
+
+/// What became of a file.
+#[derive(Clone, Copy, Debug, PartialEq, Eq)]
+pub enum State {
+    /// There may be more.
+    Open,
+    /// All was fetched.
+    Ended,
+    /// A read failed.
+    Failed,
+    /// One byte more was fetched than the limit allows.
+    TooLong,
+}
+
+/// The bytes of a file that stand ready: those that were fetched and not yet passed.
+#[derive(Drop)]
+pub struct Window {
+    bytes: Vec<u8>,
+    start: usize,
+    end: usize,
+    fetched: u64,
+    limit: u64,
+    state: State,
+    ghost some: { 1 ≤ vec_len bytes },
+    ghost ordered: { start ≤ end },
+    ghost inside: { end ≤ vec_len bytes },
+    ghost counted: { end - start ≤ fetched },
+    ghost small: { limit ≤ 2 ^ 30 },
+    ghost below: { fetched ≤ limit + 1 },
+    ghost within: { state ≢ State.TooLong → fetched ≤ limit },
+    ghost past: { state ≡ State.TooLong → fetched ≡ limit + 1 },
+}
+
+impl Window {
+    ghost use Rattle.block_reader.specs.Standing.{ready, fetched_of, state_of, room_of, limit_of, left_of, StandsIn, StandsAt};
+
+    /// Room for so many bytes of a file of at most `limit` bytes, of which none was fetched yet. `AllocError` where memory
+    /// is short.
+    pub fn new(alloc: Global, room: usize, limit: u64) -> Result<Window, AllocError>
+        requires some { 1 ≤ room }
+        requires small { limit ≤ 2 ^ 30 }
+        ensures ready { IfOk result (λ w. ready w ≡ []) }
+        ensures fetched { IfOk result (λ w. fetched_of w ≡ 0) }
+        ensures room { IfOk result (λ w. room_of w ≡ room) }
+        ensures limit { IfOk result (λ w. limit_of w ≡ limit) }
+        ensures state { IfOk result (λ w. state_of w ≡ State.Open) }
+    {
+        Ok(Window {
+            bytes: vec![in alloc; 0; room]?,
+            start: 0,
+            end: 0,
+            fetched: 0,
+            limit,
+            state: State::Open,
+        })
+    }
+
+    /// The first bytes of a file, so many or all that it has. The limit is the one for a file that begins with them.
+    ///
+    /// `AllocError`, where nothing was read, comes only where memory is short.
+    pub fn at_start<D: Depot, L: Limit>(
+        alloc: Global,
+        depot: &mut D,
+        name: &str,
+        limit: &L,
+        wanted: usize,
+        room: usize,
+    ) -> Result<Window, AllocError>
+        requires limit { IsLimit (L.allowed limit.now) }
+        requires some { 1 ≤ room }
+        requires fits { wanted ≤ room }
+        requires least { room ≤ L.allowed limit.now [] }
+        ensures stands { IfOk result (λ w. StandsAt (D.gave depot.new name.now) w []) }
+        ensures told { IfOk result (λ w. Told (D.content depot.old name.now) (λ told. StandsIn told w [])) }
+        ensures limit { IfOk result (λ w. limit_of w ≡ L.allowed limit.now (ready w)) }
+        ensures enough { IfOk result (λ w. state_of w ≡ State.Open → wanted ≤ length (ready w)) }
+        ensures within { IfOk result (λ w. state_of w ≢ State.TooLong) }
+        ensures room { IfOk result (λ w. room_of w ≡ room) }
+        ensures failed { IfOk result (λ w. state_of w ≡ State.Failed →
+            Rose (D.faults depot.old name.now) (D.faults depot.new name.now)) }
+        ensures steady { IfOk result (λ w. state_of w ≢ State.Failed → D.faults depot.new ≡ D.faults depot.old) }
+        ensures memory { OnErr result (D.faults depot.new ≡ D.faults depot.old) }
+        ensures later { (other : List ℕ) → D.faults depot.old other ≤ D.faults depot.new other }
+        ensures kept { Grows (D.gave depot.old) (D.gave depot.new) }
+        ensures content { D.content depot.new ≡ D.content depot.old }
+    {
+        let mut window = Window::new(alloc, room, limit.allowed(&[]))?;
+        window.fill(depot, name, wanted);
+        let allowed = limit.allowed(window.ready());
+        window.raise(allowed);
+        Ok(window)
+    }
+
+    /// What became of the file.
+    pub fn state(&self) -> State
+        ensures { result ≡ state_of self.now }
+    {
+        self.state
+    }
+
+    /// The bytes that stand ready.
+    pub fn ready(&self) -> &[u8]
+        ensures { result.now ≡ ready self.now }
+    {
+        &self.bytes[self.start..self.end]
+    }
+
+    /// Allows more bytes.
+    pub fn raise(&mut self, limit: u64)
+        requires small { limit ≤ 2 ^ 30 }
+        requires more { limit_of self.old ≤ limit }
+        requires within { state_of self.old ≢ State.TooLong }
+        ensures limit { limit_of self.new ≡ limit }
+        ensures ready { ready self.new ≡ ready self.old }
+        ensures fetched { fetched_of self.new ≡ fetched_of self.old }
+        ensures state { state_of self.new ≡ state_of self.old }
+        ensures room { room_of self.new ≡ room_of self.old }
+    {
+        self.limit = limit;
+    }
+
+    /// Goes past so many bytes.
+    pub fn pass(&mut self, count: usize)
+        requires { count ≤ length (ready self.old) }
+        ensures ready { ready self.old ≡ take count (ready self.old) ++ ready self.new }
+        ensures fetched { fetched_of self.new ≡ fetched_of self.old }
+        ensures state { state_of self.new ≡ state_of self.old }
+        ensures room { room_of self.new ≡ room_of self.old }
+        ensures limit { limit_of self.new ≡ limit_of self.old }
+        ensures told { (content passed : List ℕ) → StandsIn content self.old passed →
+            StandsIn content self.new (passed ++ take count (ready self.old)) }
+    {
+        self.start += count;
+    }
+
+    // Goes past all bytes that stand ready.
+    fn clear(&mut self)
+        ensures ready { ready self.new ≡ [] }
+        ensures end { self.new.end ≡ 0 }
+        ensures fetched { fetched_of self.new ≡ fetched_of self.old }
+        ensures state { state_of self.new ≡ state_of self.old }
+        ensures room { room_of self.new ≡ room_of self.old }
+        ensures limit { limit_of self.new ≡ limit_of self.old }
+    {
+        self.start = 0;
+        self.end = 0;
+    }
+
+    // Moves the bytes that stand ready to the front.
+    fn compact(&mut self)
+        ensures ready { ready self.new ≡ ready self.old }
+        ensures front { self.new.start ≡ 0 }
+        ensures fetched { fetched_of self.new ≡ fetched_of self.old }
+        ensures state { state_of self.new ≡ state_of self.old }
+        ensures room { room_of self.new ≡ room_of self.old }
+        ensures limit { limit_of self.new ≡ limit_of self.old }
+    {
+        self.bytes
+            .as_mut_slice()
+            .copy_within(self.start..self.end, 0);
+        self.end -= self.start;
+        self.start = 0;
+    }
+
+    // Fetches some bytes behind those that stand ready.
+    fn fetch<D: Depot>(&mut self, depot: &mut D, name: &str)
+        requires is_open { state_of self.old ≡ State.Open }
+        requires space { self.old.end < vec_len self.old.bytes }
+        ensures stands { (passed : List ℕ) → StandsAt (D.gave depot.old name.now) self.old passed →
+            StandsAt (D.gave depot.new name.now) self.new passed }
+        ensures told { Told (D.content depot.old name.now) (λ told. (passed : List ℕ) →
+            StandsIn told self.old passed → StandsIn told self.new passed) }
+        ensures behind { (more : List ℕ) × (ready self.new ≡ ready self.old ++ more) }
+        ensures fewer { left_of self.new < left_of self.old }
+        ensures front { self.new.start ≡ self.old.start }
+        ensures room { room_of self.new ≡ room_of self.old }
+        ensures limit { limit_of self.new ≡ limit_of self.old }
+        ensures failed { state_of self.new ≡ State.Failed →
+            Rose (D.faults depot.old name.now) (D.faults depot.new name.now) }
+        ensures steady { state_of self.new ≢ State.Failed → D.faults depot.new ≡ D.faults depot.old }
+        ensures later { (other : List ℕ) → D.faults depot.old other ≤ D.faults depot.new other }
+        ensures kept { Grows (D.gave depot.old) (D.gave depot.new) }
+        ensures content { D.content depot.new ≡ D.content depot.old }
+    {
+        let left = (self.limit + 1 - self.fetched) as usize;
+        let space = (self.bytes.len() - self.end).min(left);
+        let end = self.end;
+        match depot.fetch(name, self.fetched, &mut self.bytes[end..end + space]) {
+            Err(Failed) => self.state = State::Failed,
+            Ok(0) => self.state = State::Ended,
+            Ok(count) => {
+                self.end += count;
+                self.fetched += count as u64;
+                if self.fetched > self.limit {
+                    self.state = State::TooLong;
+                }
+            }
+        }
+    }
+
+    /// Makes as many bytes stand ready as are asked for, or all that are left. Past the limit nothing is read, and nothing
+    /// after a read that failed.
+    pub fn fill<D: Depot>(&mut self, depot: &mut D, name: &str, wanted: usize)
+        requires { wanted ≤ room_of self.old }
+        ensures stands { (passed : List ℕ) → StandsAt (D.gave depot.old name.now) self.old passed →
+            StandsAt (D.gave depot.new name.now) self.new passed }
+        ensures told { Told (D.content depot.old name.now) (λ told. (passed : List ℕ) →
+            StandsIn told self.old passed → StandsIn told self.new passed) }
+        ensures enough { state_of self.new ≡ State.Open → wanted ≤ length (ready self.new) }
+        ensures behind { (more : List ℕ) × (ready self.new ≡ ready self.old ++ more) }
+        ensures closed { state_of self.old ≢ State.Open → (state_of self.new ≡ state_of self.old) × (ready self.new ≡ ready self.old) }
+        ensures room { room_of self.new ≡ room_of self.old }
+        ensures limit { limit_of self.new ≡ limit_of self.old }
+        ensures failed { state_of self.new ≡ State.Failed → (state_of self.old ≡ State.Failed) ⊎
+            Rose (D.faults depot.old name.now) (D.faults depot.new name.now) }
+        ensures steady { (state_of self.new ≢ State.Failed) ⊎ (state_of self.old ≢ State.Open) →
+            D.faults depot.new ≡ D.faults depot.old }
+        ensures later { (other : List ℕ) → D.faults depot.old other ≤ D.faults depot.new other }
+        ensures kept { Grows (D.gave depot.old) (D.gave depot.new) }
+        ensures content { D.content depot.new ≡ D.content depot.old }
+    {
+        if self.state != State::Open {
+            return;
+        }
+        if self.bytes.len() - self.start < wanted {
+            self.compact();
+        }
+        'pieces: while self.state == State::Open && self.end - self.start < wanted {
+            self.fetch(depot, name);
+        }
+    }
+
+    /// Goes past all that is left of the file, to its end, past its limit, or to a read that fails.
+    pub fn drain<D: Depot>(&mut self, depot: &mut D, name: &str)
+        ensures stands { (passed : List ℕ) → StandsAt (D.gave depot.old name.now) self.old passed →
+            (more : List ℕ) × StandsAt (D.gave depot.new name.now) self.new (passed ++ more) }
+        ensures told { Told (D.content depot.old name.now) (λ told. (passed : List ℕ) → StandsIn told self.old passed →
+            (more : List ℕ) × StandsIn told self.new (passed ++ more)) }
+        ensures none { ready self.new ≡ [] }
+        ensures closed { state_of self.new ≢ State.Open }
+        ensures same { state_of self.old ≢ State.Open → state_of self.new ≡ state_of self.old }
+        ensures room { room_of self.new ≡ room_of self.old }
+        ensures limit { limit_of self.new ≡ limit_of self.old }
+        ensures failed { state_of self.new ≡ State.Failed → (state_of self.old ≡ State.Failed) ⊎
+            Rose (D.faults depot.old name.now) (D.faults depot.new name.now) }
+        ensures steady { (state_of self.new ≢ State.Failed) ⊎ (state_of self.old ≢ State.Open) →
+            D.faults depot.new ≡ D.faults depot.old }
+        ensures later { (other : List ℕ) → D.faults depot.old other ≤ D.faults depot.new other }
+        ensures kept { Grows (D.gave depot.old) (D.gave depot.new) }
+        ensures content { D.content depot.new ≡ D.content depot.old }
+    {
+        self.clear();
+        'pieces: while self.state == State::Open {
+            self.fetch(depot, name);
+            self.clear();
+        }
+    }
+}
