@@ -93,6 +93,24 @@ fn joined(alloc: Global, parts: &[&str]) -> Result<String, Fail> {
     Ok(text)
 }
 
+/// What the program writes to `out`, and that it ends with 0, over files with these names and bytes.
+pub fn written_over(
+    rt: &impl Abort,
+    alloc: Global,
+    words: &[&str],
+    files: &[(&str, &[u8])],
+) -> Result<MemSink, Fail> {
+    let mut depot = MemDepot::new(alloc, 4096)?;
+    for (name, bytes) in files {
+        depot.add(name, bytes)?;
+    }
+    let mut out = MemSink::new(alloc, 100_000, 4096)?;
+    let mut err = MemSink::new(alloc, 200, 200)?;
+    let status = status_of(alloc, words, &mut depot, &mut out, &mut err)?;
+    assert_eq!(rt; status, 0);
+    Ok(out)
+}
+
 /// The status that the program answers to the words.
 fn status_of<D: Depot>(
     alloc: Global,

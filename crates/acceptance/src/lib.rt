@@ -1,6 +1,9 @@
-//! Tests of the whole program: its top call, over files and sinks in memory. There is nothing else here.
+//! Tests of the whole program: its top call, over files and sinks in memory, and what it says of drawn matrices. There is nothing else
+//! here.
 #![tactic(auto)]
 
+#[cfg(test)]
+mod backbone;
 #[cfg(test)]
 mod call;
 #[cfg(test)]
@@ -13,6 +16,10 @@ mod changes;
 mod check;
 #[cfg(test)]
 mod convert;
+#[cfg(test)]
+mod generate;
+#[cfg(test)]
+mod gravity;
 #[cfg(test)]
 mod publish;
 #[cfg(test)]

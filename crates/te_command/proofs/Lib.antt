@@ -10,3 +10,4 @@ pub mod Table
 pub mod Delivering
 pub mod Answering
 pub mod Refusing
+mod Generating

@@ -29,7 +29,9 @@ use Rattle.te_command.specs.FailureFile.{failures_reason}
 use Rattle.te_command.specs.PlanFile.{plan_reason}
 use Rattle.te_command.specs.Publish.{IsPublicationStatus, IsPublication, IsProvedFile, no_path_line, publication_of}
 use Rattle.te_command.specs.Report.{report_of}
-use Rattle.te_command.specs.Commands.{publish, run, with_failures}
+use Rattle.generation.proofs.Proving.{proves_ratio}
+use Rattle.te_command.specs.Generate.{summary_of}
+use Rattle.te_command.specs.Commands.{publish, run, generate, with_failures}
 use Rattle.te_command.specs.Form.{IsAnsweredYes}
 use Rattle.te_command.specs.Commands.{Command, check, check_network, convert, reading_of}
 use Rattle.te_command.specs.Form.{IsAnswer, IsOfCertificate}
@@ -191,12 +193,23 @@ failures_regular : (plan : Experiment) (n : Network) (series : Series) (named : 
 failures_regular plan n series None = tt
 failures_regular plan n series (Some file) = (inputs_regular failures_reason (failures_of (link_count n) (length series.steps)), λ failures. tt)
 
+summary_sound : (n seed : ℕ) → IsSound (λ s text. s ≡ 0) (summary_of n seed)
+summary_sound n seed = record {
+  once = λ s t p q. p ∙ sym q;
+  some = (0, refl);
+  of_text = λ s text is. is.0;
+  proves = λ text is. proves_ratio n seed text is.1;
+  form = λ s text is. is.0;
+  accepted = λ text is. omega (arith, is.0);
+}
+
 pub sound : (command : Command) → AtEnd (reading_of command) (IsSound (IsAnswer command))
 sound (check file) = λ bytes c spells. verdict_sound bytes c spells
 sound (check_network file topology) = λ bytes c spells rows n makes. network_verdict_sound bytes c n spells
 sound (convert file) = λ bytes c spells. conversion_sound bytes c spells
 sound (publish file) = λ bytes plan says rows n makes demands series reads. publication_sound plan n series
 sound (run file) = λ bytes plan says rows n makes demands series reads. reported plan n series plan.failures
+sound (generate n seed) = summary_sound n seed
 
 pub regular : (command : Command) → AreRegular (reading_of command)
 regular (check file) = (certificates_regular, λ c. tt)
@@ -214,6 +227,7 @@ regular (run file) = (
     ),
   ),
 )
+regular (generate n seed) = tt
 
 -- an answer on a certificate has one text
 pub one_text : (command : Command) → IsOfCertificate command → AtEnd (reading_of command) HasOneText
@@ -223,3 +237,4 @@ one_text (check_network file topology) is = λ bytes c spells rows n makes.
 one_text (convert file) is = λ bytes c spells. conversion_text c
 one_text (publish file) is = absurd is
 one_text (run file) is = absurd is
+one_text (generate n seed) is = absurd is

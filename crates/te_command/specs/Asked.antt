@@ -1,7 +1,7 @@
 -- The command that was read from the words.
 use Rattle.te_command.specs.declared.words.Command.{Command as Asked}
 use Rattle.te_command.specs.declared.words.Command.TheVariants as asked
-use Rattle.te_command.specs.Commands.{Command, check, check_network, convert, publish, run}
+use Rattle.te_command.specs.Commands.{Command, check, check_network, convert, publish, run, generate}
 
 abbrev pub meant : Asked → Command
 meant (asked.Check c) = check c.certificate.now
@@ -9,3 +9,4 @@ meant (asked.CheckNetwork c) = check_network c.certificate.now c.topology.now
 meant (asked.Convert c) = convert c.certificate.now
 meant (asked.Publish c) = publish c.plan.now
 meant (asked.Run c) = run c.plan.now
+meant (asked.Generate c) = generate c.nodes c.seed

@@ -1,5 +1,6 @@
 -- The commands of the program: the words that ask for them, and the table of what each reads and answers.
 use Rattle.std.specs.Prelude.{ℕ, List, [], ◌∷◌, codes, if◌then◌else◌, Option, Some, None}
+use Rattle.std.specs.Option.{option_map}
 use Rattle.std.specs.Str.{bytes_eq}
 use Rattle.te_model.specs.declared.certificate.Certificate.{Certificate}
 use Rattle.te_model.specs.declared.network.Network.{Network}
@@ -15,17 +16,19 @@ use Rattle.te_command.specs.FailureFile.{failure_files}
 use Rattle.te_command.specs.PlanFile.{plans}
 use Rattle.te_command.specs.Check.{verdict_on, network_verdict_on}
 use Rattle.te_command.specs.Convert.{conversion_of}
+use Rattle.te_command.specs.Generate.{drawn_of, summary_of}
 use Rattle.te_command.specs.Publish.{publication_of}
 use Rattle.te_command.specs.Report.{report_of}
 
 -- what is asked for: of `check` and `convert`, the name of the certificate, and of `check` that of the topology where one is
--- given; of `publish` and `run`, the name of the plan
+-- given; of `publish` and `run`, the name of the plan; of `gen`, the number of nodes and the seed
 pub data Command : Type 0 where
   check : List ℕ → Command
   check_network : List ℕ → List ℕ → Command
   convert : List ℕ → Command
   publish : List ℕ → Command
   run : List ℕ → Command
+  generate : ℕ → ℕ → Command
 
 -- the command of the words, where they are one of the forms
 abbrev pub command_of : List (List ℕ) → Option Command
@@ -37,7 +40,10 @@ command_of (word ∷ file ∷ []) =
     else if bytes_eq word (codes "publish") then Some (publish file)
     else if bytes_eq word (codes "run") then Some (run file)
     else None
-command_of (word ∷ file ∷ next ∷ []) = if bytes_eq word (codes "check") then Some (check_network file next) else None
+command_of (word ∷ file ∷ next ∷ []) =
+    if bytes_eq word (codes "check") then Some (check_network file next)
+    else if bytes_eq word (codes "gen") then option_map (λ drawn. generate drawn.0 drawn.1) (drawn_of file next)
+    else None
 command_of (word ∷ file ∷ next ∷ more ∷ words) = None
 
 -- a plan is read, then its topology and its matrices
@@ -60,3 +66,4 @@ reading_of (convert certificate) = reads Certificate certificates certificate (�
 reading_of (publish plan) = with_plan plan (λ named network series. answers (publication_of named network series))
 reading_of (run plan) =
     with_plan plan (λ named network series. with_failures network series named.failures (λ failures. answers (report_of named network series failures)))
+reading_of (generate nodes seed) = answers (summary_of nodes seed)

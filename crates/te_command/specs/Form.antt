@@ -7,7 +7,7 @@ use Rattle.te_command.specs.Files.{told}
 use Rattle.te_command.specs.Reading.{Means}
 use Rattle.te_command.specs.CertificateFile.{certificates}
 use Rattle.te_command.specs.Check.{IsProof, yes_line}
-use Rattle.te_command.specs.Commands.{Command, check, check_network, convert, publish, run, reading_of}
+use Rattle.te_command.specs.Commands.{Command, check, check_network, convert, publish, run, generate, reading_of}
 
 -- a file to which `check` says yes: it is not too long, proves a ratio, and under any name its answer is the line of that yes
 pub record IsAnsweredYes (bytes : List ℕ) : Type 0 where
@@ -28,13 +28,14 @@ pub record IsConverted (bytes : List ℕ) : Type 0 where
   pub answer : (file : List ℕ) → Means (reading_of (convert file)) (told (λ name. Some bytes)) 0 bytes
 
 -- `check` says yes or no, `convert` writes a file of the second format, `publish` writes a file to which `check` says yes, or names
--- a pair without a path, and `run` writes a report
+-- a pair without a path, `run` writes a report, and `gen` a summary
 abbrev pub IsAnswer : Command → ℕ → List ℕ → Type 0
 IsAnswer (check certificate) status text = status ≤ 1
 IsAnswer (check_network certificate topology) status text = status ≤ 1
 IsAnswer (convert certificate) status text = (status ≡ 0) × IsConverted text
 IsAnswer (publish plan) status text = ((status ≡ 0) × IsAnsweredYes text) ⊎ (status ≡ 7)
 IsAnswer (run plan) status text = status ≡ 0
+IsAnswer (generate nodes seed) status text = status ≡ 0
 
 -- the command is of a certificate, and then told files mean one text
 abbrev pub IsOfCertificate : Command → Type 0
@@ -43,3 +44,4 @@ IsOfCertificate (check_network certificate topology) = Unit {0}
 IsOfCertificate (convert certificate) = Unit {0}
 IsOfCertificate (publish plan) = ⊥
 IsOfCertificate (run plan) = ⊥
+IsOfCertificate (generate nodes seed) = ⊥

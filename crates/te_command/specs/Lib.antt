@@ -10,6 +10,7 @@ pub mod PlanFile
 pub mod Refusals
 pub mod Check
 pub mod Convert
+pub mod Generate
 pub mod Publish
 pub mod Report
 pub mod Commands

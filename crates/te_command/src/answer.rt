@@ -6,7 +6,7 @@ use te_model::Memory;
 /// The answer of a command whose files were read and are not refused, with its text.
 #[derive(Drop)]
 pub enum Answer {
-    /// What was asked for: a yes, the file that is published or converted, or the report.
+    /// What was asked for: a yes, the file that is published or converted, the report, or the summary.
     Done(Vec<u8>),
     /// No, and the line that says so.
     No(Vec<u8>),

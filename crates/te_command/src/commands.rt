@@ -2,11 +2,13 @@
 mod check;
 mod check_network;
 mod convert;
+mod generate;
 mod publish;
 mod run_plan;
 
 pub use check::Check;
 pub use check_network::CheckNetwork;
 pub use convert::Convert;
+pub use generate::{Generate, generate_of};
 pub use publish::Publish;
 pub use run_plan::RunPlan;

@@ -6,7 +6,7 @@ ghost use Rattle.te_command.specs.Asked.{meant};
 
 use crate::answer::{Answer, Fault};
 use crate::ask::Ask;
-use crate::commands::{Check, CheckNetwork, Convert, Publish, RunPlan};
+use crate::commands::{Check, CheckNetwork, Convert, Generate, Publish, RunPlan, generate_of};
 use std::alloc::Global;
 use te_ports::Depot;
 
@@ -18,6 +18,7 @@ pub enum Command<'a> {
     Convert(Convert<'a>),
     Publish(Publish<'a>),
     Run(RunPlan<'a>),
+    Generate(Generate),
 }
 
 impl<'a> Ask for Command<'a> {
@@ -32,6 +33,7 @@ impl<'a> Ask for Command<'a> {
             Command::Convert(command) => command.answer(alloc, depot),
             Command::Publish(command) => command.answer(alloc, depot),
             Command::Run(command) => command.answer(alloc, depot),
+            Command::Generate(command) => command.answer(alloc, depot),
         }
     }
 }
@@ -58,6 +60,10 @@ pub fn command_of(words: &[String]) -> Option<Command<'_>>
                 certificate: certificate.as_str(),
                 topology: topology.as_str(),
             }))
+        }
+        [word, nodes, seed] if word.as_str() == "gen" => {
+            let command = generate_of(nodes.as_str(), seed.as_str())?;
+            Some(Command::Generate(command))
         }
         _ => None,
     }

@@ -1,0 +1,151 @@
+//! The laboratory on the backbone, 11 nodes and 14 fibres, with matrices that are drawn.
+use crate::call::written_over;
+use rand::RngExt;
+use rand_chacha::ChaCha8Rng;
+use rand_core::SeedableRng;
+use routing::Routing;
+use std::alloc::Global;
+use std::process::Abort;
+use std::test::Fail;
+use te_model::Network;
+use te_ports::MemSink;
+use traffic_matrix::{gravity, print};
+
+/// The fibres, each as two links.
+const NETWORK: &str = "source,target,capacity,cost
+sea,sfo,100000,9
+sfo,sea,100000,9
+sea,den,100000,20
+den,sea,100000,20
+sfo,lax,100000,4
+lax,sfo,100000,4
+sfo,den,100000,16
+den,sfo,100000,16
+lax,hou,100000,19
+hou,lax,100000,19
+den,kan,100000,7
+kan,den,100000,7
+kan,hou,100000,9
+hou,kan,100000,9
+kan,ind,100000,6
+ind,kan,100000,6
+hou,atl,100000,12
+atl,hou,100000,12
+ind,chi,100000,3
+chi,ind,100000,3
+ind,atl,25000,7
+atl,ind,25000,7
+chi,nyc,100000,10
+nyc,chi,100000,10
+atl,was,100000,8
+was,atl,100000,8
+nyc,was,100000,3
+was,nyc,100000,3
+";
+
+const PLAN: &str =
+    "{\"topology\":\"net.csv\",\"matrices\":\"tm.csv\",\"schemes\":[\"spf\",\"ecmp\",\"ksp\",\"mcf\",\"racke\",\"smore\"],\"publish\":\"racke\",\"k\":4,\"budget\":4,\"trees\":8,\"seed\":7}";
+
+const BEST: &str = "{\"topology\":\"net.csv\",\"matrices\":\"tm.csv\",\"schemes\":[\"mcf\"]}";
+
+/// What the command writes of a plan on the backbone and these matrices.
+fn on_backbone<'a>(
+    rt: &impl Abort,
+    alloc: Global,
+    command: &str,
+    plan: &'a str,
+    matrices: &'a [u8],
+) -> Result<MemSink, Fail> {
+    let files = [
+        ("plan.json", plan.as_bytes()),
+        ("net.csv", NETWORK.as_bytes()),
+        ("tm.csv", matrices),
+    ];
+    written_over(rt, alloc, &[command, "plan.json"], &files)
+}
+
+/// The matrices that are published for: those of the gravity model of seed 7, in 24 steps.
+fn gravity_matrices(alloc: Global) -> Result<Vec<u8>, Fail> {
+    let network = topology::read(alloc, NETWORK.as_bytes())?;
+    let series = gravity(alloc, &network, 7, 24)?;
+    Ok(print(alloc, &network, &series)?)
+}
+
+#[test]
+fn backbone_is_published_and_compared(rt: HostRuntime) -> Result<(), Fail> {
+    let alloc = rt.alloc();
+    let matrices = gravity_matrices(alloc)?;
+    let file = on_backbone(&rt, alloc, "publish", PLAN, &matrices)?;
+    let ratio = cert_text::read(alloc, file.bytes())?.head.ratio;
+    let answer = written_over(&rt, alloc, &["check", "c"], &[("c", file.bytes())])?;
+    let line = format!(in alloc; "yes ratio {ratio} set all\n")?;
+    assert_eq!(rt; answer.bytes(), line.as_bytes());
+    let report = on_backbone(&rt, alloc, "run", PLAN, &matrices)?;
+    let lines = report.bytes().iter().filter(|byte| **byte == b'\n').count();
+    assert_eq!(rt; lines, 151);
+    Ok(())
+}
+
+/// Twenty matrices, each demand from 0 to 10000.
+fn drawn_matrices(alloc: Global, network: &Network) -> Result<String, Fail> {
+    let names = network.names.as_slice();
+    let mut rng = ChaCha8Rng::seed_from_u64(7);
+    let mut text = "step,source,target,demand\n".to_string(alloc)?;
+    for step in 0..20 {
+        for source in names {
+            for target in names {
+                if source != target {
+                    let (source, target) = (source.as_str(), target.as_str());
+                    let demand = rng.random_range(0..=10_000u32);
+                    text.push_str(&format!(in alloc; "{step},{source},{target},{demand}\n")?)?;
+                }
+            }
+        }
+    }
+    Ok(text)
+}
+
+/// The column `parts` of a report.
+fn parts_in(rt: &impl Abort, alloc: Global, report: &[u8]) -> Result<Vec<u64>, Fail> {
+    let mut list = Vec::new(alloc);
+    for line in str::from_utf8(report)?.lines().skip(1) {
+        let parts = line.split(',').nth(8).expect(rt, "ten columns");
+        list.push(parts.parse::<u64>()?)?;
+    }
+    Ok(list)
+}
+
+/// The routing of a certificate, and its ratio.
+fn routing_in(alloc: Global, file: &[u8]) -> Result<(Routing, u64), Fail> {
+    let head = cert_text::read(alloc, file)?.head;
+    let routing = Routing {
+        routes: head.routes,
+    };
+    Ok((routing, head.ratio))
+}
+
+#[tactic(auto, using(crate::proofs::Drawn::step_demands))]
+#[test]
+fn drawn_matrices_keep_the_ratio(rt: HostRuntime) -> Result<(), Fail> {
+    let alloc = rt.alloc();
+    let gravity = gravity_matrices(alloc)?;
+    let file = on_backbone(&rt, alloc, "publish", PLAN, &gravity)?;
+    let (routing, ratio) = routing_in(alloc, file.bytes())?;
+    let network = topology::read(alloc, NETWORK.as_bytes())?;
+    let drawn = drawn_matrices(alloc, &network)?;
+    let report = on_backbone(&rt, alloc, "run", BEST, drawn.as_bytes())?;
+    let best = parts_in(&rt, alloc, report.bytes())?;
+    let series = traffic_matrix::read(alloc, &network, drawn.as_bytes())?;
+    let steps = series.steps.as_slice();
+    assert_eq!(rt; routing.routes.as_slice().len(), 110);
+    assert_eq!(rt; series.pairs.list.as_slice().len(), 110);
+    assert_eq!(rt; steps.len(), 20);
+    // The last line is that of the totals.
+    assert_eq!(rt; best.len(), 21);
+    for step in 0..steps.len() {
+        let bound = u128::from(ratio) * u128::from(best[step]);
+        let most = routing.parts(&network, &steps[step]);
+        assert!(rt; most <= bound.div_ceil(1_000_000));
+    }
+    Ok(())
+}

@@ -1,0 +1,26 @@
+-- What `gen` answers: the summary of the network that the seed draws. No file is read.
+use Rattle.std.specs.Prelude.{◌≡◌, ℕ, ◌^◌, List, Option, Some, None, ◌&&◌, nat_le, nat_lt, bytes_eq, decimal, if◌then◌else◌}
+use Rattle.std.specs.Str.Parse.{digits_value}
+use Rattle.generation.specs.Summary.{IsSummary, ProvesRatio}
+use Rattle.te_command.specs.Reading.{Answers}
+
+-- the number of which the word is the decimal, where it is below 2^64
+abbrev pub number_of : List ℕ → Option ℕ
+number_of word = if nat_lt (digits_value 10 word) (2 ^ 64) && bytes_eq (decimal (digits_value 10 word)) word then Some (digits_value 10 word) else None
+
+-- 2 to 64 nodes, and a seed
+abbrev pub nodes_and_seed : Option ℕ → Option ℕ → Option (ℕ × ℕ)
+nodes_and_seed None seed = None
+nodes_and_seed (Some n) None = None
+nodes_and_seed (Some n) (Some s) = if nat_le 2 n && nat_le n 64 then Some (n, s) else None
+
+abbrev pub drawn_of : List ℕ → List ℕ → Option (ℕ × ℕ)
+drawn_of nodes seed = nodes_and_seed (number_of nodes) (number_of seed)
+
+-- its ratio is proved
+abbrev pub summary_of : ℕ → ℕ → Answers
+summary_of n seed = record {
+  status = λ status. status ≡ 0;
+  text = λ status text. (status ≡ 0) × IsSummary n seed text;
+  proves = ProvesRatio n seed;
+}

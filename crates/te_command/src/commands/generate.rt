@@ -1,0 +1,57 @@
+//! `gen NODES SEED`: the summary of a network that is drawn from a seed.
+ghost use Rattle.std.specs.Prelude.{◌≡◌, ◌≤◌};
+ghost use Rattle.std.specs.Option.{option_map};
+ghost use Rattle.te_command.specs.Generate.{drawn_of, number_of};
+
+use crate::answer::{Answer, Fault};
+use crate::ask::Ask;
+use generation::summary;
+use std::alloc::Global;
+use te_ports::Depot;
+
+/// `gen NODES SEED`, of 2 to 64 nodes. No file belongs to it.
+#[derive(Clone, Copy, Debug)]
+pub struct Generate {
+    pub nodes: u32,
+    pub seed: u64,
+    ghost some: { 2 ≤ nodes },
+    ghost few: { nodes ≤ 64 },
+}
+
+impl Ask for Generate {
+    ghost use Rattle.te_command.specs.Commands.{reading_of, generate};
+
+    ghost reading = { λ c. reading_of (generate c.nodes c.seed) };
+
+    fn answer<D: Depot>(&self, alloc: Global, _depot: &mut D) -> Result<Answer, Fault> {
+        let text = summary(alloc, self.nodes, self.seed)?;
+        Ok(Answer::Done(text))
+    }
+}
+
+// The number of which the word is the decimal, where it is below 2^64.
+fn number(word: &str) -> Option<u64>
+    ensures { result ≡ number_of word.now }
+{
+    let number = word.parse::<u64>().ok()?;
+    if itoa::Buffer::new().format(number) == word {
+        Some(number)
+    } else {
+        None
+    }
+}
+
+/// What is drawn, where the words are the decimals of a number of nodes and of a seed.
+pub fn generate_of(nodes: &str, seed: &str) -> Option<Generate>
+    ensures { option_map (λ g. (g.nodes, g.seed)) result ≡ drawn_of nodes.now seed.now }
+{
+    let nodes = number(nodes)?;
+    let seed = number(seed)?;
+    if !(2..=64).contains(&nodes) {
+        return None;
+    }
+    Some(Generate {
+        nodes: nodes as u32,
+        seed,
+    })
+}
