@@ -3,8 +3,7 @@ use Rattle.std.proofs.Common.{◌≡◌, zero, suc, List, [], ◌∷◌, arith, 
 use Rattle.te_model.specs.declared.network.Network.{Network}
 use Rattle.te_model.specs.declared.route.Pair.{Pair}
 use Rattle.scheme.specs.Reach.{AllReached}
-use Rattle.multiplicative_lengths.specs.Samples.{two_parallel_links}
-use Rattle.mcf_lengths.specs.Samples.{one_pair}
+use Rattle.mcf_lengths.specs.Samples.{one_pair, two_parallel_links}
 
 reached : AllReached two_parallel_links one_pair
 reached zero below = (0 ∷ [], omega arith, refl)

@@ -1,7 +1,6 @@
 ghost use Rattle.std.specs.Prelude.{◌≡◌, ◌∷◌, [], IfOk};
 ghost use Rattle.mcf_lengths.specs.Rounds.{AreRounds, IsRoundsRouting};
-ghost use Rattle.mcf_lengths.specs.Samples.{one_pair};
-ghost use Rattle.multiplicative_lengths.specs.Samples.{link, two_parallel_links};
+ghost use Rattle.mcf_lengths.specs.Samples.{link, one_pair, two_parallel_links};
 
 use super::*;
 use crate::round::FlowRound;

@@ -2,5 +2,4 @@ pub mod EachLink
 pub mod LengthLimits
 pub mod Multiplying
 pub mod Rounds
-mod Putting
 pub mod Loading

@@ -1,4 +1,3 @@
 pub mod Growth
 pub mod Limits
 pub mod Loads
-pub mod Samples

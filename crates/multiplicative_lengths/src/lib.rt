@@ -16,6 +16,3 @@ mod loads;
 pub use growth::{greatest_usage, grow};
 pub use lengths::{first_multipliers, lengths_of};
 pub use loads::add_along;
-
-#[cfg(test)]
-mod tests;

@@ -5,7 +5,7 @@ use routing::*;
 use sample_networks::{matrix, network, weighted_paths, weighted_routes};
 use std::alloc::{AllocError, Global};
 use std::test::Fail;
-use te_model::{Items, Matrix, Memory, Network, Pair, Path, PathShare};
+use te_model::{Items, Memory, Network, Pair, Path, PathShare};
 
 /// The nodes s, t and x: a straight link from s to t, a way over x, and a link from x back to s.
 fn three_nodes(alloc: Global) -> Result<Network, AllocError>

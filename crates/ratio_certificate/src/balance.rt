@@ -23,7 +23,7 @@ fn asked(share: u64, b: u64) -> u64
 }
 
 /// Whether what is added is taken back between the bounds of the set.
-#[tactic(auto, using(crate::proofs::Balances::bound_term))]
+#[tactic(auto, using(te_model::proofs::Sizes::bound_term))]
 fn balances(set: &DemandSet, shares: &[u64], distances: &[u64], b: u64) -> bool
     requires numbers { AreScalable set.now shares.now distances.now }
     requires b { b ≤ 2 ^ 36 }

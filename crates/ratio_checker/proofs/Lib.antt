@@ -1,7 +1,7 @@
 pub mod Ascending
 pub mod WeightOn
 pub mod RowFailures
-pub mod AddedWeights
+pub mod NoWeights
 pub mod SourceRows
 pub mod UncoveredLinks
 pub mod ShareTables

@@ -25,6 +25,3 @@ pays_by_quotient x y q r enough least =
       λ h. let suffices : x ≤ r * y = omega arith in le-leb q r (least r suffices),
     )
     (leb-true x (y * r), le-leb x (y * r))
-
-pub bound_term : (d n : ℕ) → d ≤ 2 ^ 52 → n ≤ 2 ^ 36 → d * n ≤ 2 ^ 88
-bound_term d n hd hn = omega (arith, mul-le d n (2 ^ 52) (2 ^ 36) hd hn)

@@ -8,7 +8,7 @@ ghost use Rattle.te_model.specs.Bounds.{HasSmallNumbers};
 use te_model::{Block, DemandSet, number_at};
 
 // What is added is taken back, pair by pair between the bounds of the set.
-#[tactic(auto, using(crate::proofs::Sizes::bound_term))]
+#[tactic(auto, using(te_model::proofs::Sizes::bound_term))]
 pub fn keeps_bounds(set: &DemandSet, pairs: usize, block: &Block) -> bool
     requires pairs { pairs ≤ FORMAT_2.pairs }
     requires lower { (p : ℕ) → lower_of set.now p ≤ 2 ^ 52 }

@@ -81,7 +81,7 @@ goes_on-is net marks s t (h ∷ hs) =
     shuffle true new true true later true out rest e = e
     shuffle true new true true later false out rest e = e
 
-nodes_visited-is : (net : Network) (s : ℕ) (hs : List ℕ) → nodes_visited net s hs ≡ s ∷ heads net hs
+pub nodes_visited-is : (net : Network) (s : ℕ) (hs : List ℕ) → nodes_visited net s hs ≡ s ∷ heads net hs
 nodes_visited-is net s [] = refl
 nodes_visited-is net s (h ∷ hs) = ap (λ l. s ∷ l) (nodes_visited-is net (head_of net h) hs)
 

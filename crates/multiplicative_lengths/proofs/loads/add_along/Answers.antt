@@ -1,7 +1,6 @@
 use Rattle.std.proofs.Common.{◌<◌, slice_index, length, arith}
 use Rattle.std.proofs.lemmas.List.Elements.{All-get_or}
-use Rattle.te_model.proofs.Amounts.{amount_on-next}
-use Rattle.multiplicative_lengths.proofs.Putting.{put_step}
+use Rattle.te_model.proofs.Amounts.{amount_on-next, amount_step}
 use Rattle.multiplicative_lengths.proofs.loads.add_along.Goals as goal
 
 pub overflow_add-loads : goal.overflow_add-loads
@@ -16,5 +15,5 @@ loop-h-preserved c e =
     let path = c.args.links.now in
     let i = c.loop-h.h-index in
     let inside = All-get_or (λ h. h < length c.args.loads.now) path i 0 c.loop-h-test.true c.requires.links in
-    put_step c.args.loads.now c.loop-h.loads path c.args.amount i e (c.loop-h.invariant e) c.requires.distinct c.loop-h-test.true
+    amount_step c.args.loads.now c.loop-h.loads path c.args.amount i e (c.loop-h.invariant e) c.requires.distinct c.loop-h-test.true
     (omega (arith, inside, c.loop-h.auto.loads))

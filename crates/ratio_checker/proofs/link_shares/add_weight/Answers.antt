@@ -1,7 +1,6 @@
 use Rattle.std.proofs.Common.{◌<◌, slice_index, length, arith}
 use Rattle.std.proofs.lemmas.List.Elements.{All-get_or}
-use Rattle.te_model.proofs.Amounts.{amount_on-next}
-use Rattle.ratio_checker.proofs.AddedWeights.{add_step}
+use Rattle.te_model.proofs.Amounts.{amount_on-next, amount_step}
 use Rattle.ratio_checker.proofs.link_shares.add_weight.Goals as goal
 
 pub overflow_add-shares : goal.overflow_add-shares
@@ -21,5 +20,5 @@ loop-h-preserved c h =
     let links = c.args.links.now in
     let i = c.loop-h.h-index in
     let inside = All-get_or (λ e. e < length c.args.shares.now) links i 0 c.loop-h-test.true c.requires.within in
-    add_step c.args.shares.now c.loop-h.shares links c.args.weight i h (c.loop-h.invariant h) c.requires.once c.loop-h-test.true
+    amount_step c.args.shares.now c.loop-h.shares links c.args.weight i h (c.loop-h.invariant h) c.requires.once c.loop-h-test.true
     (omega (arith, inside, c.loop-h.auto.shares))
