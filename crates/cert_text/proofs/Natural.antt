@@ -9,7 +9,7 @@ use Rattle.te_model.specs.declared.limits.Limits.{Limits}
 use Rattle.te_model.specs.Formats.{limits_of}
 use Rattle.cert_text.specs.declared.limits.Counts.{Counts}
 use Rattle.cert_text.specs.Place.{Place, ◌>>=◌}
-use Rattle.cert_text.specs.Reading.{kept, byte_at, word_at, line_end_at, number_at, narrow_at, next_number_at, next_narrow_at, next_count_at, many_at}
+use Rattle.cert_text.specs.Reading.{kept, byte_at, line_end_at, number_at, narrow_at, next_number_at, next_narrow_at, next_count_at, many_at}
 use Rattle.cert_text.specs.Grammar.{counted_at, link_line_at, network_at, path_at, pair_at, routes_at, set_at, ratio_at, head_at, number_line_at, row_at, sides_at, block_at, format_at, opening_at, closing_at, certificate_at, counts_of, name_line_at}
 use Rattle.cert_text.specs.Kept.{keep_link, keep_network, keep_path, keep_pair, keep_head, keep_row, keep_block, keep_certificate}
 use Rattle.cert_text.proofs.Tokens.{exact}

@@ -296,10 +296,11 @@ opening_steady keep =
     (λ format. then_steady (head_at (limits_of format) keep) (λ head p. counted_at (codes "blocks ") 0 (limits_of format).links p >>= λ n. Ok ((head, n.0), n.1)) (head_steady (limits_of format) (room_of format) keep)
     (λ head. then_steady (counted_at (codes "blocks ") 0 (limits_of format).links) (λ n p. Ok ((head, n), p)) (counted_steady (codes "blocks ") 0 (limits_of format).links refl (none_within (limits_of format).links) (omega arith)) (λ n. done_steady ((head, n)))))
 
-abbrev last : Place → Result Place ℕ
+-- a place at which the bytes end
+abbrev pub last : Place → Result Place ℕ
 last e = cond (eqb (length e.rest) 0) (Ok e) (Err e.line)
 
-regroup_three : (r : Result Place ℕ) (f g : Place → Result Place ℕ) → (r >>= λ a. f a >>= silent g) ≡ ((r >>= λ a. f a >>= g) >>= quiet)
+pub regroup_three : (r : Result Place ℕ) (f g : Place → Result Place ℕ) → (r >>= λ a. f a >>= silent g) ≡ ((r >>= λ a. f a >>= g) >>= quiet)
 regroup_three (Ok q) f g = regroup_silent (f q) g
 regroup_three (Err k) f g = refl
 

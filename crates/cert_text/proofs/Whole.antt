@@ -19,7 +19,7 @@ use Rattle.cert_text.specs.Grammar.{counted_at, listing_at, network_at, routes_a
 use Rattle.cert_text.specs.Fits.{IsWord, FitsList, FitsRow, FitsHead, FitsSides, FitsBlock, FitsFormat}
 use Rattle.cert_text.specs.Pieces.{spaced, counted_text, listing_text, network_text, row_text, routes_text, set_text, head_text, number_line, sides_text, block_text, format_text, opening_text, certificate_text}
 use Rattle.cert_text.proofs.Decimals.{bind_ok, where_ok, ok_is, number_again, begins_with_digit}
-use Rattle.cert_text.proofs.Tokens.{exact, word_takes, word_again, line_end_takes, line_end_again, Took, word_takes_number, narrow_takes, narrow_again, IsCount, next_number_takes, next_number_again, next_count_takes, next_count_again, many_takes, Again, many_again}
+use Rattle.cert_text.proofs.Tokens.{exact, word_takes, line_end_takes, line_end_again, Took, word_takes_number, narrow_takes, narrow_again, IsCount, next_number_takes, next_number_again, next_count_takes, next_count_again, many_takes, Again, many_again}
 use Rattle.cert_text.proofs.Productions.{HasRoom, room_of, count_word, spaced_stop, joined, regroup_four, counted_takes, counted_again, listing_takes, listing_again, network_takes, network_again, routes_takes, routes_again, set_takes, set_again, format_takes, format_again, ratio_takes, ratio_again, row_takes, row_again}
 
 first_line : (f : ℕ) (os r : List ℕ) → number_line (f ∷ os) ++ r ≡ decimal f ++ (flat_map spaced os ++ ((10 ∷ []) ++ r))

@@ -1,5 +1,5 @@
 //! Reading the lines of a certificate.
-ghost use Rattle.std.specs.Prelude.{◌≡◌, ◌+◌, ◌<◌, ◌≤◌, ◌^◌, ◌++◌, length, Ok, Err, if◌then◌else◌, ◌*◌, [], OnOk, IfOk, IfErr, slice_index, ◌==◌, string_bytes, true};
+ghost use Rattle.std.specs.Prelude.{◌≡◌, ◌≢◌, ◌+◌, ◌<◌, ◌≤◌, ◌^◌, ◌++◌, length, Ok, Err, if◌then◌else◌, ◌*◌, [], OnOk, IfOk, IfErr, slice_index, ◌==◌, string_bytes, true};
 ghost use Rattle.std.specs.Option.{SomeIff};
 ghost use Rattle.std.specs.List.{list_all};
 ghost use Rattle.te_model.specs.Network.{is_name_byte, is_name};
@@ -71,6 +71,7 @@ impl<C: Cursor> Reader<C> {
     pub fn byte(&mut self, wanted: u8) -> Result<(), Stop>
         ensures fewer { OnOk result
             (self.new.line + C.bound self.new.source < self.old.line + C.bound self.old.source) }
+        ensures room { result ≢ Err Stop.Memory }
         ensures told { C.is_told self.new.source → C.is_told self.old.source }
         ensures reads { C.is_told self.new.source →
             Passes result (place self.new.line (C.rest self.new.source))
@@ -87,6 +88,7 @@ impl<C: Cursor> Reader<C> {
 
     /// Takes these bytes.
     pub fn word(&mut self, wanted: &[u8]) -> Result<(), Stop>
+        ensures room { result ≢ Err Stop.Memory }
         ensures told { C.is_told self.new.source → C.is_told self.old.source }
         ensures reads { C.is_told self.new.source →
             Passes result (place self.new.line (C.rest self.new.source))
@@ -100,6 +102,7 @@ impl<C: Cursor> Reader<C> {
 
     /// Takes the line feed, after which the next line begins.
     pub fn end_line(&mut self) -> Result<(), Stop>
+        ensures room { result ≢ Err Stop.Memory }
         ensures told { C.is_told self.new.source → C.is_told self.old.source }
         ensures reads { C.is_told self.new.source →
             Passes result (place self.new.line (C.rest self.new.source))
@@ -113,6 +116,7 @@ impl<C: Cursor> Reader<C> {
     /// Takes a number in decimal, without a leading zero and below 2^64.
     #[tactic(auto, unfolding(crate::specs::Reading::number_at))]
     pub fn number(&mut self) -> Result<u64, Stop>
+        ensures room { result ≢ Err Stop.Memory }
         ensures told { C.is_told self.new.source → C.is_told self.old.source }
         ensures reads { C.is_told self.new.source →
             Reads result (place self.new.line (C.rest self.new.source))
@@ -143,6 +147,7 @@ impl<C: Cursor> Reader<C> {
     #[tactic(auto, unfolding(crate::specs::Reading::count_at))]
     pub fn count(&mut self, low: u64, high: u64) -> Result<u64, Stop>
         ensures fits { IfOk result (λ n. is_count low high n ≡ true) }
+        ensures room { result ≢ Err Stop.Memory }
         ensures told { C.is_told self.new.source → C.is_told self.old.source }
         ensures reads { C.is_told self.new.source →
             Reads result (place self.new.line (C.rest self.new.source))
@@ -159,6 +164,7 @@ impl<C: Cursor> Reader<C> {
     /// Takes a number, of which a field of 32 bits keeps the greatest that it can hold where it is greater.
     #[tactic(auto, unfolding(crate::specs::Reading::narrow_at))]
     pub fn narrow(&mut self) -> Result<u32, Stop>
+        ensures room { result ≢ Err Stop.Memory }
         ensures told { C.is_told self.new.source → C.is_told self.old.source }
         ensures reads { C.is_told self.new.source →
             Reads result (place self.new.line (C.rest self.new.source))
@@ -171,6 +177,7 @@ impl<C: Cursor> Reader<C> {
     /// Takes a space and a number.
     #[tactic(auto, unfolding(crate::specs::Reading::next_number_at))]
     pub fn next_number(&mut self) -> Result<u64, Stop>
+        ensures room { result ≢ Err Stop.Memory }
         ensures told { C.is_told self.new.source → C.is_told self.old.source }
         ensures reads { C.is_told self.new.source →
             Reads result (place self.new.line (C.rest self.new.source))
@@ -238,6 +245,7 @@ impl<C: Cursor> Reader<C> {
     /// Takes a space and a number of a field of 32 bits.
     #[tactic(auto, unfolding(crate::specs::Reading::next_narrow_at))]
     pub fn next_narrow(&mut self) -> Result<u32, Stop>
+        ensures room { result ≢ Err Stop.Memory }
         ensures told { C.is_told self.new.source → C.is_told self.old.source }
         ensures reads { C.is_told self.new.source →
             Reads result (place self.new.line (C.rest self.new.source))
@@ -251,6 +259,7 @@ impl<C: Cursor> Reader<C> {
     #[tactic(auto, unfolding(crate::specs::Reading::next_count_at))]
     pub fn next_count(&mut self, low: u64, high: u64) -> Result<u64, Stop>
         ensures fits { IfOk result (λ n. is_count low high n ≡ true) }
+        ensures room { result ≢ Err Stop.Memory }
         ensures told { C.is_told self.new.source → C.is_told self.old.source }
         ensures reads { C.is_told self.new.source →
             Reads result (place self.new.line (C.rest self.new.source))
@@ -273,6 +282,7 @@ impl<C: Cursor> Reader<C> {
 
     /// Passes where nothing is left.
     pub fn at_end(&mut self) -> Result<(), Stop>
+        ensures room { result ≢ Err Stop.Memory }
         ensures told { C.is_told self.new.source → C.is_told self.old.source }
         ensures reads { C.is_told self.new.source →
             Passes result (place self.new.line (C.rest self.new.source))
