@@ -1,17 +1,19 @@
 -- Which moves need not be tried, and what the tried ones say.
-use Rattle.std.proofs.Common.{◌≡◌, ℕ, ◌*◌, ◌<◌, ◌≤◌, false, List, slice_index, arith, ap, min, if◌then◌else◌}
+use Rattle.std.proofs.Common.{◌≡◌, inl, inr, ℕ, ◌*◌, ◌<◌, ◌≤◌, Bool, true, false, List, slice_index, arith, refl, ap, min, if◌then◌else◌}
+use Rattle.std.proofs.lemmas.Bool.{cases_lt}
 use Rattle.te_model.specs.declared.network.Network.{Network}
 use Rattle.te_model.specs.declared.route.PathShare.{PathShare}
 use Rattle.te_model.specs.Network.{capacity_of, link_count}
 use Rattle.te_model.specs.Path.{has_number}
+use Rattle.te_model.proofs.Conditionals.{if_false}
 use Rattle.routing.specs.Merge.{links_at}
-use Rattle.local_search.specs.Loads.{load_after}
+use Rattle.local_search.specs.Loads.{AreWithin, AreWithinOn, HasAbove, load_after}
 use Rattle.local_search.specs.Search.{Fits}
 
 -- a move off a path that does not hold the link takes nothing off it
 not_relieved : (load : ℕ) (from to : List ℕ) (amount e : ℕ) → has_number from e ≡ false → load ≤ load_after load from to amount e
 not_relieved load from to amount e none =
-    let loss : (if has_number from e then amount else 0) ≡ 0 = ap (λ b. if b then amount else 0) none in
+    let loss : (if has_number from e then amount else 0) ≡ 0 = if_false (has_number from e) amount none in
     omega (arith, loss)
 
 -- so where a link carries too much, no move fits but off paths that hold it
@@ -36,3 +38,22 @@ fits_other net loads times demand from candidates j size link fits inside above 
     ap (λ l. if has_number l link then amount else 0) same
     in
     omega (arith, fits.within link inside, above, gain)
+
+-- a link that is not on the path to which the amount goes carries no more than before
+not_burdened : (load : ℕ) (from to : List ℕ) (amount e : ℕ) → has_number to e ≡ false → load_after load from to amount e ≤ load
+not_burdened load from to amount e none =
+    let gain : (if has_number to e then amount else 0) ≡ 0 = if_false (has_number to e) amount none in
+    omega (arith, gain)
+
+-- so only the links that carry too much, and those of that path, have to be looked at
+pub within_from_on : (net : Network) (times : ℕ) (loads above from to : List ℕ) (amount : ℕ) → HasAbove net times (slice_index loads) above →
+    AreWithinOn net times (λ e. load_after (slice_index loads e) from to amount e) above → AreWithinOn net times (λ e. load_after (slice_index loads e) from to amount e) to →
+    AreWithin net times (λ e. load_after (slice_index loads e) from to amount e)
+within_from_on net times loads above from to amount has on_above on_to e below = go (has_number to e) refl
+  where
+    go : (b : Bool) → has_number to e ≡ b → load_after (slice_index loads e) from to amount e ≤ times * capacity_of net e
+    go true holds = on_to e below holds
+    go false none = elim (cases_lt (times * capacity_of net e) (slice_index loads e)) [
+      | inl over ↦ on_above e below (has e below over)
+      | inr within ↦ omega (arith, within, not_burdened (slice_index loads e) from to amount e none)
+    ]

@@ -1,19 +1,11 @@
 -- The routes after a move, written in their place.
-use Rattle.std.proofs.Common.{◌≡◌, ℕ, ◌<◌, ◌≤◌, true, ◌&&◌, List, length, arith, ap, sym, ◌∙◌, subst, min, All}
-use Rattle.std.specs.Prelude.{nat_le, ◌==◌}
-use Rattle.std.specs.List.{list_all}
+use Rattle.std.proofs.Common.{◌≡◌, ℕ, ◌<◌, List, length, arith, ap, sym, ◌∙◌, subst, min}
 use Rattle.std.proofs.Math.ListN.{set}
 use Rattle.std.proofs.Math.Seq.{map-set_same}
 use Rattle.std.proofs.lemmas.List.{get_or-set_same, get_or-set_other, length-set}
-use Rattle.std.proofs.lemmas.List.Elements.{All-get_or}
-use Rattle.std.proofs.lemmas.Bool.{and_parts, leb-true}
 use Rattle.te_model.specs.declared.route.PairRoutes.{PairRoutes}
-use Rattle.te_model.specs.declared.units.TheConstants.{SHARE_UNIT}
-use Rattle.te_model.specs.Validity.{paths_ascend}
-use Rattle.te_model.proofs.Tests.{all_from_tests}
 use Rattle.te_model.specs.Path.{no_routes, routes_at}
 use Rattle.routing.specs.Merge.{links_at, path_at}
-use Rattle.routing.specs.Split.{are_splits, is_split, total_weight}
 use Rattle.local_search.specs.Moves.{IsMoved, IsShift}
 
 -- another split of the pair in its place, where none stood for a while

@@ -1,5 +1,5 @@
 -- The greatest utilisation is at most g exactly where no link carries more than g times its capacity.
-use Rattle.std.proofs.Common.{inl, inr, ◌≡◌, ℕ, zero, suc, ◌-◌, ◌*◌, ◌^◌, ◌<◌, ◌≤◌, List, true, arith, ap}
+use Rattle.std.proofs.Common.{inl, inr, ◌≡◌, ℕ, ◌-◌, ◌*◌, ◌≤◌, List, true, arith}
 use Rattle.std.proofs.lemmas.Bool.{cases_lt}
 use Rattle.std.proofs.lemmas.Nat.{mul-le}
 use Rattle.te_model.specs.declared.network.Network.{Network}
@@ -9,7 +9,6 @@ use Rattle.te_model.specs.Network.{capacity_of, is_well_formed, link_count}
 use Rattle.te_model.proofs.WellFormed.{capacities_positive}
 use Rattle.routing.specs.Routes.{load_on}
 use Rattle.te_model.specs.Division.{quotient_up}
-use Rattle.te_model.specs.Counting.{greatest_below}
 use Rattle.routing.specs.Utilisation.{parts, parts_on}
 use Rattle.te_model.proofs.Quotients.{quotient_up-enough, quotient_up-least, below_greatest, greatest_below-least}
 use Rattle.local_search.specs.Loads.{AreWithin, IsPeakBelow}

@@ -1,18 +1,19 @@
 //! The search for a move that brings every link within so many times its capacity.
-ghost use Rattle.std.specs.Prelude.{◌≡◌, ◌↔◌, ◌*◌, ◌<◌, ◌≤◌, ◌^◌, ℕ, All, Contains, IfNone, IfSome, IsTrue, length, slice_index};
+ghost use Rattle.std.specs.Prelude.{◌≡◌, ◌↔◌, ◌*◌, ◌<◌, ◌≤◌, ◌^◌, ℕ, All, Contains, IfNone, IfOk, IfSome, IsTrue, length, slice_index};
 ghost use Rattle.te_model.specs.Network.{capacity_of, is_well_formed, link_count};
 ghost use Rattle.routing.specs.Routes.{AreDemands};
-ghost use Rattle.local_search.specs.Loads.{AreWithin, load_after};
+ghost use Rattle.local_search.specs.Loads.{AreWithin, AreWithinOn, HasAbove, load_after};
 ghost use Rattle.routing.specs.Merge.{path_at};
 ghost use Rattle.local_search.specs.Moves.{sizes};
 ghost use Rattle.local_search.specs.Search.{Fits, FitsAt, loads_moved};
 
 use crate::loads::load_after;
 use crate::step::{Aim, Move, SIZES, Target};
-use te_model::{Matrix, Network, PairRoutes, PathShare};
+use std::alloc::Global;
+use te_model::{Matrix, Memory, Network, PairRoutes, PathShare};
 
-/// Whether the link carries no more than `times` its capacity once the amount has gone from the
-/// links of one path to those of another.
+/// Whether the link, if the network has it, carries no more than `times` its capacity once the amount
+/// has gone from the links of one path to those of another.
 fn is_within(
     net: &Network,
     loads: &[u128],
@@ -26,21 +27,46 @@ fn is_within(
     requires count { length loads.now ≡ link_count net.now }
     requires small { All (λ x. x < 2 ^ 84) loads.now }
     requires times { times < 2 ^ 85 }
-    requires link { link < link_count net.now }
     requires amount { amount ≤ 2 ^ 64 }
-    ensures { IsTrue result ↔ (load_after (slice_index loads.now link) from.now to.now amount link ≤ times * capacity_of net.now link) }
+    ensures { IsTrue result ↔ (link < link_count net.now → load_after (slice_index loads.now link) from.now to.now amount link ≤ times * capacity_of net.now link) }
 {
-    let load = load_after(loads[link as usize], link, from, to, amount);
-    let capacity = net.links.as_slice()[link as usize].capacity;
-    load <= times * u128::from(capacity)
+    let h = link as usize;
+    if h >= loads.len() {
+        return true;
+    }
+    let load = load_after(loads[h], link, from, to, amount);
+    load <= times * u128::from(net.links.as_slice()[h].capacity)
 }
 
-/// Whether no link carries more than the aim allows once the amount has gone from the links of one
-/// path to those of another.
-fn are_within(
+/// The links that carry more than `times` their capacity. `Memory` comes where memory is wanting.
+pub fn links_above(
+    alloc: Global,
     net: &Network,
     loads: &[u128],
-    aim: Aim,
+    times: u128,
+) -> Result<Vec<u32>, Memory>
+    requires network { IsTrue (is_well_formed net.now) }
+    requires count { length loads.now ≡ link_count net.now }
+    requires times { times < 2 ^ 85 }
+    ensures { IfOk result (λ above. HasAbove net.now times (slice_index loads.now) above.items) }
+{
+    let links = net.links.as_slice();
+    let mut above = Vec::new(alloc);
+    for h in 0..links.len() {
+        if times * u128::from(links[h].capacity) < loads[h] {
+            above.push(h as u32)?;
+        }
+    }
+    Ok(above)
+}
+
+/// Whether none of these links, of those that the network has, carries more than `times` its capacity once the amount
+/// has gone from the links of one path to those of another.
+fn are_within_on(
+    net: &Network,
+    loads: &[u128],
+    times: u128,
+    links: &[u32],
     from: &[u32],
     to: &[u32],
     amount: u128,
@@ -48,28 +74,48 @@ fn are_within(
     requires network { IsTrue (is_well_formed net.now) }
     requires count { length loads.now ≡ link_count net.now }
     requires small { All (λ x. x < 2 ^ 84) loads.now }
-    requires times { aim.times < 2 ^ 85 }
-    requires link { aim.link < link_count net.now }
+    requires times { times < 2 ^ 85 }
     requires amount { amount ≤ 2 ^ 64 }
-    ensures { IsTrue result ↔ AreWithin net.now aim.times (λ e. load_after (slice_index loads.now e) from.now to.now amount e) }
+    ensures { IsTrue result ↔ AreWithinOn net.now times (λ e. load_after (slice_index loads.now e) from.now to.now amount e) links.now }
 {
-    // A small amount takes too little off the link of the aim, so this link is looked at first.
-    if !is_within(net, loads, aim.times, aim.link, from, to, amount) {
-        return false;
-    }
-    for h in 0..loads.len() {
-        if !is_within(net, loads, aim.times, h as u32, from, to, amount) {
+    for link in links {
+        if !is_within(net, loads, times, *link, from, to, amount) {
             return false;
         }
     }
     true
 }
 
+/// Whether no link carries more than the aim allows once the amount has gone from the links of one
+/// path to those of another. Only links that carry more now, and those of the other path, may.
+fn are_within(
+    net: &Network,
+    loads: &[u128],
+    aim: &Aim,
+    from: &[u32],
+    to: &[u32],
+    amount: u128,
+) -> bool
+    requires network { IsTrue (is_well_formed net.now) }
+    requires count { length loads.now ≡ link_count net.now }
+    requires small { All (λ x. x < 2 ^ 84) loads.now }
+    requires times { aim.now.times < 2 ^ 85 }
+    requires above { HasAbove net.now aim.now.times (slice_index loads.now) aim.now.above }
+    requires amount { amount ≤ 2 ^ 64 }
+    ensures { IsTrue result ↔ AreWithin net.now aim.now.times (λ e. load_after (slice_index loads.now e) from.now to.now amount e) }
+{
+    let above = aim.above.as_slice();
+    if !are_within_on(net, loads, aim.times, above, from, to, amount) {
+        return false;
+    }
+    are_within_on(net, loads, aim.times, to, from, to, amount)
+}
+
 /// The first size of a move from the path to these links that fits.
 fn fitting_size(
     net: &Network,
     loads: &[u128],
-    aim: Aim,
+    aim: &Aim,
     demand: u64,
     from: &PathShare,
     to: &[u32],
@@ -77,11 +123,11 @@ fn fitting_size(
     requires network { IsTrue (is_well_formed net.now) }
     requires count { length loads.now ≡ link_count net.now }
     requires small { All (λ x. x < 2 ^ 84) loads.now }
-    requires times { aim.times < 2 ^ 85 }
-    requires link { aim.link < link_count net.now }
+    requires times { aim.now.times < 2 ^ 85 }
+    requires above { HasAbove net.now aim.now.times (slice_index loads.now) aim.now.above }
     requires demand { demand ≤ 2 ^ 32 }
-    ensures some { IfSome result (λ size. Contains sizes size × AreWithin net.now aim.times (loads_moved loads.now demand from.now to.now size)) }
-    ensures none { IfNone result ((size : ℕ) → Contains sizes size → AreWithin net.now aim.times (loads_moved loads.now demand from.now to.now size) → ⊥) }
+    ensures some { IfSome result (λ size. Contains sizes size × AreWithin net.now aim.now.times (loads_moved loads.now demand from.now to.now size)) }
+    ensures none { IfNone result ((size : ℕ) → Contains sizes size → AreWithin net.now aim.now.times (loads_moved loads.now demand from.now to.now size) → ⊥) }
 {
     for size in SIZES {
         let amount = u128::from(demand) * u128::from(size.min(from.weight));
@@ -96,7 +142,7 @@ fn fitting_size(
 fn fitting_target(
     net: &Network,
     loads: &[u128],
-    aim: Aim,
+    aim: &Aim,
     demand: u64,
     from: &PathShare,
     candidates: &[PathShare],
@@ -104,11 +150,11 @@ fn fitting_target(
     requires network { IsTrue (is_well_formed net.now) }
     requires count { length loads.now ≡ link_count net.now }
     requires small { All (λ x. x < 2 ^ 84) loads.now }
-    requires times { aim.times < 2 ^ 85 }
-    requires link { aim.link < link_count net.now }
+    requires times { aim.now.times < 2 ^ 85 }
+    requires above { HasAbove net.now aim.now.times (slice_index loads.now) aim.now.above }
     requires demand { demand ≤ 2 ^ 32 }
-    ensures some { IfSome result (λ t. Fits net.now loads.now aim.times demand from.now candidates.now t.candidate t.size) }
-    ensures none { IfNone result ((j size : ℕ) → Fits net.now loads.now aim.times demand from.now candidates.now j size → ⊥) }
+    ensures some { IfSome result (λ t. Fits net.now loads.now aim.now.times demand from.now candidates.now t.candidate t.size) }
+    ensures none { IfNone result ((j size : ℕ) → Fits net.now loads.now aim.now.times demand from.now candidates.now j size → ⊥) }
 {
     for j in 0..candidates.len() {
         let to = candidates[j].links.as_slice();
@@ -124,7 +170,7 @@ fn fitting_target(
 fn fitting_path(
     net: &Network,
     loads: &[u128],
-    aim: Aim,
+    aim: &Aim,
     demand: u64,
     paths: &[PathShare],
     candidates: &[PathShare],
@@ -132,12 +178,13 @@ fn fitting_path(
     requires network { IsTrue (is_well_formed net.now) }
     requires count { length loads.now ≡ link_count net.now }
     requires small { All (λ x. x < 2 ^ 84) loads.now }
-    requires times { aim.times < 2 ^ 85 }
-    requires link { aim.link < link_count net.now }
-    requires above { aim.times * capacity_of net.now aim.link < slice_index loads.now aim.link }
+    requires times { aim.now.times < 2 ^ 85 }
+    requires above { HasAbove net.now aim.now.times (slice_index loads.now) aim.now.above }
+    requires link { aim.now.link < link_count net.now }
+    requires over { aim.now.times * capacity_of net.now aim.now.link < slice_index loads.now aim.now.link }
     requires demand { demand ≤ 2 ^ 32 }
-    ensures some { IfSome result (λ r. (r.0 < length paths.now) × Fits net.now loads.now aim.times demand (path_at paths.now r.0) candidates.now r.1.candidate r.1.size) }
-    ensures none { IfNone result ((k j size : ℕ) → k < length paths.now → Fits net.now loads.now aim.times demand (path_at paths.now k) candidates.now j size → ⊥) }
+    ensures some { IfSome result (λ r. (r.0 < length paths.now) × Fits net.now loads.now aim.now.times demand (path_at paths.now r.0) candidates.now r.1.candidate r.1.size) }
+    ensures none { IfNone result ((k j size : ℕ) → k < length paths.now → Fits net.now loads.now aim.now.times demand (path_at paths.now k) candidates.now j size → ⊥) }
 {
     for k in 0..paths.len() {
         let path = &paths[k];
@@ -155,20 +202,21 @@ pub fn fitting_move(
     net: &Network,
     matrix: &Matrix,
     loads: &[u128],
-    aim: Aim,
+    aim: &Aim,
     routes: &[PairRoutes],
     candidates: &[PairRoutes],
 ) -> Option<Move>
     requires network { IsTrue (is_well_formed net.now) }
     requires count { length loads.now ≡ link_count net.now }
     requires small { All (λ x. x < 2 ^ 84) loads.now }
-    requires times { aim.times < 2 ^ 85 }
-    requires link { aim.link < link_count net.now }
-    requires above { aim.times * capacity_of net.now aim.link < slice_index loads.now aim.link }
+    requires times { aim.now.times < 2 ^ 85 }
+    requires above { HasAbove net.now aim.now.times (slice_index loads.now) aim.now.above }
+    requires link { aim.now.link < link_count net.now }
+    requires over { aim.now.times * capacity_of net.now aim.now.link < slice_index loads.now aim.now.link }
     requires pairs { length candidates.now ≡ length routes.now }
     requires demands { AreDemands (length routes.now) matrix.now.demand }
-    ensures some { IfSome result (λ m. FitsAt net.now loads.now aim.times matrix.now.demand routes.now candidates.now m.pair m.from m.target.candidate m.target.size) }
-    ensures none { IfNone result ((p k j size : ℕ) → FitsAt net.now loads.now aim.times matrix.now.demand routes.now candidates.now p k j size → ⊥) }
+    ensures some { IfSome result (λ m. FitsAt net.now loads.now aim.now.times matrix.now.demand routes.now candidates.now m.pair m.from m.target.candidate m.target.size) }
+    ensures none { IfNone result ((p k j size : ℕ) → FitsAt net.now loads.now aim.now.times matrix.now.demand routes.now candidates.now p k j size → ⊥) }
 {
     for pair in 0..routes.len() {
         let demand = matrix.demand.as_slice()[pair];

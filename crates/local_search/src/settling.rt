@@ -12,7 +12,7 @@ ghost use Rattle.routing.specs.Utilisation.{parts};
 ghost use Rattle.local_search.specs.Moves.{CanMove, HaveFewTogether, Improves, IsMoved, IsStable, UsesOnly};
 
 use crate::greatest::peak_of;
-use crate::search::fitting_move;
+use crate::search::{fitting_move, links_above};
 use crate::shifting::{carry_move, take_move};
 use crate::step::{Aim, Move};
 use routing::Routing;
@@ -20,7 +20,7 @@ use std::alloc::Global;
 use te_model::{Items, Matrix, Memory, Network, PairRoutes};
 
 /// The greatest value that is an improvement on this one.
-fn improved(parts: u128) -> u128
+fn greatest_improvement(parts: u128) -> u128
     requires some { 1 ≤ parts }
     requires fits { parts ≤ 2 ^ 84 }
     ensures { (y : ℕ) → Improves parts y ↔ (y ≤ result) }
@@ -29,35 +29,38 @@ fn improved(parts: u128) -> u128
 }
 
 /// A move that lowers the greatest utilisation by a 1024th of it at least, and `None` exactly where
-/// there is none. `loads` has the load of each link.
+/// there is none. `loads` has the load of each link. `Memory` comes where memory is wanting.
 fn next_move(
+    alloc: Global,
     net: &Network,
     matrix: &Matrix,
     routes: &[PairRoutes],
     candidates: &[PairRoutes],
     loads: &[u128],
-) -> Option<Move>
+) -> Result<Option<Move>, Memory>
     requires network { IsTrue (is_well_formed net.now) }
     requires splits { IsTrue (are_splits routes.now) }
     requires few { length routes.now < 2 ^ 32 }
     requires pairs { length candidates.now ≡ length routes.now }
     requires demands { AreDemands (length routes.now) matrix.now.demand }
     requires loads { AreLoads net.now matrix.now.demand routes.now loads.now }
-    ensures place { IfSome result (λ m. m.target.candidate < length (routes_at candidates.now m.pair).paths) }
-    ensures some { IfSome result (λ m. CanMove routes.now candidates.now m.pair m.from (links_at (routes_at candidates.now m.pair).paths m.target.candidate) m.target.size) }
-    ensures improves { IfSome result (λ m. (moved : List PairRoutes) → IsMoved routes.now m.pair m.from (links_at (routes_at candidates.now m.pair).paths m.target.candidate) m.target.size moved → Improves (parts net.now routes.now matrix.now.demand) (parts net.now moved matrix.now.demand)) }
-    ensures none { IfNone result (IsStable net.now matrix.now.demand candidates.now routes.now) }
+    ensures place { IfOk result (λ o. IfSome o (λ m. m.target.candidate < length (routes_at candidates.now m.pair).paths)) }
+    ensures some { IfOk result (λ o. IfSome o (λ m. CanMove routes.now candidates.now m.pair m.from (links_at (routes_at candidates.now m.pair).paths m.target.candidate) m.target.size)) }
+    ensures improves { IfOk result (λ o. IfSome o (λ m. (moved : List PairRoutes) → IsMoved routes.now m.pair m.from (links_at (routes_at candidates.now m.pair).paths m.target.candidate) m.target.size moved → Improves (parts net.now routes.now matrix.now.demand) (parts net.now moved matrix.now.demand))) }
+    ensures none { IfOk result (λ o. IfNone o (IsStable net.now matrix.now.demand candidates.now routes.now)) }
 {
     let peak = peak_of(net, loads);
     if peak.parts == 0 {
-        return None;
+        return Ok(None);
     }
-    let times = improved(peak.parts);
+    let times = greatest_improvement(peak.parts);
+    let above = links_above(alloc, net, loads, times)?;
     let aim = Aim {
         link: peak.link,
         times,
+        above: Items::new(above),
     };
-    fitting_move(net, matrix, loads, aim, routes, candidates)
+    Ok(fitting_move(net, matrix, loads, &aim, routes, candidates))
 }
 
 /// The routing after moves of weight between the paths of single pairs, until no move helps any
@@ -90,7 +93,7 @@ pub fn settle(
     let mut loads = routing.loads(alloc, net, matrix)?;
     let mut routes = routing.routes.into_vec();
     let others = candidates.routes.as_slice();
-    while let Some(step) = next_move(net, matrix, &routes, others, &loads) {
+    while let Some(step) = next_move(alloc, net, matrix, &routes, others, &loads)? {
         carry_move(matrix, &routes, others, &mut loads, step);
         take_move(alloc, &mut routes, others, step)?;
     }

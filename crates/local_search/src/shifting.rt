@@ -32,7 +32,7 @@ fn take_off(paths: &mut Vec<PathShare>, from: usize, units: u64)
 /// The paths after a move of this size, or of the whole weight of the path where it is less.
 ///
 /// `Memory` comes where memory is wanting.
-fn shifted(
+fn paths_after(
     alloc: Global,
     mut paths: Vec<PathShare>,
     from: usize,
@@ -81,7 +81,7 @@ pub fn take_move(
         paths: Items::new(Vec::new(alloc)),
     };
     let old = mem::replace(&mut routes[step.pair], empty);
-    let paths = shifted(alloc, old.paths.into_vec(), step.from, to, step.target.size)?;
+    let paths = paths_after(alloc, old.paths.into_vec(), step.from, to, step.target.size)?;
     routes[step.pair] = PairRoutes {
         pair,
         paths: Items::new(paths),

@@ -1,5 +1,7 @@
 //! Moves of weight between two paths of a pair.
 
+use te_model::Items;
+
 /// How much a move takes at most, in millionths of the pair's demand: the greatest first, since fewer
 /// moves are needed then.
 pub const SIZES: [u64; 3] = [1_000_000, 100_000, 10_000];
@@ -22,9 +24,12 @@ pub struct Move {
     pub target: Target,
 }
 
-/// What a move is to reach: no link is to carry more than `times` its capacity, as `link` does.
-#[derive(Clone, Copy)]
+/// What a move is to reach: no link is to carry more than `times` its capacity.
+#[derive(Drop)]
 pub struct Aim {
+    /// A link that carries more.
     pub link: u32,
     pub times: u128,
+    /// Each link that carries more.
+    pub above: Items<u32>,
 }

@@ -18,14 +18,14 @@ loop-k-preserved c = λ k j size below fits. elim (cases_lt k c.loop-k.k) [
       let paths = c.args.paths.now in
       let candidates = c.args.candidates.now in
       let same : k ≡ c.loop-k.k = omega (arith, below, ge) in
-      let here = subst (λ n. Fits net loads c.args.aim.times c.args.demand (path_at paths n) candidates j size) same fits in
+      let here = subst (λ n. Fits net loads c.args.aim.now.times c.args.demand (path_at paths n) candidates j size) same fits in
       let read = get_or_read paths c.loop-k.k c.index-paths-k.result c.loop-k-test.true c.index-paths-k.is no_path in
       elim c.if-contains.branch [
         | then-contains+in_default w ↦
-            w.in_default.ensures.none j size (subst (λ (s : PathShare). Fits net loads c.args.aim.times c.args.demand s candidates j size) (sym read) here)
+            w.in_default.ensures.none j size (subst (λ (s : PathShare). Fits net loads c.args.aim.now.times c.args.demand s candidates j size) (sym read) here)
         | else-contains w ↦
-            let holds = c.contains.ensures.value ∙ ap (λ (l : List ℕ). has_number l c.args.aim.link) (c.as_slice.ensures ∙ ap (λ (s : PathShare). s.links) read) in
-            fits_not net loads c.args.aim.times c.args.demand (path_at paths c.loop-k.k) candidates j size c.args.aim.link here c.requires.link c.requires.above
+            let holds = c.contains.ensures.value ∙ ap (λ (l : List ℕ). has_number l c.args.aim.now.link) (c.as_slice.ensures ∙ ap (λ (s : PathShare). s.links) read) in
+            fits_not net loads c.args.aim.now.times c.args.demand (path_at paths c.loop-k.k) candidates j size c.args.aim.now.link here c.requires.link c.requires.over
             (sym holds ∙ w.if-contains.false)
       ]
 ]

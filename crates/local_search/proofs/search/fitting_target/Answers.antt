@@ -18,7 +18,7 @@ loop-j-preserved c = λ j size below fits. elim (cases_lt j c.loop-j.j) [
       ap (links_at candidates) here ∙ sym (c.as_slice-to.ensures ∙ ap (λ (s : PathShare). s.links) read)
       in
       c.in_default.ensures.none size fits.allowed
-      (subst (λ l. AreWithin c.args.net.now c.args.aim.times (loads_moved c.args.loads.now c.args.demand c.args.from.now l size)) to fits.within)
+      (subst (λ l. AreWithin c.args.net.now c.args.aim.now.times (loads_moved c.args.loads.now c.args.demand c.args.from.now l size)) to fits.within)
 ]
 
 pub returns-clause-none : goal.returns-clause-none

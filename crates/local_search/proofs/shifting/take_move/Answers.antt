@@ -6,13 +6,12 @@ use Rattle.te_model.specs.Path.{no_routes, routes_at}
 use Rattle.routing.specs.Merge.{links_at, no_path, path_at}
 use Rattle.local_search.specs.Moves.{IsShift}
 use Rattle.routing.specs.Split.{total_weight}
-use Rattle.routing.proofs.Splits.{whole_weight}
-use Rattle.routing.proofs.Splits.{positive_weights}
+use Rattle.routing.proofs.Splits.{positive_weights, whole_weight}
 use Rattle.local_search.proofs.Taking.{moved_by_set}
 use Rattle.local_search.proofs.shifting.take_move.Goals as goal
 
-pub shifted-requires-clause-positive : goal.shifted-requires-clause-positive
-shifted-requires-clause-positive c =
+pub paths_after-requires-clause-positive : goal.paths_after-requires-clause-positive
+paths_after-requires-clause-positive c =
     let routes = c.args.routes.now in
     let p = c.args.step.pair in
     let items : c.into_vec.result.items ≡ (routes_at routes p).paths =
@@ -21,8 +20,8 @@ shifted-requires-clause-positive c =
     in
     subst (All (λ (s : PathShare). 1 ≤ s.weight)) (sym items) (positive_weights routes p c.requires.splits c.requires.pair)
 
-pub shifted-requires-clause-whole : goal.shifted-requires-clause-whole
-shifted-requires-clause-whole c =
+pub paths_after-requires-clause-whole : goal.paths_after-requires-clause-whole
+paths_after-requires-clause-whole c =
     let routes = c.args.routes.now in
     let p = c.args.step.pair in
     let items : c.into_vec.result.items ≡ (routes_at routes p).paths =

@@ -8,7 +8,7 @@ use Rattle.routing.specs.Merge.{IsMerge, links_at, no_path, path_at}
 use Rattle.routing.specs.Split.{total_weight}
 use Rattle.local_search.specs.Moves.{IsShift}
 use Rattle.local_search.proofs.Shifts.{shift_from_merge}
-use Rattle.local_search.proofs.shifting.shifted.Goals as goal
+use Rattle.local_search.proofs.shifting.paths_after.Goals as goal
 
 pub merge-requires : goal.merge-requires
 merge-requires c =
