@@ -1,5 +1,6 @@
 pub mod Parts
 pub mod CostsTo
+pub mod HopsMade
 pub mod NodeSums
 pub mod Collecting
 pub mod Sharing

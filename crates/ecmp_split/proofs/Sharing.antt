@@ -267,22 +267,22 @@ last_waiting net sums s waiting rest x flow arrived counts list ends sharing spl
       old = omega (arith, far.arrived_is (head_of net x.link) head_in, far.few (head_of net x.link) head_in);
     }
 
-pub sharing_start : (net : Network) (sums : List (Option ℕ)) (s : ℕ) (list waiting : List NextLink) (counts : List ℕ) (n m : ℕ) → s < node_count net →
-    AreNextLinks net sums list counts → IsPermutation list waiting → IsNonDecreasingBy (λ x. x.cost) waiting → n ≡ node_count net → m ≡ link_count net →
+pub sharing_start : (net : Network) (sums : List (Option ℕ)) (s : ℕ) (waiting : List NextLink) (counts : List ℕ) (n m : ℕ) → s < node_count net →
+    AreNextLinks net sums waiting counts → IsNonDecreasingBy (λ x. x.cost) waiting → n ≡ node_count net → m ≡ link_count net →
     IsSharing net sums s waiting (replicate m 0) (set (replicate n 0) s SHARE_UNIT)
-sharing_start net sums s list waiting counts n m s_in are moved rises is_n is_m =
+sharing_start net sums s waiting counts n m s_in are rises is_n is_m =
     let none : (h : ℕ) → h < link_count net → slice_index (replicate m 0) h ≡ 0 = λ h inside. get_or-replicate m h 0 0 (omega (arith, is_m, inside)) in
     let nothing : (v : ℕ) → arriving net (slice_index (replicate m 0)) s v ≡ amount_at s SHARE_UNIT v =
     λ v. omega (arith, end_none net (slice_index (replicate m 0)) (head_of net) v (λ h inside to. none h inside))
     in
     record {
       shared = record {
-        each = All-permutation (IsNextLink net sums) list waiting moved are.each;
+        each = are.each;
         rises = rises;
         state = λ h inside. elim (cases_Bool (is_next net sums h)) [
-          | inl next ↦ inl (record { once = count h inside ∙ if_true (is_next net sums h) 1 next; none = none h inside })
+          | inl next ↦ inl (record { once = are.once h inside ∙ if_true (is_next net sums h) 1 next; none = none h inside })
           | inr misses ↦ inr (record {
-            gone = count h inside ∙ if_false (is_next net sums h) 1 misses;
+            gone = are.once h inside ∙ if_false (is_next net sums h) 1 misses;
             part = none h inside ∙ sym (next_part-none net sums (slice_index (replicate m 0)) s h misses);
             farther = λ d next at. absurd (false≢true (sym misses ∙ next));
           })
@@ -300,9 +300,16 @@ sharing_start net sums s list waiting counts n m s_in are moved rises is_n is_m 
       ];
       few = λ v inside. omega (arith, nothing v, if_le-self (s == v) SHARE_UNIT);
     }
-  where
-    count : (h : ℕ) → h < link_count net → times h waiting ≡ (if is_next net sums h then 1 else 0)
-    count h inside = sum_by-IsPermutation (λ (x : NextLink). if x.link == h then 1 else 0) list waiting moved ∙ are.once h inside
+
+-- the next links in another order
+pub links_moved : (net : Network) (sums : List (Option ℕ)) (list moved : List NextLink) (counts : List ℕ) → IsPermutation list moved →
+    AreNextLinks net sums list counts → AreNextLinks net sums moved counts
+links_moved net sums list moved counts order are = record {
+  each = All-permutation (IsNextLink net sums) list moved order are.each;
+  once = λ h inside. sum_by-IsPermutation (λ (x : NextLink). if x.link == h then 1 else 0) list moved order ∙ are.once h inside;
+  size = are.size;
+  counts_are = are.counts_are;
+}
 
 pub sharing_end : (net : Network) (sums : List (Option ℕ)) (s : ℕ) (waiting : List NextLink) (flow arrived : List ℕ) → IsSharing net sums s waiting flow arrived →
     waiting ≡ [] → (h : ℕ) → h < link_count net → slice_index flow h ≡ next_part net sums (slice_index flow) s h

@@ -1,11 +1,14 @@
 //! The demand of each pair follows the equal split of its flow.
 ghost use Rattle.std.specs.Prelude.{◌≡◌};
 ghost use Rattle.te_model.specs.declared.limits.TheConstants.{FORMAT_2};
+ghost use Rattle.ecmp_split.specs.Hops.{AreNextHops};
 ghost use Rattle.ecmp_split.specs.Rule.{IsMultipathSplit};
 
-use crate::splitting::split;
+use crate::hops::{NextHops, next_hops};
+use crate::splitting::split_by;
 use routing::{Routing, decompose};
 use scheme::{Oblivious, PairSplit, Scheme, SchemeFault, fixed_routing};
+use shortest_path::Searches;
 use std::alloc::Global;
 use te_model::{FORMAT_2, Matrix, Memory, Network, Pair, Pairs, PathShare};
 
@@ -20,17 +23,33 @@ pub struct EcmpPlan {
 }
 
 impl PairSplit for Ecmp {
+    type Toward = NextHops;
+
     ghost limit = { FORMAT_2.links };
 
     ghost splits = { λ _. IsMultipathSplit };
+
+    ghost is_toward = { λ _. AreNextHops };
+
+    fn toward(
+        &self,
+        alloc: Global,
+        net: &Network,
+        searches: &mut Searches,
+        dst: u32,
+    ) -> Result<NextHops, Memory> {
+        let hops = next_hops(alloc, net, searches, dst)?;
+        Ok(hops)
+    }
 
     fn split(
         &self,
         alloc: Global,
         net: &Network,
+        toward: &NextHops,
         pair: Pair,
     ) -> Result<Option<Vec<PathShare>>, Memory> {
-        match split(alloc, net, pair)? {
+        match split_by(alloc, net, toward, pair)? {
             Some(flow) => {
                 let paths = decompose(alloc, net, pair, &flow)?;
                 Ok(Some(paths))

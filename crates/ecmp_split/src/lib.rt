@@ -7,6 +7,7 @@
 #![tactic(auto)]
 
 mod ecmp;
+mod hops;
 mod law;
 mod least_cost;
 mod next;

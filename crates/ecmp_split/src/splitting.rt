@@ -6,9 +6,10 @@ ghost use Rattle.routing.specs.Decomposition.{IsAcyclicFlow};
 ghost use Rattle.scheme.specs.Reach.{IsPairOf};
 ghost use Rattle.shortest_path.specs.Paths.{HasPath};
 ghost use Rattle.ecmp_split.specs.Equal.{IsEqualSplit, equal_part, next_part};
+ghost use Rattle.ecmp_split.specs.Hops.{AreNextHops};
 
-use crate::least_cost::costs_to;
-use crate::next::{NextLinks, nearest_first, next_links};
+use crate::hops::{NextHops, next_hops};
+use shortest_path::{Direction, Searches};
 use std::alloc::Global;
 use te_model::{Memory, Network, Pair, SHARE_UNIT};
 
@@ -24,23 +25,18 @@ fn equal_part(units: u64, count: u64, place: u64) -> u64
 /// Splits one million units at the source over the next links, and again at each node that they
 /// reach. The links of the farthest nodes come first, so that all units have arrived at a node
 /// before one leaves it.
-fn share_out(
-    alloc: Global,
-    net: &Network,
-    sums: &[Option<u64>],
-    src: u32,
-) -> Result<Vec<u64>, Memory>
+fn share_out(alloc: Global, net: &Network, hops: &NextHops, src: u32) -> Result<Vec<u64>, Memory>
     requires network { IsTrue (is_well_formed net.now) }
-    requires sums { length sums.now ≡ node_count net.now }
+    requires hops { (t : ℕ) × AreNextHops net.now t hops.now }
     requires src { src < node_count net.now }
     ensures count { IfOk result (λ flow. length flow.items ≡ link_count net.now) }
-    ensures parts { IfOk result (λ flow. (h : ℕ) → h < link_count net.now → slice_index flow.items h ≡ next_part net.now sums.now (slice_index flow.items) src h) }
+    ensures parts { IfOk result (λ flow. (h : ℕ) → h < link_count net.now → slice_index flow.items h ≡ next_part net.now hops.now.costs (slice_index flow.items) src h) }
 {
     let links = net.links.as_slice();
-    let NextLinks { list, counts } = next_links(alloc, net, sums)?;
-    let mut waiting = nearest_first(list)?;
+    let counts = hops.counts.as_slice();
+    let mut waiting = Vec::from_slice(alloc, hops.links.as_slice())?;
     let mut flow: Vec<u64> = vec![in alloc; 0; links.len()]?;
-    let mut arrived: Vec<u64> = vec![in alloc; 0; sums.len()]?;
+    let mut arrived: Vec<u64> = vec![in alloc; 0; counts.len()]?;
     arrived[src as usize] = SHARE_UNIT;
     while let Some(next) = waiting.pop() {
         let link = links[next.link as usize];
@@ -50,6 +46,32 @@ fn share_out(
         arrived[link.head as usize] += part;
     }
     Ok(flow)
+}
+
+/// The flow of `split`, by the next hops toward the destination of the pair.
+///
+/// `Memory` comes where memory is wanting.
+pub fn split_by(
+    alloc: Global,
+    net: &Network,
+    hops: &NextHops,
+    pair: Pair,
+) -> Result<Option<Vec<u64>>, Memory>
+    requires network { IsTrue (is_well_formed net.now) }
+    requires pair { IsPairOf net.now pair }
+    requires hops { AreNextHops net.now pair.dst hops.now }
+    ensures none { IfOk result (λ o. IfNone o (HasPath net.now pair.src pair.dst → ⊥)) }
+    ensures reached { IfOk result (λ o. IfSome o (λ _. HasPath net.now pair.src pair.dst)) }
+    ensures count { IfOk result (λ o. IfSome o (λ flow. length flow.items ≡ link_count net.now)) }
+    ensures split { IfOk result (λ o. IfSome o (λ flow. IsEqualSplit net.now pair.src pair.dst (slice_index flow.items))) }
+    ensures flow { IfOk result (λ o. IfSome o (λ flow. IsAcyclicFlow net.now (slice_index flow.items) SHARE_UNIT pair.src pair.dst)) }
+{
+    let costs = hops.costs.as_slice();
+    if costs[pair.src as usize].is_none() {
+        return Ok(None);
+    }
+    let flow = share_out(alloc, net, hops, pair.src)?;
+    Ok(Some(flow))
 }
 
 /// The flow of one million units from the source of the pair to its destination that is split
@@ -66,10 +88,7 @@ pub fn split(alloc: Global, net: &Network, pair: Pair) -> Result<Option<Vec<u64>
     ensures split { IfOk result (λ o. IfSome o (λ flow. IsEqualSplit net.now pair.src pair.dst (slice_index flow.items))) }
     ensures flow { IfOk result (λ o. IfSome o (λ flow. IsAcyclicFlow net.now (slice_index flow.items) SHARE_UNIT pair.src pair.dst)) }
 {
-    let sums = costs_to(alloc, net, pair.dst)?;
-    if sums[pair.src as usize].is_none() {
-        return Ok(None);
-    }
-    let flow = share_out(alloc, net, &sums, pair.src)?;
-    Ok(Some(flow))
+    let mut searches = Searches::new(alloc, net, Direction::Backward)?;
+    let hops = next_hops(alloc, net, &mut searches, pair.dst)?;
+    split_by(alloc, net, &hops, pair)
 }

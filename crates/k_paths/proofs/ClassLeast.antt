@@ -1,11 +1,11 @@
 -- The least path of a class is a least walk over the links that its prefix leaves open.
 use Rattle.std.proofs.Common.{inl, inr, ◌≡◌, ℕ, ◌<◌, ◌≤◌, Bool, true, false, not, ◌&&◌, List, [], ◌∷◌, ◌++◌, Some, None, length, take, arith, refl, ap, sym, ◌∙◌, subst, ◌==◌, slice_index, nat_lt}
 use Rattle.std.proofs.lemmas.Bool.{cases_Bool, and_from, and_parts, and_left, and_right, and_cases, or_cases, or_left, or_right, ltb-true, eq-eqb, eqb-true, not-true, not_from_false}
-use Rattle.std.proofs.lemmas.List.{length-append}
+use Rattle.std.proofs.lemmas.List.{length-append, map-append}
 use Rattle.std.proofs.Math.Seq.{take-append_seam}
 use Rattle.te_model.specs.declared.network.Network.{Network}
 use Rattle.te_model.specs.Network.{link_count, tail_of, head_of}
-use Rattle.te_model.specs.Path.{chains, is_distinct, has_number, nodes_visited}
+use Rattle.te_model.specs.Path.{chains, is_distinct, has_number, nodes_visited, heads}
 use Rattle.te_model.proofs.Chains.{chains-append}
 use Rattle.shortest_path.specs.Links.{Walk, is_open}
 use Rattle.shortest_path.specs.Least.{IsLeastWalk}
@@ -14,7 +14,8 @@ use Rattle.shortest_path.proofs.Tight.{least_walk_apart}
 use Rattle.k_paths.specs.Classes.{InClass, IsLeastOfClass, AreClassMarks}
 use Rattle.shortest_path.specs.Costs.{costs_of, IsBefore}
 use Rattle.k_paths.proofs.Ordering.{below-append}
-use Rattle.k_paths.proofs.Visits.{heads, nodes_visited-is, heads-append, distinct-apart, distinct-append, distinct-right, chains-before, chains-end}
+use Rattle.te_model.proofs.Marks.{nodes_visited-is}
+use Rattle.k_paths.proofs.Visits.{distinct-apart, distinct-append, distinct-right, chains-before, chains-end}
 
 pub chains-same_end : (net : Network) (s v w : ℕ) (p : List ℕ) → chains net s v p ≡ true → chains net s w p ≡ true → v ≡ w
 chains-same_end net s v w [] one two = sym (eqb-true s v one) ∙ eqb-true s w two
@@ -23,7 +24,7 @@ chains-same_end net s v w (h ∷ hs) one two =
 
 pub visited-append : (net : Network) (s : ℕ) (p q : List ℕ) → nodes_visited net s (p ++ q) ≡ nodes_visited net s p ++ heads net q
 visited-append net s p q =
-    nodes_visited-is net s (p ++ q) ∙ (ap (λ l. s ∷ l) (heads-append net p q) ∙ ap (λ l. l ++ heads net q) (sym (nodes_visited-is net s p)))
+    nodes_visited-is net s (p ++ q) ∙ (ap (λ l. s ∷ l) (map-append (head_of net) p q) ∙ ap (λ l. l ++ heads net q) (sym (nodes_visited-is net s p)))
 
 visited-end : (net : Network) (s v : ℕ) (p : List ℕ) → chains net s v p ≡ true → has_number (nodes_visited net s p) v ≡ true
 visited-end net s v p chain = subst (λ l. has_number l v ≡ true) (sym (nodes_visited-is net s p)) (chains-end net s v p chain)

@@ -3,12 +3,12 @@ use Rattle.std.proofs.Common.{◌⊎◌, inl, inr, ◌≡◌, ℕ, ◌+◌, ◌<
 use Rattle.std.specs.Prelude.{if◌then◌else◌, All}
 use Rattle.std.specs.List.{list_any}
 use Rattle.std.proofs.lemmas.Bool.{cases_Bool, cases_lt, cases_order, and_from, and_parts, and_right, or_from, or_left, or_parts, lt-ltb, ltb-true, eq-eqb, eqb-true, ne_eqb, not-true, not_from_false}
-use Rattle.std.proofs.lemmas.List.{length-append, length-take-le}
+use Rattle.std.proofs.lemmas.List.{length-append}
 use Rattle.std.proofs.lemmas.List.Elements.{All-get_or}
 use Rattle.std.proofs.Math.Seq.{take-append_seam}
 use Rattle.te_model.specs.declared.network.Network.{Network}
 use Rattle.te_model.specs.Network.{link_count, tail_of, head_of, no_link}
-use Rattle.te_model.specs.Path.{chains, is_path, is_distinct, has_number, nodes_visited}
+use Rattle.te_model.specs.Path.{chains, is_distinct, has_number, nodes_visited, heads}
 use Rattle.te_model.specs.Validity.{list_below}
 use Rattle.te_model.proofs.Chains.{chains-append, walk_links}
 use Rattle.shortest_path.specs.Costs.{costs_of, IsBefore}
@@ -19,14 +19,15 @@ use Rattle.shortest_path.specs.Paths.{sum_along, IsBelow}
 use Rattle.shortest_path.proofs.Relaxing.{at_most-some}
 use Rattle.shortest_path.proofs.Tight.{least_walk_apart}
 use Rattle.shortest_path.proofs.Walks.{chains_of_walk, walk_of_chains}
-use Rattle.k_paths.specs.declared.ways.Ways.{Ways}
-use Rattle.k_paths.specs.Classes.{InClass, IsLeastOfClass, is_allowed_link}
-use Rattle.k_paths.specs.Ways.{AreWays, IsFirstLeastAt, IsLeastWay, is_visited, plus, sum_over}
+use Rattle.shortest_path.specs.declared.ways.Ways.{Ways}
+use Rattle.k_paths.specs.Classes.{InClass, IsLeastOfClass, IsPrefix, is_allowed_link}
+use Rattle.shortest_path.specs.Ways.{AreWays, IsLeastWay}
+use Rattle.shortest_path.proofs.LeastSums.{all_open}
+use Rattle.k_paths.specs.Ways.{IsFirstLeastAt, is_visited, plus, sum_over}
 use Rattle.k_paths.proofs.Ordering.{below-append}
-use Rattle.k_paths.proofs.Visits.{heads, nodes_visited-is, distinct-apart, distinct-append, chains-before, visits-is}
+use Rattle.te_model.proofs.Marks.{nodes_visited-is}
+use Rattle.k_paths.proofs.Visits.{distinct-apart, distinct-append, chains-before, visits-is}
 use Rattle.k_paths.proofs.ClassLeast.{chains-same_end, visited-append}
-use Rattle.k_paths.proofs.LeastWays.{every_open}
-use Rattle.k_paths.proofs.Prefixes.{IsPrefix, prefix_of_path}
 
 sum_parts : (b : Bool) (cost x : ℕ) (o : Option ℕ) → (if b then plus cost o else None) ≡ Some x → (b ≡ true) × ((y : ℕ) × (o ≡ Some y) × (x ≡ cost + y))
 sum_parts true cost x None is = cc
@@ -66,7 +67,7 @@ goes_on net s t v prefix barred q chain m =
         | inr off ↦ off
       ];
       allowed = m.allowed;
-      walk = walk_of_chains net (every_link net) (head_of net k) t m.rest (every_open net) outer.1;
+      walk = walk_of_chains net (every_link net) (head_of net k) t m.rest (all_open net) outer.1;
     }
 
 -- the link has a sum, at most that of the rest of the path
@@ -143,7 +144,7 @@ direct_least net ways s v prefix barred w h x are pre first least none =
     let allowed = and_parts (not (is_visited net.links s prefix (head_of net h))) (not (tail_of net h == v && has_number barred h)) from_v.1 in
     let unseen : is_visited net.links s prefix (head_of net h) ≡ false = not-true (is_visited net.links s prefix (head_of net h)) allowed.0 in
     let sum_w : sum_along ways.costs w ≤ y = sum_at_most net ways.costs (every_link net) t ways.sums are.sums (head_of net h) y w at_y least in
-    let walk : Walk net (every_link net) v t (h ∷ w) = (first.inside, starts, every_open net h first.inside, least.0) in
+    let walk : Walk net (every_link net) v t (h ∷ w) = (first.inside, starts, all_open net h first.inside, least.0) in
     let apart_w : is_distinct (heads net (h ∷ w)) ≡ true =
     subst (λ l. is_distinct l ≡ true) (nodes_visited-is net (head_of net h) w) (least_walk_apart net ways.costs (every_link net) (head_of net h) t w (long_costs net ways are) least)
     in
@@ -194,32 +195,21 @@ direct_least net ways s v prefix barred w h x are pre first least none =
           (subst (λ a. (a < slice_index ways.costs k + z) ⊎ ((a ≡ slice_index ways.costs k + z) × (h ≤ k))) x_is (first.least k (slice_index ways.costs k + z) on.inside is_z)) ne)
     ]
 
-pub direct_none : (net : Network) (ways : Ways) (s : ℕ) (links : List ℕ) (i : ℕ) (barred : List ℕ) → AreWays net ways →
-    is_path net s ways.dst links ≡ true → i < length links →
-    ((k : ℕ) → k < link_count net → sum_over net ways s (take i links) barred (tail_of net (slice_index links i)) k ≡ None) →
-    (q : List ℕ) → InClass net s ways.dst (take i links) barred q → ⊥
-direct_none net ways s links i barred are path below none q in' =
-    let v = tail_of net (slice_index links i) in
-    let pre = prefix_of_path net s ways.dst links i path below in
-    let on = goes_on net s ways.dst v (take i links) barred q pre.chain in' in
-    let (z, is_z, le) = sum_of_rest net ways s v (take i links) barred in'.next in'.rest are on in
+pub direct_none : (net : Network) (ways : Ways) (s v : ℕ) (prefix barred : List ℕ) → AreWays net ways → IsPrefix net s ways.dst v prefix →
+    ((k : ℕ) → k < link_count net → sum_over net ways s prefix barred v k ≡ None) →
+    (q : List ℕ) → InClass net s ways.dst prefix barred q → ⊥
+direct_none net ways s v prefix barred are pre none q in' =
+    let on = goes_on net s ways.dst v prefix barred q pre.chain in' in
+    let (z, is_z, le) = sum_of_rest net ways s v prefix barred in'.next in'.rest are on in
     let is_none = none in'.next on.inside in
     cc
 
-pub direct_some : (net : Network) (ways : Ways) (s : ℕ) (links : List ℕ) (i : ℕ) (barred w : List ℕ) (h x : ℕ) → AreWays net ways →
-    is_path net s ways.dst links ≡ true → i < length links →
-    IsFirstLeastAt (sum_over net ways s (take i links) barred (tail_of net (slice_index links i))) (link_count net) h x →
-    IsLeastWay net ways (head_of net h) (Some w) →
-    list_any (λ k. is_visited net.links s (take i links) (slice_index_or net.links k no_link).head) w ≡ false →
-    IsLeastOfClass net s ways.dst (take i links ++ h ∷ w) i barred × (take i (take i links ++ h ∷ w) ≡ take i links)
-direct_some net ways s links i barred w h x are path below first least none =
-    let v = tail_of net (slice_index links i) in
-    let pre = prefix_of_path net s ways.dst links i path below in
-    let len : length (take i links) ≡ i = length-take-le i links (omega arith) in (
-      subst (λ n. IsLeastOfClass net s ways.dst (take i links ++ h ∷ w) n barred) len
-          (direct_least net ways s v (take i links) barred w h x are pre first least none),
-      subst (λ n. take n (take i links ++ h ∷ w) ≡ take i links) len (take-append_seam (take i links) (h ∷ w)),
-    )
+pub direct_some : (net : Network) (ways : Ways) (s v : ℕ) (prefix barred w : List ℕ) (h x : ℕ) → AreWays net ways → IsPrefix net s ways.dst v prefix →
+    IsFirstLeastAt (sum_over net ways s prefix barred v) (link_count net) h x → IsLeastWay net ways (head_of net h) (Some w) →
+    list_any (λ k. is_visited net.links s prefix (slice_index_or net.links k no_link).head) w ≡ false →
+    IsLeastOfClass net s ways.dst (prefix ++ h ∷ w) (length prefix) barred × (take (length prefix) (prefix ++ h ∷ w) ≡ prefix)
+direct_some net ways s v prefix barred w h x are pre first least none =
+    (direct_least net ways s v prefix barred w h x are pre first least none, take-append_seam prefix (h ∷ w))
 
 pub links_of_walk : (net : Network) (marks : List Bool) (u t : ℕ) (links : List ℕ) → Walk net marks u t links → All (λ h. h < link_count net) links
 links_of_walk net marks u t links walk = walk_links net u t links (chains_of_walk net marks u t links walk)

@@ -8,5 +8,5 @@ pub mod Splitting
 pub mod Starting
 pub mod Rounds
 pub mod EvenSplits
-pub mod LeastWays
+pub mod FirstLeast
 pub mod DirectPaths

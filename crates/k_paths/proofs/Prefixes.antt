@@ -1,25 +1,18 @@
 -- What is known of the first links of a path.
-use Rattle.std.proofs.Common.{◌≡◌, ℕ, ◌<◌, ◌≤◌, Bool, true, ◌&&◌, List, [], ◌∷◌, ◌++◌, Some, None, length, take, arith, sym, subst, ◌==◌, slice_index, nat_lt}
-use Rattle.std.specs.Prelude.{All}
-use Rattle.std.proofs.lemmas.Bool.{and_parts, ltb-true}
-use Rattle.std.proofs.lemmas.List.{length-take-le}
-use Rattle.std.proofs.lemmas.List.Elements.{All-cons, All-nil, All-get_or}
+use Rattle.std.proofs.Common.{◌≡◌, ℕ, ◌<◌, ◌≤◌, Bool, true, List, ◌∷◌, ◌++◌, Some, None, length, take, arith, sym, subst, slice_index}
+use Rattle.std.proofs.lemmas.Bool.{and_parts}
+use Rattle.std.proofs.lemmas.List.Elements.{All-get_or}
 use Rattle.std.proofs.Math.Seq.{take-append_seam}
 use Rattle.te_model.specs.declared.network.Network.{Network}
 use Rattle.te_model.specs.Network.{link_count, tail_of, head_of}
-use Rattle.te_model.specs.Path.{chains, is_path, is_distinct, has_number, nodes_visited}
+use Rattle.te_model.specs.Path.{chains, is_path, is_distinct, has_number, nodes_visited, heads}
 use Rattle.shortest_path.specs.Least.{IsLeastWalk}
-use Rattle.k_paths.specs.Classes.{InClass, IsLeastOfClass, AreClassMarks}
+use Rattle.k_paths.specs.Classes.{InClass, IsLeastOfClass, IsPrefix, AreClassMarks}
 use Rattle.shortest_path.specs.Costs.{costs_of, HasCosts}
-use Rattle.k_paths.proofs.Visits.{heads, nodes_visited-is, distinct-left, distinct-apart, chains-before, chains-end}
+use Rattle.te_model.proofs.Marks.{nodes_visited-is}
+use Rattle.k_paths.proofs.Visits.{distinct-left, distinct-apart, chains-before, chains-end}
 use Rattle.k_paths.proofs.ClassLeast.{visited-append, class_least, class_none}
 use Rattle.k_paths.proofs.Deviating.{split_at}
-
--- what is known of the first links of a path and of the node to which they lead
-pub record IsPrefix (net : Network) (s t v : ℕ) (prefix : List ℕ) : Type 0 where
-  pub chain : chains net s v prefix ≡ true
-  pub apart : is_distinct (nodes_visited net s prefix) ≡ true
-  pub differ : v ≡ t → ⊥
 
 pub prefix_of_path : (net : Network) (s t : ℕ) (links : List ℕ) (i : ℕ) → is_path net s t links ≡ true → i < length links →
     IsPrefix net s t (tail_of net (slice_index links i)) (take i links)
@@ -43,28 +36,20 @@ prefix_of_path net s t links i path below =
           (subst (λ k. has_number (heads net (h ∷ after)) k ≡ true) (sym e) (chains-end net (head_of net h) t after back));
     }
 
-pub deviation_none : (net : Network) (marks : List Bool) (s t : ℕ) (costs links : List ℕ) (i : ℕ) (barred : List ℕ) →
-    HasCosts net costs → is_path net s t links ≡ true → i < length links →
-    AreClassMarks net s (tail_of net (slice_index links i)) (take i links) barred marks →
-    IsLeastWalk net costs marks (tail_of net (slice_index links i)) t None → (q : List ℕ) → InClass net s t (take i links) barred q → ⊥
-deviation_none net marks s t costs links i barred has path below are none q in' =
-    let prefix = prefix_of_path net s t links i path below in
-    class_none net marks s t (tail_of net (slice_index links i)) (take i links) barred are prefix.chain
-    (subst (λ c. IsLeastWalk net c marks (tail_of net (slice_index links i)) t None) has.are none) q in'
+pub deviation_none : (net : Network) (marks : List Bool) (s t v : ℕ) (costs prefix barred : List ℕ) →
+    HasCosts net costs → IsPrefix net s t v prefix → AreClassMarks net s v prefix barred marks →
+    IsLeastWalk net costs marks v t None → (q : List ℕ) → InClass net s t prefix barred q → ⊥
+deviation_none net marks s t v costs prefix barred has pre are none q in' =
+    class_none net marks s t v prefix barred are pre.chain (subst (λ c. IsLeastWalk net c marks v t None) has.are none) q in'
 
-pub deviation_some : (net : Network) (marks : List Bool) (s t : ℕ) (costs links : List ℕ) (i : ℕ) (barred r : List ℕ) →
-    HasCosts net costs → is_path net s t links ≡ true → i < length links →
-    AreClassMarks net s (tail_of net (slice_index links i)) (take i links) barred marks →
-    IsLeastWalk net costs marks (tail_of net (slice_index links i)) t (Some r) →
-    IsLeastOfClass net s t (take i links ++ r) i barred × (take i (take i links ++ r) ≡ take i links)
-deviation_some net marks s t costs links i barred r has path below are least =
-    let prefix = prefix_of_path net s t links i path below in
-    let len : length (take i links) ≡ i = length-take-le i links (omega arith) in
+pub deviation_some : (net : Network) (marks : List Bool) (s t v : ℕ) (costs prefix barred r : List ℕ) →
+    HasCosts net costs → IsPrefix net s t v prefix → AreClassMarks net s v prefix barred marks →
+    IsLeastWalk net costs marks v t (Some r) →
+    IsLeastOfClass net s t (prefix ++ r) (length prefix) barred × (take (length prefix) (prefix ++ r) ≡ prefix)
+deviation_some net marks s t v costs prefix barred r has pre are least =
     let long : (h : ℕ) → h < link_count net → 1 ≤ slice_index (costs_of net) h = λ h in'.
     subst (λ c. 1 ≤ slice_index c h) has.are (All-get_or (λ c. 1 ≤ c) costs h 0 (omega (arith, has.count)) has.positive)
     in (
-      subst (λ n. IsLeastOfClass net s t (take i links ++ r) n barred) len
-          (class_least net marks s t (tail_of net (slice_index links i)) (take i links) barred r are prefix.chain prefix.apart prefix.differ long
-          (subst (λ c. IsLeastWalk net c marks (tail_of net (slice_index links i)) t (Some r)) has.are least)),
-      subst (λ n. take n (take i links ++ r) ≡ take i links) len (take-append_seam (take i links) r),
+      class_least net marks s t v prefix barred r are pre.chain pre.apart pre.differ long (subst (λ c. IsLeastWalk net c marks v t (Some r)) has.are least),
+      take-append_seam prefix r,
     )

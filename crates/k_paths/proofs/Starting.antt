@@ -1,10 +1,10 @@
 -- The class of all paths, and the first of the candidates.
 use Rattle.std.proofs.Common.{◌⊎◌, inl, inr, ◌≡◌, ℕ, ◌<◌, ◌≤◌, Bool, true, List, [], ◌∷◌, ◌++◌, Some, None, length, arith, refl, sym, subst, slice_index}
-use Rattle.std.proofs.lemmas.Bool.{and_parts, eqb-true}
+use Rattle.std.proofs.lemmas.Bool.{eqb-true}
 use Rattle.std.proofs.lemmas.List.Elements.{All-nil, All-get_or, Contains-push, Contains-push_cases}
 use Rattle.te_model.specs.declared.network.Network.{Network}
 use Rattle.te_model.specs.Network.{link_count}
-use Rattle.te_model.specs.Path.{chains, is_path}
+use Rattle.te_model.specs.Path.{is_path}
 use Rattle.te_model.proofs.Chains.{chains_of_path}
 use Rattle.shortest_path.specs.Paths.{IsBelow}
 use Rattle.shortest_path.specs.Least.{IsLeastWalk}

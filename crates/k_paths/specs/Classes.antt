@@ -1,10 +1,11 @@
 -- The order of paths, the first of them, and classes of paths by how they begin.
-use Rattle.std.specs.Prelude.{if◌then◌else◌, ◌≡◌, ◌⊎◌, ℕ, ◌<◌, ◌≤◌, ◌++◌, ◌&&◌, ◌||◌, slice_index_or, ◌==◌, not, IsTrue, Bool, true, false, List, [], ◌∷◌, length, take, slice_index, All}
+use Rattle.std.specs.Prelude.{if◌then◌else◌, ◌≡◌, ◌⊎◌, MatchOption, Option, Vec, ℕ, ◌<◌, ◌≤◌, ◌++◌, ◌&&◌, ◌||◌, slice_index_or, ◌==◌, not, IsTrue, Bool, true, false, List, [], ◌∷◌, length, take, slice_index, All}
+use Rattle.std.specs.declared.alloc.Global.{Global}
 use Rattle.std.specs.List.{AllPairs, Contains, list_any}
 use Rattle.te_model.specs.declared.network.Network.{Network}
 use Rattle.te_model.specs.Network.{link_count, tail_of, head_of, no_link}
 use Rattle.te_model.specs.declared.network.Link.{Link}
-use Rattle.te_model.specs.Path.{is_path, has_number, nodes_visited}
+use Rattle.te_model.specs.Path.{chains, is_distinct, is_path, has_number, nodes_visited}
 use Rattle.shortest_path.specs.Costs.{IsBefore}
 use Rattle.shortest_path.specs.Links.{is_open}
 
@@ -28,6 +29,18 @@ pub record IsLeastOfClass (net : Network) (s t : ℕ) (links : List ℕ) (fixed 
   pub inside : fixed < length links
   pub member : InClass net s t (take fixed links) barred links
   pub least : (q : List ℕ) → InClass net s t (take fixed links) barred q → (q ≡ links) ⊎ IsBefore net links q
+
+-- the first links of a path from s to t, which lead to v before t
+pub record IsPrefix (net : Network) (s t v : ℕ) (prefix : List ℕ) : Type 0 where
+  pub chain : chains net s v prefix ≡ true
+  pub apart : is_distinct (nodes_visited net s prefix) ≡ true
+  pub differ : v ≡ t → ⊥
+
+-- the least path of the class of those that begin with the prefix, or none where there is no path of the class
+abbrev pub IsLeastIn : Network → ℕ → ℕ → List ℕ → List ℕ → Option (Vec ℕ Global) → Type 0
+IsLeastIn net s t prefix barred found =
+    MatchOption found ((q : List ℕ) → InClass net s t prefix barred q → ⊥)
+    (λ m. IsLeastOfClass net s t m.items (length prefix) barred × (take (length prefix) m.items ≡ prefix))
 
 -- the marks of the links over which a class's paths may go on from v
 abbrev pub AreClassMarks : Network → ℕ → ℕ → List ℕ → List ℕ → List Bool → Type 0

@@ -1,39 +1,37 @@
 //! The least paths of classes, and the splitting of a class.
-ghost use Rattle.std.specs.Prelude.{if◌then◌else◌, [], ◌≡◌, ◌<◌, ◌≤◌, ◌++◌, ◌∷◌, ℕ, List, IfOk, IsTrue, OnOk, length, take, MatchOption};
+ghost use Rattle.std.specs.Prelude.{if◌then◌else◌, [], ◌≡◌, ◌<◌, ◌≤◌, ◌++◌, ◌∷◌, IfOk, IsTrue, OnOk, length, take};
+ghost use Rattle.te_model.specs.Network.{node_count};
 ghost use Rattle.te_model.specs.Path.{is_path};
 ghost use Rattle.shortest_path.specs.Links.{IsSound};
-ghost use Rattle.k_paths.specs.Classes.{barred_at, InClass, IsLeastOfClass};
+ghost use Rattle.k_paths.specs.Classes.{IsLeastIn, IsPrefix, barred_at};
 ghost use Rattle.k_paths.specs.Search.{IsLeastCandidate, Splits};
-ghost use Rattle.k_paths.specs.Ways.{AreWays};
+ghost use Rattle.shortest_path.specs.Ways.{AreWays};
 
 use crate::candidate::Candidate;
 use crate::direct::{first_link, meets};
 use crate::marks::class_marks;
 use crate::sums::least_sums;
-use crate::ways::{Ways, way_from};
-use shortest_path::follow;
+use shortest_path::{Ways, follow, way_from};
 use std::alloc::Global;
 use te_model::{Items, Memory, Network};
 
-/// The least path of those that begin with the first links of a path and go on with a link that is not
+/// The least path of those that begin with the prefix and go on from the node with a link that is not
 /// barred, by a search over the links that these leave open.
 fn detour(
     alloc: Global,
     net: &Network,
     ways: &Ways,
     src: u32,
-    links: &[u32],
-    fixed: usize,
+    prefix: &[u32],
     barred: &[u32],
+    node: u32,
 ) -> Result<Option<Vec<u32>>, Memory>
     requires sound { IsSound net.now }
     requires ways { AreWays net.now ways.now }
-    requires path { IsTrue (is_path net.now src ways.now.dst links.now) }
-    requires inside { fixed < length links.now }
-    ensures { IfOk result (λ r. MatchOption r ((q : List ℕ) → InClass net.now src ways.now.dst (take fixed links.now) barred.now q → ⊥) (λ m. IsLeastOfClass net.now src ways.now.dst m.items fixed barred.now × (take fixed m.items ≡ take fixed links.now))) }
+    requires node { node < node_count net.now }
+    requires prefix { IsPrefix net.now src ways.now.dst node prefix.now }
+    ensures { IfOk result (IsLeastIn net.now src ways.now.dst prefix.now barred.now) }
 {
-    let prefix = &links[..fixed];
-    let node = net.links.as_slice()[links[fixed] as usize].tail;
     let marks = class_marks(alloc, net, src, prefix, barred, node)?;
     let costs = ways.costs.as_slice();
     let sums = least_sums(alloc, net, costs, &marks, ways.dst)?;
@@ -73,7 +71,7 @@ pub fn deviation(
     requires ways { AreWays net.now ways.now }
     requires path { IsTrue (is_path net.now src ways.now.dst links.now) }
     requires inside { fixed < length links.now }
-    ensures { IfOk result (λ r. MatchOption r ((q : List ℕ) → InClass net.now src ways.now.dst (take fixed links.now) barred.now q → ⊥) (λ m. IsLeastOfClass net.now src ways.now.dst m.items fixed barred.now × (take fixed m.items ≡ take fixed links.now))) }
+    ensures { IfOk result (IsLeastIn net.now src ways.now.dst (take fixed links.now) barred.now) }
 {
     let prefix = &links[..fixed];
     let all = net.links.as_slice();
@@ -86,7 +84,7 @@ pub fn deviation(
                     let found = joined(alloc, prefix, first, &way)?;
                     Ok(Some(found))
                 }
-                _ => detour(alloc, net, ways, src, links, fixed, barred),
+                _ => detour(alloc, net, ways, src, prefix, barred, node),
             }
         }
     }

@@ -3,10 +3,11 @@ ghost use Rattle.std.specs.Prelude.{◌≡◌, ◌⊎◌, ◌<◌, ◌≤◌, Al
 ghost use Rattle.std.specs.List.{list_any};
 ghost use Rattle.te_model.specs.Network.{link_count, no_link};
 ghost use Rattle.shortest_path.specs.Links.{IsSound};
-ghost use Rattle.k_paths.specs.Ways.{AreWays, IsFirstLeast, is_visited, sum_over};
+ghost use Rattle.shortest_path.specs.Ways.{AreWays};
+ghost use Rattle.k_paths.specs.Ways.{IsFirstLeast, is_visited, sum_over};
 
 use crate::marks::{is_allowed, leads_to};
-use crate::ways::Ways;
+use shortest_path::Ways;
 use te_model::{Link, Network};
 
 /// The least sum of costs to the destination over a link, or `None` where no path that begins with the

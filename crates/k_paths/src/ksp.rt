@@ -1,10 +1,12 @@
 //! The demand of each pair is split evenly over its first paths.
 ghost use Rattle.std.specs.Prelude.{◌≡◌, ◌≤◌};
+ghost use Rattle.shortest_path.specs.Ways.{AreWays};
 ghost use Rattle.k_paths.specs.Even.{IsEvenSplit};
 
-use crate::least::k_least;
+use crate::least::k_least_by;
 use routing::{Routing, even_mix};
 use scheme::{Oblivious, PairSplit, Scheme, SchemeFault, fixed_routing};
+use shortest_path::{Searches, Ways, ways_to};
 use std::alloc::Global;
 use te_model::{Matrix, Memory, Network, Pair, Pairs, PathShare};
 
@@ -26,17 +28,33 @@ pub struct KspPlan {
 }
 
 impl PairSplit for Ksp {
+    type Toward = Ways;
+
     ghost limit = { 32 };
 
     ghost splits = { λ ksp. IsEvenSplit ksp.k };
+
+    ghost is_toward = { λ _ net dst ways. AreWays net ways × (ways.dst ≡ dst) };
+
+    fn toward(
+        &self,
+        alloc: Global,
+        net: &Network,
+        searches: &mut Searches,
+        dst: u32,
+    ) -> Result<Ways, Memory> {
+        let ways = ways_to(alloc, net, searches, dst)?;
+        Ok(ways)
+    }
 
     fn split(
         &self,
         alloc: Global,
         net: &Network,
+        toward: &Ways,
         pair: Pair,
     ) -> Result<Option<Vec<PathShare>>, Memory> {
-        let paths = k_least(alloc, net, pair.src, pair.dst, self.k)?;
+        let paths = k_least_by(alloc, net, toward, pair.src, self.k)?;
         if paths.is_empty() {
             return Ok(None);
         }

@@ -11,7 +11,6 @@ mod marks;
 mod order;
 mod search;
 mod sums;
-mod ways;
 
 pub use ksp::{Ksp, KspPlan};
-pub use least::k_least;
+pub use least::{k_least, k_least_by};

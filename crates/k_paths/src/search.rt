@@ -1,15 +1,15 @@
 //! The rounds of the search for the least paths.
-ghost use Rattle.std.specs.Prelude.{◌≡◌, ◌≢◌, ◌<◌, ◌≤◌, ◌++◌, ◌∷◌, [], ◌⊎◌, ℕ, List, All, IfOk, length};
+ghost use Rattle.std.specs.Prelude.{◌≡◌, ◌≢◌, ◌<◌, ◌≤◌, ◌^◌, ◌++◌, ◌∷◌, [], ◌⊎◌, ℕ, List, All, IfOk, length};
 ghost use Rattle.te_model.specs.Network.{node_count};
 ghost use Rattle.shortest_path.specs.Links.{IsSound};
 ghost use Rattle.shortest_path.specs.Paths.{IsBelow};
 ghost use Rattle.k_paths.specs.Search.{AreFirst, AreLeastCandidates, IsSearch, links_at};
-ghost use Rattle.k_paths.specs.Ways.{AreWays};
+ghost use Rattle.shortest_path.specs.Ways.{AreWays};
 
 use crate::candidate::Candidate;
 use crate::class::split;
 use crate::order::is_before;
-use crate::ways::{Ways, way_from};
+use shortest_path::{Ways, way_from};
 use std::alloc::Global;
 use te_model::{Items, Memory, Network};
 
@@ -17,7 +17,7 @@ use te_model::{Items, Memory, Network};
 pub fn first_of(costs: &[u64], candidates: &[Candidate]) -> usize
     requires some { 0 < length candidates.now }
     requires links { (k : ℕ) → k < length candidates.now → All (λ h. h < length costs.now) (links_at candidates.now k) }
-    requires costs { All (λ c. c ≤ 65535) costs.now }
+    requires costs { All (λ c. c ≤ 2 ^ 28) costs.now }
     ensures inside { result < length candidates.now }
     ensures first { (k : ℕ) → k < length candidates.now → (links_at candidates.now k ≡ links_at candidates.now result) ⊎ IsBelow costs.now (links_at candidates.now result) (links_at candidates.now k) }
 {

@@ -1,7 +1,7 @@
 -- The least path with the whole weight is a split of the pair.
-use Rattle.std.proofs.Common.{ℕ, ◌≤◌, List, [], ◌∷◌, Some, None, arith, refl}
+use Rattle.std.proofs.Common.{ℕ, ◌≤◌, List, [], ◌∷◌, Some, None, arith, refl, ◌≡◌, Option, subst}
 use Rattle.std.specs.Prelude.{IsTrue}
-use Rattle.std.proofs.lemmas.List.Elements.{All-cons, All-nil}
+use Rattle.std.proofs.lemmas.List.Elements.{All-cons, All-nil, All-get_or}
 use Rattle.te_model.specs.declared.network.Network.{Network}
 use Rattle.te_model.specs.declared.route.Pair.{Pair}
 use Rattle.te_model.specs.declared.route.PathShare.{PathShare}
@@ -9,6 +9,10 @@ use Rattle.te_model.specs.declared.units.TheConstants.{SHARE_UNIT}
 use Rattle.te_model.specs.Path.{is_path}
 use Rattle.shortest_path.specs.Costs.{costs_of}
 use Rattle.shortest_path.specs.Paths.{HasPath, IsLeastPath}
+use Rattle.shortest_path.specs.declared.ways.Ways.{Ways}
+use Rattle.shortest_path.specs.Ways.{AreWays, IsLeastWay}
+use Rattle.shortest_path.specs.Links.{every_link}
+use Rattle.shortest_path.proofs.LeastSums.{all_open, least_path_of_walk}
 use Rattle.scheme.specs.Fixed.{IsSplitBy}
 use Rattle.scheme.specs.Least.{IsLeastSplit}
 
@@ -29,3 +33,12 @@ least_split net pair links least =
 
 pub no_least : (net : Network) (lengths : List ℕ) (s t : ℕ) → IsLeastPath net lengths s t None → HasPath net s t → ⊥
 no_least net lengths s t none (links, some, chain) = none links chain
+
+-- the least way by cost is the least path
+pub least_way_path : (net : Network) (ways : Ways) (s t : ℕ) (way : Option (List ℕ)) → AreWays net ways → ways.dst ≡ t → IsLeastWay net ways s way →
+    IsLeastPath net (costs_of net) s t way
+least_way_path net ways s t way are to least =
+    subst (λ d. IsLeastPath net (costs_of net) s d way) to
+    (subst (λ l. IsLeastPath net l s ways.dst way) are.costs.are
+    (least_path_of_walk net ways.costs (every_link net) s ways.dst way (all_open net)
+    (λ h below. All-get_or (λ l. 1 ≤ l) ways.costs h 0 (omega (arith, below, are.costs.count)) are.costs.positive) least))

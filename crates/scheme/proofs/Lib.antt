@@ -1,3 +1,4 @@
 pub mod Plans
+pub mod Towards
 pub mod LeastSplit
 pub mod Reaching

@@ -1,5 +1,6 @@
 pub mod Reach
 pub mod Fault
 pub mod Fixed
+pub mod Toward
 pub mod Least
 pub mod Low

@@ -1,5 +1,5 @@
 -- Declared pairs of a network, and which of them have a path.
-use Rattle.std.specs.Prelude.{◌≡◌, ℕ, ◌^◌, ◌<◌, List, All, length}
+use Rattle.std.specs.Prelude.{ℕ, ◌^◌, ◌<◌, List, All, length}
 use Rattle.te_model.specs.declared.network.Network.{Network}
 use Rattle.te_model.specs.declared.route.Pair.{Pair}
 use Rattle.te_model.specs.Network.{node_count}

@@ -1,13 +1,13 @@
 //! The least path by cost carries the whole demand.
 ghost use Rattle.std.specs.Prelude.{◌≡◌};
-ghost use Rattle.shortest_path.specs.Least.{links_of};
+ghost use Rattle.shortest_path.specs.Ways.{AreWays};
 ghost use Rattle.scheme.specs.Least.{IsLeastSplit};
 
 use crate::fault::SchemeFault;
 use crate::fixed::{PairSplit, fixed_routing};
 use crate::traits::{Oblivious, Scheme};
 use routing::Routing;
-use shortest_path::{costs, least_path};
+use shortest_path::{Searches, Ways, way_from, ways_to};
 use std::alloc::Global;
 use te_model::{Items, Matrix, Memory, Network, Pair, Pairs, PathShare, SHARE_UNIT};
 
@@ -23,22 +23,37 @@ pub struct SpfPlan {
 }
 
 impl PairSplit for Spf {
+    type Toward = Ways;
+
     ghost limit = { 1 };
 
     ghost splits = { λ _. IsLeastSplit };
+
+    ghost is_toward = { λ _ net dst ways. AreWays net ways × (ways.dst ≡ dst) };
+
+    fn toward(
+        &self,
+        alloc: Global,
+        net: &Network,
+        searches: &mut Searches,
+        dst: u32,
+    ) -> Result<Ways, Memory> {
+        let ways = ways_to(alloc, net, searches, dst)?;
+        Ok(ways)
+    }
 
     fn split(
         &self,
         alloc: Global,
         net: &Network,
+        toward: &Ways,
         pair: Pair,
     ) -> Result<Option<Vec<PathShare>>, Memory> {
-        let costs = costs(alloc, net)?;
-        match least_path(alloc, net, &costs, pair.src, pair.dst)? {
-            Some(path) => {
+        match way_from(alloc, net, toward, pair.src)? {
+            Some(way) => {
                 let whole = vec![in alloc;
                     PathShare {
-                        links: path.links,
+                        links: Items::new(way),
                         weight: SHARE_UNIT
                     },
                 ]?;

@@ -1,11 +1,11 @@
 -- The tests on the sums tell whether nodes are within a radius of each other.
-use Rattle.std.proofs.Common.{inl, inr, ◌≡◌, ℕ, ◌+◌, ◌<◌, ◌≤◌, Bool, true, List, [], ◌∷◌, ◌++◌, Option, Some, None, length, max, arith, refl, ap, sym, ◌∙◌, subst, replicate, length-append}
+use Rattle.std.proofs.Common.{inl, inr, ◌≡◌, ℕ, ◌+◌, ◌<◌, ◌≤◌, true, List, [], ◌∷◌, ◌++◌, Option, Some, None, length, max, arith, refl, ap, sym, ◌∙◌, subst, length-append}
 use Rattle.std.proofs.Math.Seq.{get_or-append_seam}
-use Rattle.std.proofs.lemmas.Bool.{and_parts, cases_lt, leb-true, le-leb}
+use Rattle.std.proofs.lemmas.Bool.{cases_lt, leb-true, le-leb}
 use Rattle.std.proofs.lemmas.List.{get_or_append_left}
 use Rattle.te_model.specs.declared.network.Network.{Network}
 use Rattle.te_model.specs.Network.{node_count}
-use Rattle.shortest_path.specs.Graph.{AtMost, distance_at}
+use Rattle.shortest_path.specs.Graph.{AtMost}
 use Rattle.shortest_path.specs.Paths.{IsDistance}
 use Rattle.shortest_path.specs.Least.{AreLeastSums}
 use Rattle.shortest_path.proofs.Relaxing.{at_most-some}

@@ -5,9 +5,7 @@ use Rattle.std.specs.List.{dedup, range_with_len}
 use Rattle.std.proofs.lemmas.Bool.{cases_order}
 use Rattle.te_model.specs.declared.network.Network.{Network}
 use Rattle.te_model.specs.Network.{node_count}
-use Rattle.shortest_path.specs.Paths.{IsLeastPath}
 use Rattle.shortest_path.proofs.Unique.{least_path_only}
-use Rattle.routing.specs.Loops.{IsCut}
 use Rattle.routing.proofs.Cutting.{cut_only}
 use Rattle.tree_embed.specs.declared.centers.TheConstants.{TOP_LEVEL}
 use Rattle.tree_embed.specs.Embedding.{Embedding}

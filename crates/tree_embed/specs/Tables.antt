@@ -1,5 +1,5 @@
 -- The tables that a tree keeps.
-use Rattle.std.specs.Prelude.{◌≡◌, ℕ, ◌<◌, ◌≤◌, Bool, true, false, List, [], Option, Some, None, find, if◌then◌else◌, length, nat_le, nat_lt, replicate, slice_index, slice_index_or, unwrap_or}
+use Rattle.std.specs.Prelude.{◌≡◌, ℕ, ◌<◌, ◌≤◌, Bool, false, List, [], Option, Some, None, find, if◌then◌else◌, length, nat_le, nat_lt, slice_index, slice_index_or, unwrap_or}
 use Rattle.te_model.specs.declared.network.Network.{Network}
 use Rattle.te_model.specs.Network.{node_count}
 use Rattle.shortest_path.specs.Graph.{distance_at}

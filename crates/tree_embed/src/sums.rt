@@ -4,7 +4,7 @@ ghost use Rattle.te_model.specs.Network.{is_well_formed, link_count};
 ghost use Rattle.tree_embed.specs.Centers.{greater_of};
 ghost use Rattle.tree_embed.specs.Tables.{AreSums, IsSquare, is_at_most, is_within, sum_between};
 
-use shortest_path::toward;
+use shortest_path::{Direction, Searches};
 use std::alloc::Global;
 use te_model::{Items, Memory, Network};
 
@@ -19,10 +19,13 @@ pub fn sums_of(
     requires limit { All (λ l. l ≤ 2 ^ 28) lengths.now }
     ensures { IfOk result (λ sums. AreSums net.now lengths.now sums.items) }
 {
+    let nodes = net.names.as_slice().len();
     let every = vec![in alloc; true; net.links.as_slice().len()]?;
-    let mut sums = Vec::new(alloc);
-    for node in 0..net.names.as_slice().len() {
-        let row = toward(alloc, net, lengths, &every, node as u32)?;
+    let mut searches = Searches::new(alloc, net, Direction::Backward)?;
+    let mut sums = Vec::with_capacity(alloc, nodes)?;
+    for node in 0..nodes {
+        let mut row: Vec<Option<u64>> = vec![in alloc; None; nodes]?;
+        searches.toward(net, lengths, &every, node as u32, &mut row);
         sums.push(Items::new(row))?;
     }
     Ok(sums)

@@ -6,7 +6,9 @@ use Rattle.te_model.proofs.SoundLinks.{costs_small}
 use Rattle.te_model.proofs.WellFormed.{links_join}
 use Rattle.std.proofs.lemmas.List.{get_or_read, nil_from_length}
 use Rattle.ecmp_split.specs.Equal.{next_count, equal_part}
+use Rattle.ecmp_split.specs.declared.next.NextLink.{NextLink}
 use Rattle.ecmp_split.proofs.Collecting.{not_some}
+use Rattle.ecmp_split.proofs.HopsMade.{listed_as}
 use Rattle.ecmp_split.proofs.Parts.{equal_part-le}
 use Rattle.ecmp_split.proofs.Sharing.{IsSharing, last_waiting, sharing_start, sharing_more, sharing_end}
 use Rattle.ecmp_split.proofs.splitting.share_out.Goals as goal
@@ -17,54 +19,61 @@ read_at xs i j x read inside same = get_or_read xs i x (omega (arith, same, insi
 pub loop-next-init : goal.loop-next-init
 loop-next-init c =
     let net = c.args.net.now in
-    let n = length c.args.sums.now in
+    let costs = c.args.hops.now.costs in
+    let s = c.args.src in
+    let n = length c.as_slice-counts.result.now in
     let m = length c.as_slice-links.result.now in
     let flow : c.in_ok-flow.flow.items ≡ replicate m 0 = search rules in
     let arrived : c.in_ok-arrived.arrived.items ≡ replicate n 0 = search rules in
-    subst (λ (l : List ℕ). IsSharing net c.args.sums.now c.args.src c.in_ok-waiting.waiting.items l (set c.in_ok-arrived.arrived.items c.args.src SHARE_UNIT)) (sym flow)
-    (subst (λ (l : List ℕ). IsSharing net c.args.sums.now c.args.src c.in_ok-waiting.waiting.items (replicate m 0) (set l c.args.src SHARE_UNIT)) (sym arrived)
-    (sharing_start net c.args.sums.now c.args.src c.in_ok-list.field-0.list.items c.in_ok-waiting.waiting.items c.in_ok-list.field-0.counts.items n m c.requires.src
-    c.in_ok-list.ensures c.in_ok-waiting.ensures.same c.in_ok-waiting.ensures.order c.requires.sums (ap (λ (l : List Link). length l) c.as_slice-links.ensures)))
+    let waiting : c.in_ok-waiting.waiting.items ≡ c.args.hops.now.links = c.in_ok-waiting.ensures.items ∙ c.as_slice.ensures in
+    let listed = listed_as net c.args.hops.now c.requires.hops.0 c.as_slice-counts.result.now c.requires.hops.1 c.as_slice-counts.ensures in
+    subst (λ (l : List ℕ). IsSharing net costs s c.in_ok-waiting.waiting.items l (set c.in_ok-arrived.arrived.items s SHARE_UNIT)) (sym flow)
+    (subst (λ (l : List ℕ). IsSharing net costs s c.in_ok-waiting.waiting.items (replicate m 0) (set l s SHARE_UNIT)) (sym arrived)
+    (subst (λ (l : List NextLink). IsSharing net costs s l (replicate m 0) (set (replicate n 0) s SHARE_UNIT)) (sym waiting)
+    (sharing_start net costs s c.args.hops.now.links c.as_slice-counts.result.now n m c.requires.src listed c.requires.hops.1.rises listed.size
+    (ap (λ (l : List Link). length l) c.as_slice-links.ensures))))
 
 pub index-requires : goal.index-requires
 index-requires c =
     let net = c.args.net.now in
     let x = c.in-Some.next in
-    let last = last_waiting net c.args.sums.now c.args.src c.loop-next.waiting.items c.pop.new.self.items x c.loop-next.flow.items c.loop-next.arrived.items
-    c.in_ok-list.field-0.counts.items c.in_ok-list.field-0.list.items (links_join net c.requires.network) c.loop-next.invariant c.in-Some.ensures.items c.in_ok-list.ensures
+    let listed = listed_as net c.args.hops.now c.requires.hops.0 c.as_slice-counts.result.now c.requires.hops.1 c.as_slice-counts.ensures in
+    let last = last_waiting net c.args.hops.now.costs c.args.src c.loop-next.waiting.items c.pop.new.self.items x c.loop-next.flow.items c.loop-next.arrived.items
+    c.as_slice-counts.result.now c.args.hops.now.links (links_join net c.requires.network) c.loop-next.invariant c.in-Some.ensures.items listed
     in
     let tail = ap (λ (l : List Link). (get_or l x.link no_link).tail) c.as_slice-links.ensures in
     omega (arith, tail, last.tail_arrived, c.loop-next.arrived.ok.0)
 
-pub index-requires-in-Some : goal.index-requires-in-Some
-index-requires-in-Some c =
+pub bounds-counts-tail : goal.bounds-counts-tail
+bounds-counts-tail c =
     let net = c.args.net.now in
     let x = c.in-Some.next in
-    let last = last_waiting net c.args.sums.now c.args.src c.loop-next.waiting.items c.pop.new.self.items x c.loop-next.flow.items c.loop-next.arrived.items
-    c.in_ok-list.field-0.counts.items c.in_ok-list.field-0.list.items (links_join net c.requires.network) c.loop-next.invariant c.in-Some.ensures.items c.in_ok-list.ensures
+    let listed = listed_as net c.args.hops.now c.requires.hops.0 c.as_slice-counts.result.now c.requires.hops.1 c.as_slice-counts.ensures in
+    let last = last_waiting net c.args.hops.now.costs c.args.src c.loop-next.waiting.items c.pop.new.self.items x c.loop-next.flow.items c.loop-next.arrived.items
+    c.as_slice-counts.result.now c.args.hops.now.links (links_join net c.requires.network) c.loop-next.invariant c.in-Some.ensures.items listed
     in
     let tail = ap (λ (l : List Link). (get_or l x.link no_link).tail) c.as_slice-links.ensures in
-    omega (arith, tail, last.tail_counted, c.in_ok-list.field-0.counts.ok.0)
+    omega (arith, tail, last.tail_counted)
 
 pub equal_part-part-requires-clause-some : goal.equal_part-part-requires-clause-some
 equal_part-part-requires-clause-some c =
     let net = c.args.net.now in
     let x = c.in-Some.next in
-    let last = last_waiting net c.args.sums.now c.args.src c.loop-next.waiting.items c.pop.new.self.items x c.loop-next.flow.items c.loop-next.arrived.items
-    c.in_ok-list.field-0.counts.items c.in_ok-list.field-0.list.items (links_join net c.requires.network) c.loop-next.invariant c.in-Some.ensures.items c.in_ok-list.ensures
+    let listed = listed_as net c.args.hops.now c.requires.hops.0 c.as_slice-counts.result.now c.requires.hops.1 c.as_slice-counts.ensures in
+    let last = last_waiting net c.args.hops.now.costs c.args.src c.loop-next.waiting.items c.pop.new.self.items x c.loop-next.flow.items c.loop-next.arrived.items
+    c.as_slice-counts.result.now c.args.hops.now.links (links_join net c.requires.network) c.loop-next.invariant c.in-Some.ensures.items listed
     in
     let tail = ap (λ (l : List Link). (get_or l x.link no_link).tail) c.as_slice-links.ensures in
-    let count = read_at c.in_ok-list.field-0.counts.items (get_or c.as_slice-links.result.now x.link no_link).tail (tail_of net x.link) c.index-in-Some.result.now
-    c.index-in-Some.ensures last.tail_counted tail
-    in
+    let count = ap (slice_index c.as_slice-counts.result.now) tail in
     omega (arith, count, last.some)
 
 pub equal_part-part-requires-clause-units : goal.equal_part-part-requires-clause-units
 equal_part-part-requires-clause-units c =
     let net = c.args.net.now in
     let x = c.in-Some.next in
-    let last = last_waiting net c.args.sums.now c.args.src c.loop-next.waiting.items c.pop.new.self.items x c.loop-next.flow.items c.loop-next.arrived.items
-    c.in_ok-list.field-0.counts.items c.in_ok-list.field-0.list.items (links_join net c.requires.network) c.loop-next.invariant c.in-Some.ensures.items c.in_ok-list.ensures
+    let listed = listed_as net c.args.hops.now c.requires.hops.0 c.as_slice-counts.result.now c.requires.hops.1 c.as_slice-counts.ensures in
+    let last = last_waiting net c.args.hops.now.costs c.args.src c.loop-next.waiting.items c.pop.new.self.items x c.loop-next.flow.items c.loop-next.arrived.items
+    c.as_slice-counts.result.now c.args.hops.now.links (links_join net c.requires.network) c.loop-next.invariant c.in-Some.ensures.items listed
     in
     let tail = ap (λ (l : List Link). (get_or l x.link no_link).tail) c.as_slice-links.ensures in
     let units = read_at c.loop-next.arrived.items (get_or c.as_slice-links.result.now x.link no_link).tail (tail_of net x.link) c.index.result.now c.index.ensures
@@ -76,8 +85,9 @@ pub index_mut-requires-in-Some : goal.index_mut-requires-in-Some
 index_mut-requires-in-Some c =
     let net = c.args.net.now in
     let x = c.in-Some.next in
-    let last = last_waiting net c.args.sums.now c.args.src c.loop-next.waiting.items c.pop.new.self.items x c.loop-next.flow.items c.loop-next.arrived.items
-    c.in_ok-list.field-0.counts.items c.in_ok-list.field-0.list.items (links_join net c.requires.network) c.loop-next.invariant c.in-Some.ensures.items c.in_ok-list.ensures
+    let listed = listed_as net c.args.hops.now c.requires.hops.0 c.as_slice-counts.result.now c.requires.hops.1 c.as_slice-counts.ensures in
+    let last = last_waiting net c.args.hops.now.costs c.args.src c.loop-next.waiting.items c.pop.new.self.items x c.loop-next.flow.items c.loop-next.arrived.items
+    c.as_slice-counts.result.now c.args.hops.now.links (links_join net c.requires.network) c.loop-next.invariant c.in-Some.ensures.items listed
     in
     omega (arith, last.in_flow, c.loop-next.flow.ok.0)
 
@@ -85,8 +95,9 @@ pub index_mut-requires-in-Some-2 : goal.index_mut-requires-in-Some-2
 index_mut-requires-in-Some-2 c =
     let net = c.args.net.now in
     let x = c.in-Some.next in
-    let last = last_waiting net c.args.sums.now c.args.src c.loop-next.waiting.items c.pop.new.self.items x c.loop-next.flow.items c.loop-next.arrived.items
-    c.in_ok-list.field-0.counts.items c.in_ok-list.field-0.list.items (links_join net c.requires.network) c.loop-next.invariant c.in-Some.ensures.items c.in_ok-list.ensures
+    let listed = listed_as net c.args.hops.now c.requires.hops.0 c.as_slice-counts.result.now c.requires.hops.1 c.as_slice-counts.ensures in
+    let last = last_waiting net c.args.hops.now.costs c.args.src c.loop-next.waiting.items c.pop.new.self.items x c.loop-next.flow.items c.loop-next.arrived.items
+    c.as_slice-counts.result.now c.args.hops.now.links (links_join net c.requires.network) c.loop-next.invariant c.in-Some.ensures.items listed
     in
     let head = ap (λ (l : List Link). (get_or l x.link no_link).head) c.as_slice-links.ensures in
     omega (arith, head, last.head_arrived, c.loop-next.arrived.ok.0)
@@ -95,49 +106,47 @@ pub overflow_add-index_mut : goal.overflow_add-index_mut
 overflow_add-index_mut c =
     let net = c.args.net.now in
     let x = c.in-Some.next in
-    let last = last_waiting net c.args.sums.now c.args.src c.loop-next.waiting.items c.pop.new.self.items x c.loop-next.flow.items c.loop-next.arrived.items
-    c.in_ok-list.field-0.counts.items c.in_ok-list.field-0.list.items (links_join net c.requires.network) c.loop-next.invariant c.in-Some.ensures.items c.in_ok-list.ensures
+    let listed = listed_as net c.args.hops.now c.requires.hops.0 c.as_slice-counts.result.now c.requires.hops.1 c.as_slice-counts.ensures in
+    let last = last_waiting net c.args.hops.now.costs c.args.src c.loop-next.waiting.items c.pop.new.self.items x c.loop-next.flow.items c.loop-next.arrived.items
+    c.as_slice-counts.result.now c.args.hops.now.links (links_join net c.requires.network) c.loop-next.invariant c.in-Some.ensures.items listed
     in
     let tail = ap (λ (l : List Link). (get_or l x.link no_link).tail) c.as_slice-links.ensures in
     let head = ap (λ (l : List Link). (get_or l x.link no_link).head) c.as_slice-links.ensures in
-    let count = read_at c.in_ok-list.field-0.counts.items (get_or c.as_slice-links.result.now x.link no_link).tail (tail_of net x.link) c.index-in-Some.result.now
-    c.index-in-Some.ensures last.tail_counted tail
-    in
+    let count = ap (slice_index c.as_slice-counts.result.now) tail in
     let units = read_at c.loop-next.arrived.items (get_or c.as_slice-links.result.now x.link no_link).tail (tail_of net x.link) c.index.result.now c.index.ensures
     last.tail_arrived tail
     in
     let old = read_at c.loop-next.arrived.items (get_or c.as_slice-links.result.now x.link no_link).head (head_of net x.link) c.index_mut-in-Some-2.result.now
     c.index_mut-in-Some-2.ensures.value last.head_arrived head
     in
-    let part = equal_part-le c.index.result.now c.index-in-Some.result.now x.place (omega (arith, count, last.some)) in
+    let part = equal_part-le c.index.result.now (slice_index c.as_slice-counts.result.now (get_or c.as_slice-links.result.now x.link no_link).tail) x.place (omega (arith, count, last.some)) in
     omega (arith, old, last.old, c.equal_part-part.ensures, part, units, last.units)
 
 pub loop-next-preserved : goal.loop-next-preserved
 loop-next-preserved c =
     let net = c.args.net.now in
     let x = c.in-Some.next in
-    let last = last_waiting net c.args.sums.now c.args.src c.loop-next.waiting.items c.pop.new.self.items x c.loop-next.flow.items c.loop-next.arrived.items
-    c.in_ok-list.field-0.counts.items c.in_ok-list.field-0.list.items (links_join net c.requires.network) c.loop-next.invariant c.in-Some.ensures.items c.in_ok-list.ensures
+    let listed = listed_as net c.args.hops.now c.requires.hops.0 c.as_slice-counts.result.now c.requires.hops.1 c.as_slice-counts.ensures in
+    let last = last_waiting net c.args.hops.now.costs c.args.src c.loop-next.waiting.items c.pop.new.self.items x c.loop-next.flow.items c.loop-next.arrived.items
+    c.as_slice-counts.result.now c.args.hops.now.links (links_join net c.requires.network) c.loop-next.invariant c.in-Some.ensures.items listed
     in
     let tail = ap (λ (l : List Link). (get_or l x.link no_link).tail) c.as_slice-links.ensures in
     let head = ap (λ (l : List Link). (get_or l x.link no_link).head) c.as_slice-links.ensures in
-    let count = read_at c.in_ok-list.field-0.counts.items (get_or c.as_slice-links.result.now x.link no_link).tail (tail_of net x.link) c.index-in-Some.result.now
-    c.index-in-Some.ensures last.tail_counted tail
-    in
+    let count = ap (slice_index c.as_slice-counts.result.now) tail in
     let units = read_at c.loop-next.arrived.items (get_or c.as_slice-links.result.now x.link no_link).tail (tail_of net x.link) c.index.result.now c.index.ensures
     last.tail_arrived tail
     in
     let old = read_at c.loop-next.arrived.items (get_or c.as_slice-links.result.now x.link no_link).head (head_of net x.link) c.index_mut-in-Some-2.result.now
     c.index_mut-in-Some-2.ensures.value last.head_arrived head
     in
-    let sums = c.args.sums.now in
+    let sums = c.args.hops.now.costs in
     let rest = c.pop.new.self.items in
     let flow = c.loop-next.flow.items in
     let arrived = c.loop-next.arrived.items in
     let part = c.equal_part-part.result in
     let is_part : part ≡ equal_part (slice_index arrived (tail_of net x.link)) (next_count net sums (tail_of net x.link)) x.place =
     c.equal_part-part.ensures
-    ∙ (ap (λ u. equal_part u c.index-in-Some.result.now x.place) units
+    ∙ (ap (λ u. equal_part u (slice_index c.as_slice-counts.result.now (get_or c.as_slice-links.result.now x.link no_link).tail) x.place) units
     ∙ ap (λ n. equal_part (slice_index arrived (tail_of net x.link)) n x.place) (count ∙ last.count))
     in
     let more = sharing_more net sums c.args.src rest x flow arrived part (links_join net c.requires.network) c.requires.src
@@ -151,6 +160,6 @@ returns c =
     let empty = not_some c.pop.result _ _ c.pop.ensures.cases c.in_default.not-Some in
     record {
       count = c.loop-next.invariant.flow_size;
-      parts = sharing_end c.args.net.now c.args.sums.now c.args.src c.loop-next.waiting.items c.loop-next.flow.items c.loop-next.arrived.items c.loop-next.invariant
+      parts = sharing_end c.args.net.now c.args.hops.now.costs c.args.src c.loop-next.waiting.items c.loop-next.flow.items c.loop-next.arrived.items c.loop-next.invariant
           (nil_from_length c.loop-next.waiting.items (omega (arith, empty, c.loop-next.waiting.ok.0)));
     }

@@ -1,6 +1,6 @@
 use Rattle.std.proofs.Common.{sym, ◌∙◌}
 use Rattle.k_paths.specs.Ways.{sum_over}
-use Rattle.k_paths.proofs.LeastWays.{so_far_skip, so_far_more}
+use Rattle.k_paths.proofs.FirstLeast.{so_far_skip, so_far_more}
 use Rattle.k_paths.proofs.direct.first_link.Goals as goal
 use Rattle.k_paths.proofs.direct.first_link.Goals.{in-Some, in_default}
 

@@ -1,5 +1,5 @@
 use Rattle.k_paths.specs.Ways.{sum_over}
-use Rattle.k_paths.proofs.LeastWays.{IsFirstSoFar}
+use Rattle.k_paths.proofs.FirstLeast.{IsFirstSoFar}
 use Rattle.k_paths.proofs.direct.first_link.Given as goal
 
 abbrev pub invariant-loop-h : goal.invariant-loop-h

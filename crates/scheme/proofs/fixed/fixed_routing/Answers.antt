@@ -1,14 +1,17 @@
-use Rattle.std.proofs.Common.{◌≡◌, ◌+◌, ◌<◌, List, [], ◌∷◌, ◌++◌, true, length, get_or, arith, ap, sym, subst, rules}
-use Rattle.std.specs.Prelude.{IfSome, IfNone}
+use Rattle.std.proofs.Common.{◌≡◌, ◌+◌, ◌<◌, List, [], ◌∷◌, ◌++◌, true, length, get_or, arith, ap, sym, subst, rules, Option, None, slice_index_or}
+use Rattle.std.specs.Prelude.{IfSome, IfNone, IsSomeAnd}
+use Rattle.std.proofs.lemmas.List.Elements.{All-get_or}
 use Rattle.te_model.specs.declared.route.Pair.{Pair}
 use Rattle.te_model.specs.declared.route.PairRoutes.{PairRoutes}
+use Rattle.te_model.specs.Network.{node_count}
 use Rattle.shortest_path.specs.Paths.{HasPath}
 use Rattle.routing.specs.Split.{are_splits}
 use Rattle.routing.proofs.Splits.{splits_of}
 use Rattle.scheme.specs.Fixed.{IsSplitBy}
-use Rattle.scheme.specs.Reach.{no_pair, pair_at}
+use Rattle.scheme.specs.Reach.{no_pair, pair_at, IsPairOf}
 use Rattle.scheme.proofs.Plans.{RoutesSoFar, routes_more, routes_done, reached_at}
 use Rattle.scheme.proofs.fixed.fixed_routing.Goals as goal
+use Rattle.scheme.proofs.Towards.{pair_sends}
 
 pub returns-in-None-clause-fault : goal.returns-in-None-clause-fault
 returns-in-None-clause-fault g c =
@@ -56,3 +59,27 @@ returns-clause-reached g c =
     let every : c.loop-p.p ≡ length pairs = omega (arith, c.loop-p-test.false, c.loop-p.auto.p-end, ap (λ (l : List Pair). length l) c.as_slice-list.ensures) in
     λ q below. reached_at (g.S.PairSplit.splits c.args.rule.now) g.S.PairSplit.limit c.args.net.now pairs c.loop-p.p c.loop-p.routes.items c.loop-p.invariant
     c.requires.pairs (omega arith) q (omega (arith, every, below))
+
+pub split_toward-requires-clause-inside : goal.split_toward-requires-clause-inside
+split_toward-requires-clause-inside g c =
+    let pairs = c.args.pairs.now.list in
+    let p = c.loop-p.p in
+    let inside : p < length pairs = omega (arith, c.loop-p-test.true, ap (λ (l : List Pair). length l) c.as_slice-list.ensures) in
+    let at : get_or c.as_slice-list.result.now p no_pair ≡ pair_at pairs p = ap (λ (l : List Pair). get_or l p no_pair) c.as_slice-list.ensures in
+    let ends = All-get_or (IsPairOf c.args.net.now) pairs p no_pair inside c.requires.pairs.each in
+    let size = ap (λ (l : List (Option g.row.S-Toward.Denot)). length l) c.deref.ensures.value in
+    omega (arith, ends.dst_inside, ap (λ (x : Pair). x.dst) at, size, c.in_ok-towards.ensures.count)
+
+pub split_toward-requires-clause-prepared : goal.split_toward-requires-clause-prepared
+split_toward-requires-clause-prepared g c =
+    let net = c.args.net.now in
+    let pairs = c.args.pairs.now.list in
+    let list = c.as_slice-list.result.now in
+    let p = c.loop-p.p in
+    let inside : p < length pairs = omega (arith, c.loop-p-test.true, ap (λ (l : List Pair). length l) c.as_slice-list.ensures) in
+    let at : pair_at list p ≡ pair_at pairs p = ap (λ (l : List Pair). get_or l p no_pair) c.as_slice-list.ensures in
+    let ends = All-get_or (IsPairOf net) pairs p no_pair inside c.requires.pairs.each in
+    let dst = (pair_at list p).dst in
+    let below : dst < node_count net = omega (arith, ends.dst_inside, ap (λ (x : Pair). x.dst) at) in
+    subst (λ (l : List (Option g.row.S-Toward.Denot)). IsSomeAnd (slice_index_or l dst None) (g.S.PairSplit.is_toward c.args.rule.now net dst)) (sym c.deref.ensures.value)
+    (c.in_ok-towards.ensures.each dst below (pair_sends list p c.loop-p-test.true))

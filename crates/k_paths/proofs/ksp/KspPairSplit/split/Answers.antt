@@ -1,7 +1,8 @@
-use Rattle.std.proofs.Common.{◌≡◌, inl, inr, ℕ, ◌≤◌, List, [], map, arith, sym, ◌∙◌, vec_len}
+use Rattle.std.proofs.Common.{◌≡◌, inl, inr, ℕ, ◌≤◌, List, [], map, arith, sym, ◌∙◌, subst, vec_len}
 use Rattle.std.proofs.lemmas.Bool.{cases_lt, eq-eqb, eqb-true, false≢true}
 use Rattle.std.proofs.lemmas.List.{length-map, nil_from_length}
 use Rattle.te_model.specs.declared.route.Path.{Path}
+use Rattle.k_paths.specs.Classes.{AreLeast}
 use Rattle.k_paths.proofs.EvenSplits.{least_split, none_least}
 use Rattle.k_paths.proofs.ksp.KspPairSplit.split.Goals as goal
 
@@ -15,7 +16,8 @@ returns-then-is_empty-clause-none c =
     let none : links_in_order paths ≡ [] =
     nil_from_length (links_in_order paths) (omega (arith, count, length-map paths (λ (p : Path). p.links), c.in_ok-paths.paths.ok.0))
     in
-    none_least c.args.net.now c.args.pair.src c.args.pair.dst c.args.self.now.k (links_in_order paths) c.args.self.now.some c.in_ok-paths.ensures none
+    none_least c.args.net.now c.args.pair.src c.args.pair.dst c.args.self.now.k (links_in_order paths) c.args.self.now.some
+    (subst (λ t. AreLeast c.args.net.now c.args.pair.src t c.args.self.now.k (links_in_order paths)) c.requires.toward.1 c.in_ok-paths.ensures) none
 
 pub returns-clause-some : goal.returns-clause-some
 returns-clause-some c =
@@ -27,4 +29,8 @@ returns-clause-some c =
     ]
     in
     least_split c.args.net.now c.args.pair c.args.self.now.k order c.in_ok-merged.merged.items c.args.self.now.few
-    (omega (arith, some, length-map paths.items (λ (p : Path). p.links), paths.ok.0)) c.in_ok-paths.ensures c.in_ok-merged.ensures
+    (omega (arith, some, length-map paths.items (λ (p : Path). p.links), paths.ok.0))
+    (subst (λ t. AreLeast c.args.net.now c.args.pair.src t c.args.self.now.k order) c.requires.toward.1 c.in_ok-paths.ensures) c.in_ok-merged.ensures
+
+pub k_least_by-requires-clause-apart : goal.k_least_by-requires-clause-apart
+k_least_by-requires-clause-apart c = λ e. c.requires.pair.apart (e ∙ c.requires.toward.1)
