@@ -4,3 +4,15 @@ pub mod Limits
 pub mod Ahead
 pub mod Sizes
 pub mod Items
+pub mod Steps
+pub mod Small
+pub mod PartLaws
+pub mod Placing
+pub mod Reading
+pub mod Filling
+pub mod Answering
+pub mod Closing
+pub mod Beginning
+pub mod Handing
+pub mod Advancing
+pub mod Starting

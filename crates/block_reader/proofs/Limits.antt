@@ -1,13 +1,9 @@
 -- A window's limit is that of a file that begins with what reads gave, and goes on being it.
-use Rattle.std.proofs.Common.{◌≡◌, ◌∙◌, ℕ, ◌≤◌, List, ◌++◌, length, refl, sym, ap, append_assoc}
-use Rattle.std.proofs.lemmas.List.{take-append-le}
+use Rattle.std.proofs.Common.{◌≡◌, ◌∙◌, ℕ, ◌≤◌, List, ◌++◌, length, sym, ap, append_assoc}
 use Rattle.te_model.specs.FileLimit.{file_limit}
+use Rattle.te_model.proofs.FileLimits.{line_settles}
 use Rattle.block_reader.specs.declared.window.Window.{Window}
 use Rattle.block_reader.specs.Standing.{ready, limit_of}
-
--- once the first line can stand whole, more bytes do not change the limit
-pub line_settles : (front rest : List ℕ) → 14 ≤ length front → file_limit (front ++ rest) ≡ file_limit front
-line_settles front rest whole = rw (take-append-le 14 front rest whole) refl
 
 pub limit_after_more : (w w' : Window) (passed more : List ℕ) → 14 ≤ length (passed ++ ready w) → ready w' ≡ ready w ++ more →
     limit_of w' ≡ limit_of w → limit_of w ≡ file_limit (passed ++ ready w) → limit_of w' ≡ file_limit (passed ++ ready w')

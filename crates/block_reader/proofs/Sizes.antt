@@ -1,14 +1,15 @@
 -- How far reading of each part of a certificate looks, in either format.
-use Rattle.std.proofs.Common.{◌≡◌, ℕ, ◌+◌, ◌-◌, ◌*◌, ◌≤◌, Bool, true, false, cond, List, [], ◌∷◌, length, Result, Ok, Err, refl, subst, arith, eqb, get_or}
+use Rattle.std.proofs.Common.{◌≡◌, ℕ, ◌+◌, ◌-◌, ◌*◌, ◌≤◌, Bool, true, false, cond, List, [], ◌∷◌, length, Ok, refl, subst, arith, eqb, get_or}
 use Rattle.std.specs.Prelude.{codes}
 use Rattle.te_model.specs.declared.demand.DemandSet.TheVariants.{All, Margin, Box}
 use Rattle.te_model.specs.declared.limits.Limits.{Limits}
 use Rattle.cert_text.specs.declared.limits.Counts.{Counts}
-use Rattle.cert_text.specs.Place.{Place, ◌>>=◌}
+use Rattle.cert_text.specs.Place.{◌>>=◌}
 use Rattle.cert_text.specs.Reading.{byte_at, word_at, line_end_at, number_at, count_at, narrow_at, next_number_at, next_narrow_at, next_count_at, many_at, name_at}
 use Rattle.cert_text.specs.Grammar.{counted_at, listing_at, name_line_at, link_line_at, network_at, path_at, pair_at, all_at, margin_at, box_at, has_boxes, bounds_at, set_at, ratio_at, number_line_at, row_at, sides_at, block_at, digit_at, format_at, closing_at}
 use Rattle.cert_text.proofs.Productions.{counted_takes}
-use Rattle.cert_text.proofs.Local.{silent, quiet, regroup_silent}
+use Rattle.cert_text.proofs.Local.{silent}
+use Rattle.cert_text.proofs.Steady.{last, regroup_three}
 use Rattle.block_reader.specs.Sizes.{format_size, network_size, path_size, pair_size, listing_size, set_size, ratio_size, count_size, row_size, block_size, closing_size}
 use Rattle.block_reader.specs.Ahead.{IsAhead}
 use Rattle.block_reader.proofs.Ahead.{Gives, then_ahead, then_any, then_quiet, done_ahead, ahead_more, ahead_same, byte_ahead, word_ahead, line_end_ahead, number_ahead, count_ahead, narrow_ahead, next_number_ahead, next_narrow_ahead, next_count_ahead, next_count_gives, count_within, many_ahead, some_ahead, name_ahead, fork_ahead, end_ahead}
@@ -218,13 +219,6 @@ unfolding format_at
 format_ahead =
     then_quiet 12 2 (word_at (codes "yates-ratio ")) (λ a. cond (eqb (get_or a.rest 0 0) 50) (digit_at 2 a) (digit_at 1 a)) (word_of (codes "yates-ratio ") 12 refl)
     (fork_ahead 50 2 (digit_at 2) (digit_at 1) (omega arith) (digit_ahead 2) (digit_ahead 1))
-
-abbrev last : Place → Result Place ℕ
-last e = cond (eqb (length e.rest) 0) (Ok e) (Err e.line)
-
-regroup_three : (r : Result Place ℕ) (f g : Place → Result Place ℕ) → (r >>= λ a. f a >>= silent g) ≡ ((r >>= λ a. f a >>= g) >>= quiet)
-regroup_three (Ok q) f g = regroup_silent (f q) g
-regroup_three (Err k) f g = refl
 
 pub closing_ahead : IsAhead closing_size (silent closing_at)
 unfolding closing_at

@@ -1,3 +1,9 @@
 pub mod Standing
 pub mod Ahead
 pub mod Sizes
+pub mod Step
+pub mod Parts
+pub mod Room
+pub mod Depots
+pub mod Answers
+pub mod Blocks

@@ -1,10 +1,15 @@
 //! A window over files in memory.
 ghost use Rattle.std.specs.Prelude.{◌≤◌};
 
-use crate::{State, Window};
+use crate::lines::Lines;
+use crate::opening::first_line;
+use crate::{State, StreamFault, Window};
 use std::alloc::Global;
 use std::test::Fail;
 use te_ports::{Depot, MemDepot, RecordDepot};
+
+// How many bytes a window holds at least from which a certificate is read.
+const CERTIFICATE_ROOM: usize = 1_310_720;
 
 // How many bytes a window holds, and how many are asked for and passed at once.
 const ROOM: usize = 5;
@@ -78,5 +83,21 @@ fn a_window_at_the_start_is_drained(rt: HostRuntime) -> Result<(), Fail> {
     window.drain(&mut depot, "file");
     assert_eq!(rt; window.state(), State::Ended);
     assert_eq!(rt; window.ready(), "".as_bytes());
+    Ok(())
+}
+
+#[test]
+fn a_file_past_its_limit_is_too_long(rt: HostRuntime) -> Result<(), Fail> {
+    let alloc = rt.alloc();
+    for (limit, fault) in [(19, StreamFault::Shape(1)), (18, StreamFault::TooLong)] {
+        let mut depot = MemDepot::new(alloc, 3)?;
+        depot.add("file", b"yates-ratio 3\nnodes")?;
+        let mut lines = match Lines::at_start(Window::new(alloc, CERTIFICATE_ROOM, limit)?) {
+            Ok(lines) => lines,
+            Err(_) => return Err(Fail::from("lines")),
+        };
+        let read = first_line(alloc, &mut depot, "file", &mut lines);
+        assert_eq!(rt; read.err(), Some(fault));
+    }
     Ok(())
 }

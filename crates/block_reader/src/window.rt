@@ -180,6 +180,7 @@ impl Window {
         ensures told { Told (D.content depot.old name.now) (λ told. (passed : List ℕ) →
             StandsIn told self.old passed → StandsIn told self.new passed) }
         ensures behind { (more : List ℕ) × (ready self.new ≡ ready self.old ++ more) }
+        ensures count { fetched_of self.new + length (ready self.old) ≡ fetched_of self.old + length (ready self.new) }
         ensures fewer { left_of self.new < left_of self.old }
         ensures front { self.new.start ≡ self.old.start }
         ensures room { room_of self.new ≡ room_of self.old }
@@ -217,6 +218,7 @@ impl Window {
             StandsIn told self.old passed → StandsIn told self.new passed) }
         ensures enough { state_of self.new ≡ State.Open → wanted ≤ length (ready self.new) }
         ensures behind { (more : List ℕ) × (ready self.new ≡ ready self.old ++ more) }
+        ensures count { fetched_of self.new + length (ready self.old) ≡ fetched_of self.old + length (ready self.new) }
         ensures closed { state_of self.old ≢ State.Open → (state_of self.new ≡ state_of self.old) × (ready self.new ≡ ready self.old) }
         ensures room { room_of self.new ≡ room_of self.old }
         ensures limit { limit_of self.new ≡ limit_of self.old }
@@ -246,6 +248,8 @@ impl Window {
         ensures told { Told (D.content depot.old name.now) (λ told. (passed : List ℕ) → StandsIn told self.old passed →
             (more : List ℕ) × StandsIn told self.new (passed ++ more)) }
         ensures none { ready self.new ≡ [] }
+        ensures count { fetched_of self.old ≤ fetched_of self.new }
+        ensures still { state_of self.old ≢ State.Open → fetched_of self.new ≡ fetched_of self.old }
         ensures closed { state_of self.new ≢ State.Open }
         ensures same { state_of self.old ≢ State.Open → state_of self.new ≡ state_of self.old }
         ensures room { room_of self.new ≡ room_of self.old }

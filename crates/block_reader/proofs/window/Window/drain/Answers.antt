@@ -1,4 +1,4 @@
-use Rattle.std.proofs.Common.{◌≡◌, ◌≢◌, ◌∙◌, ◌++◌, refl, sym, ap, subst, inl, inr, arith, rules, append_assoc}
+use Rattle.std.proofs.Common.{◌≡◌, ◌≢◌, ◌∙◌, ◌++◌, refl, sym, ap, subst, inl, inr, arith, rules, append_assoc, length, length-append}
 use Rattle.te_ports.specs.Ports.{Rose}
 use Rattle.block_reader.specs.declared.window.State.TheVariants.{Open, Failed}
 use Rattle.block_reader.specs.Standing.{ready, StandsAt, StandsIn}
@@ -21,6 +21,8 @@ pieces-init g c =
       (λ is. refl),
       (λ other. omega arith),
       (λ other at bytes given. given),
+      omega (arith, clear.fetched),
+      (λ closed. clear.fetched),
     )
 
 pub pieces-preserved : goal.pieces-preserved
@@ -54,4 +56,6 @@ pieces-preserved g c =
       (λ is. next.steady (λ failed. is (clear.state ∙ failed)) ∙ all.9 sound),
       (λ other. omega (arith, all.10 other, next.later other)),
       (λ other at bytes given. next.kept other at bytes (all.11 other at bytes given)),
+      omega (arith, all.12, clear.fetched, next.count, ap length next.behind.1, length-append (ready c.pieces.self) next.behind.0),
+      (λ closed. absurd (closed (sym (all.7 closed).0 ∙ is_open))),
     )

@@ -25,4 +25,5 @@ pieces-preserved g c =
       (λ is. next.steady is ∙ all.8 sound),
       (λ other. omega (arith, all.9 other, next.later other)),
       (λ other at bytes given. next.kept other at bytes (all.10 other at bytes given)),
+      omega (arith, all.11, next.count),
     )

@@ -1,8 +1,8 @@
-use Rattle.std.proofs.Common.{◌≡◌, ◌≢◌, ◌+◌, ◌≤◌, ℕ, List, ◌++◌}
+use Rattle.std.proofs.Common.{◌≡◌, ◌≢◌, ◌+◌, ◌≤◌, ℕ, List, ◌++◌, length}
 use Rattle.te_ports.specs.Ports.{Rose, Told}
 use Rattle.te_ports.specs.Record.{Grows}
 use Rattle.block_reader.specs.declared.window.State.TheVariants.{Failed}
-use Rattle.block_reader.specs.Standing.{ready, state_of, room_of, limit_of, left_of, StandsAt, StandsIn}
+use Rattle.block_reader.specs.Standing.{ready, fetched_of, state_of, room_of, limit_of, left_of, StandsAt, StandsIn}
 use Rattle.block_reader.proofs.window.Window.fill.Given as goal
 
 abbrev pub invariant-pieces : goal.invariant-pieces
@@ -18,6 +18,7 @@ invariant-pieces g l =
     × (state_of l.self ≢ Failed → g.D.Depot.faults l.depot ≡ g.D.Depot.faults l.fn.depot)
     × ((other : List ℕ) → g.D.Depot.faults l.fn.depot other ≤ g.D.Depot.faults l.depot other)
     × Grows (g.D.Depot.gave l.fn.depot) (g.D.Depot.gave l.depot)
+    × (fetched_of l.self + length (ready l.fn.self) ≡ fetched_of l.fn.self + length (ready l.self))
 
 abbrev pub decreases-pieces : goal.decreases-pieces
 decreases-pieces g l = left_of l.self

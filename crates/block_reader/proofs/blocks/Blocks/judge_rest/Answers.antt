@@ -1,0 +1,5 @@
+use Rattle.std.proofs.Common.{refl}
+use Rattle.block_reader.proofs.blocks.Blocks.judge_rest.Goals as goal
+
+pub returns-in-Err-clause-refused : goal.returns-in-Err-clause-refused
+returns-in-Err-clause-refused g c = λ head blocks are first. c.in-Err.ensures.refused c.in-Err.fault refl head blocks are

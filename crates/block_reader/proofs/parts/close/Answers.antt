@@ -1,0 +1,34 @@
+use Rattle.std.proofs.Common.{◌≡◌, Err, ap, subst}
+use Rattle.cert_text.specs.declared.fault.Stop.{Stop}
+use Rattle.block_reader.specs.Answers.{StopsAs, place_of}
+use Rattle.std.proofs.lemmas.Result.{err_from_is_err_and}
+use Rattle.cert_text.specs.Grammar.{closing_at}
+use Rattle.block_reader.specs.Ahead.{passing}
+use Rattle.block_reader.specs.Sizes.{closing_size}
+use Rattle.block_reader.proofs.Sizes.{closing_ahead}
+use Rattle.block_reader.proofs.Answering.{part_stops}
+use Rattle.block_reader.proofs.Closing.{closes, closing_stops}
+use Rattle.block_reader.proofs.Reading.{reads_then, reads_err}
+use Rattle.block_reader.proofs.parts.close.Goals as goal
+
+pub returns-in_err-fill-clause-reads : goal.returns-in_err-fill-clause-reads
+returns-in_err-fill-clause-reads g c =
+    let p = err_from_is_err_and c.from_residual.result c.from_residual.ensures.1 in
+    rw (p.1, p.2) (reads_err _ _ _ c.in_err-fill.field-0.0 c.in_err-fill.ensures.reads)
+
+pub returns-in-Ok-clause-closes : goal.returns-in-Ok-clause-closes
+returns-in-Ok-clause-closes g c =
+    let fill = c.in_ok-fill.ensures in
+    closes _ _ c.args.lines.now c.fill.new.self c.in-Ok.ensures.closes.0 fill.behind fill.stood fill.enough fill.line c.in-Ok.ensures.closes.1
+
+pub returns-in-Err-clause-reads : goal.returns-in-Err-clause-reads
+returns-in-Err-clause-reads g c = reads_then _ _ _ _ tt (Err c.stopped.result) c.in_ok-fill.ensures.reads (reads_err _ _ _ c.stopped.result c.stopped.ensures.reads)
+
+pub returns-in-Err-clause-stops : goal.returns-in-Err-clause-stops
+returns-in-Err-clause-stops g c = λ fault is passed b.
+    let fill = c.in_ok-fill.ensures in
+    let same : c.stopped.result ≡ fault = cc in
+    subst (StopsAs (g.D.Depot.gave c.stopped.new.depot c.args.name.now) c.args.lines.now passed (passing closing_at)) same
+    (part_stops _ _ _ c.args.lines.now c.fill.new.self closing_size (passing closing_at) c.in-Err.misread c.stopped.result closing_ahead fill.behind fill.stood fill.enough fill.line
+    (λ line stop. closing_stops (place_of c.fill.new.self) line (c.in-Err.ensures.stops line (ap (λ (s : Stop). Err s) stop)))
+    c.stopped.ensures.drained passed b)

@@ -1,0 +1,157 @@
+//! Reading the lines of a block in place.
+ghost use Rattle.std.specs.Prelude.{◌≡◌, ◌≢◌, ◌≤◌, ◌-◌, ℕ, List, length, take, codes, OnOk, Err};
+ghost use Rattle.std.specs.List.{AllByRecursion};
+ghost use Rattle.cert_text.specs.Place.{place, Reads, ReadsAs, Appends};
+ghost use Rattle.cert_text.specs.Reading.{kept, many_at, next_number_at};
+ghost use Rattle.cert_text.specs.Grammar.{number_line_at, listing_at, row_at, sides_at, block_at};
+ghost use Rattle.cert_text.specs.Fits.{AreWords, FitsList, FitsRow, FitsSides, FitsBlock};
+ghost use Rattle.block_reader.specs.Room.{HasWidth, IsShelf, sides_of};
+
+use crate::room::Room;
+use cert_text::Stop;
+use cert_text::cursor::Cursor;
+use cert_text::reader::Reader;
+use te_model::{Items, Row};
+
+// Numbers with a space before each, in the place of those of the list from this one on.
+fn numbers<C: Cursor>(r: &mut Reader<C>, from: usize, list: &mut Items<u64>) -> Result<(), Stop>
+    requires { from ≤ length list.old }
+    ensures count { length list.new ≡ length list.old }
+    ensures words { AreWords (take from list.old) → OnOk result (AreWords list.new) }
+    ensures room { result ≢ Err Stop.Memory }
+    ensures told { C.is_told r.new.source → C.is_told r.old.source }
+    ensures reads { C.is_told r.new.source → Appends result (take from list.old) list.new (place r.new.line (C.rest r.new.source))
+        (many_at (length list.old - from) next_number_at (place r.old.line (C.rest r.old.source))) }
+{
+    let count = list.as_slice().len();
+    for k in from..count {
+        let number = r.next_number()?;
+        list.set(k, number);
+    }
+    Ok(())
+}
+
+// One number or more, on a line of their own.
+#[tactic(auto, unfolding(cert_text::specs::Grammar::number_line_at))]
+fn number_line<C: Cursor>(r: &mut Reader<C>, list: &mut Items<u64>) -> Result<(), Stop>
+    requires { 1 ≤ length list.old }
+    ensures count { length list.new ≡ length list.old }
+    ensures fits { OnOk result (FitsList (length list.old) list.new) }
+    ensures room { result ≢ Err Stop.Memory }
+    ensures told { C.is_told r.new.source → C.is_told r.old.source }
+    ensures reads { C.is_told r.new.source → ReadsAs (λ _. list.new) result (place r.new.line (C.rest r.new.source))
+        (number_line_at (length list.old) (place r.old.line (C.rest r.old.source))) }
+{
+    let first = r.number()?;
+    list.set(0, first);
+    numbers(r, 1, list)?;
+    r.end_line()
+}
+
+// A word and numbers after it, on a line of their own.
+#[tactic(auto, unfolding(cert_text::specs::Grammar::listing_at))]
+fn listing<C: Cursor>(r: &mut Reader<C>, word: &[u8], list: &mut Items<u64>) -> Result<(), Stop>
+    ensures count { length list.new ≡ length list.old }
+    ensures fits { OnOk result (FitsList (length list.old) list.new) }
+    ensures room { result ≢ Err Stop.Memory }
+    ensures told { C.is_told r.new.source → C.is_told r.old.source }
+    ensures reads { C.is_told r.new.source → ReadsAs (λ _. list.new) result (place r.new.line (C.rest r.new.source))
+        (listing_at word.now (length list.old) (place r.old.line (C.rest r.old.source))) }
+{
+    r.word(word)?;
+    numbers(r, 0, list)?;
+    r.end_line()
+}
+
+// The potentials of one source.
+#[tactic(auto, unfolding(cert_text::specs::Grammar::row_at))]
+fn row<C: Cursor>(r: &mut Reader<C>, row: &mut Row) -> Result<(), Stop>
+    ensures width { HasWidth (length row.old.potential) row.new }
+    ensures fits { OnOk result (FitsRow (length row.old.potential) row.new) }
+    ensures room { result ≢ Err Stop.Memory }
+    ensures told { C.is_told r.new.source → C.is_told r.old.source }
+    ensures reads { C.is_told r.new.source → ReadsAs (λ _. row.new) result (place r.new.line (C.rest r.new.source))
+        (row_at kept (length row.old.potential) (place r.old.line (C.rest r.old.source))) }
+{
+    row.source = r.narrow()?;
+    numbers(r, 0, &mut row.potential)?;
+    r.end_line()
+}
+
+// The rows, each read into the spare row, which then changes places with it.
+fn rows<C: Cursor>(r: &mut Reader<C>, rows: &mut Items<Row>, spare: &mut Row) -> Result<(), Stop>
+    requires { IsShelf (length rows.old) (length spare.old.potential) rows.old }
+    ensures shelf { IsShelf (length rows.old) (length spare.old.potential) rows.new }
+    ensures spare { HasWidth (length spare.old.potential) spare.new }
+    ensures fits { OnOk result (AllByRecursion (FitsRow (length spare.old.potential)) rows.new) }
+    ensures room { result ≢ Err Stop.Memory }
+    ensures told { C.is_told r.new.source → C.is_told r.old.source }
+    ensures reads { C.is_told r.new.source → ReadsAs (λ _. rows.new) result (place r.new.line (C.rest r.new.source))
+        (many_at (length rows.old) (row_at kept (length spare.old.potential)) (place r.old.line (C.rest r.old.source))) }
+{
+    let count = rows.as_slice().len();
+    for k in 0..count {
+        row(r, spare)?;
+        rows.swap_item(k, spare);
+    }
+    Ok(())
+}
+
+// The lines `plus` and `minus`, where the set has bounds.
+#[tactic(auto, unfolding(cert_text::specs::Grammar::sides_at))]
+fn sides<C: Cursor>(
+    r: &mut Reader<C>,
+    bounded: bool,
+    pairs: u64,
+    plus: &mut Items<u64>,
+    minus: &mut Items<u64>,
+) -> Result<(), Stop>
+    requires plus { length plus.old ≡ sides_of bounded pairs }
+    requires minus { length minus.old ≡ sides_of bounded pairs }
+    ensures plus { length plus.new ≡ sides_of bounded pairs }
+    ensures minus { length minus.new ≡ sides_of bounded pairs }
+    ensures fits { OnOk result (FitsSides bounded pairs plus.new minus.new) }
+    ensures room { result ≢ Err Stop.Memory }
+    ensures told { C.is_told r.new.source → C.is_told r.old.source }
+    ensures reads { C.is_told r.new.source → ReadsAs (λ _. (plus.new, minus.new)) result (place r.new.line (C.rest r.new.source))
+        (sides_at bounded pairs (place r.old.line (C.rest r.old.source))) }
+{
+    if bounded {
+        listing(r, b"plus", plus)?;
+        listing(r, b"minus", minus)?;
+    }
+    Ok(())
+}
+
+/// A block, in the place of the one that was there.
+///
+/// # Errors
+///
+/// `Stop::Shape` with the first line that is not so.
+#[tactic(auto, unfolding(cert_text::specs::Grammar::block_at))]
+pub(crate) fn block<C: Cursor>(r: &mut Reader<C>, room: &mut Room) -> Result<(), Stop>
+    ensures limits { room.new.limits ≡ room.old.limits }
+    ensures counts { room.new.counts ≡ room.old.counts }
+    ensures fits { OnOk result (FitsBlock room.old.limits room.old.counts room.new.block) }
+    ensures room { result ≢ Err Stop.Memory }
+    ensures told { C.is_told r.new.source → C.is_told r.old.source }
+    ensures reads { C.is_told r.new.source → ReadsAs (λ _. room.new.block) result (place r.new.line (C.rest r.new.source))
+        (block_at room.old.limits kept room.old.counts (place r.old.line (C.rest r.old.source))) }
+{
+    room.block.link = r.narrow()?;
+    room.block.a = r.next_number()?;
+    room.block.b = r.next_number()?;
+    let count = r.next_count(0, room.limits.nodes)?;
+    r.end_line()?;
+    number_line(r, &mut room.block.weights)?;
+    room.lend(count as usize);
+    rows(r, &mut room.block.rows, &mut room.spare)?;
+    let counts = room.counts;
+    sides(
+        r,
+        counts.bounded,
+        counts.pairs,
+        &mut room.block.plus,
+        &mut room.block.minus,
+    )
+}

@@ -1,0 +1,188 @@
+//! Reading the file of a certificate one block at a time.
+ghost use Rattle.std.specs.Prelude.{◌≡◌, ◌≢◌, None, Some, true};
+ghost use Rattle.block_reader.specs.declared.window.State.{State};
+ghost use Rattle.block_reader.specs.declared.stream_fault.StreamFault.{StreamFault};
+ghost use Rattle.block_reader.specs.Standing.{state_of};
+
+use crate::blocks::Blocks;
+use crate::file_limit::FileLimit;
+use crate::lines::Lines;
+use crate::opening::{block_size, opening};
+use crate::room::Room;
+use crate::stream_fault::StreamFault;
+use crate::window::Window;
+use cert_text::grammar::counts_of_head;
+use std::alloc::Global;
+use te_model::{Block, Head, head_fault, limits_of};
+use te_ports::Depot;
+
+// How many bytes of a file stand ready at most: more than reading of any part of it looks at.
+const ROOM: usize = 1_310_720;
+
+// How many bytes reading of the first line looks at.
+const FIRST_LINE: usize = 14;
+
+/// Reads the file of a certificate of either format one block at a time. It keeps one block, and some bytes of the file.
+#[derive(Drop)]
+pub struct BlockReader {
+    blocks: Blocks,
+    held: bool,
+    over: bool,
+    fault: Option<StreamFault>,
+    ghost well: { fault ≡ None → state_of blocks.lines.window ≢ State.Failed },
+    ghost end: { over ≡ true → blocks.left ≡ 0 },
+    ghost apart: { over ≡ true → fault ≡ None },
+    ghost memory: { fault ≢ Some StreamFault.Memory },
+}
+
+impl BlockReader {
+    ghost use Rattle.std.specs.Prelude.{◌≤◌, ◌<◌, ◌⊎◌, ◌++◌, ◌∷◌, [], ℕ, List, Ok, Err, IfOk, IsErrOf, IsTrue, false, string_bytes};
+    ghost use Rattle.te_model.specs.declared.certificate.Block.{Block};
+    ghost use Rattle.te_model.specs.declared.certificate.Head.{Head};
+    ghost use Rattle.te_model.specs.Formats.{limits_of};
+    ghost use Rattle.te_model.specs.Validity.{follows, IsValidHead, IsValidBlock};
+    ghost use Rattle.cert_text.specs.Fits.{FitsHead};
+    ghost use Rattle.te_ports.specs.Ports.{Rose};
+    ghost use Rattle.te_ports.specs.Record.{Grows};
+    ghost use Rattle.block_reader.specs.Answers.{IsWell};
+    ghost use Rattle.block_reader.specs.Blocks.{HasRead, IsReaderOf, IsFaultOf, IsTextOf, IsBehindHead, name_of, block_of, last_link, blocks_left, holds_block, fault_of, is_over};
+
+    /// Reads what stands before the blocks of the file of this name.
+    ///
+    /// # Errors
+    ///
+    /// - `Failed` where a read of the file failed in the call;
+    /// - `TooLong` where it has more bytes than the limit of its format;
+    /// - `Shape` where it leaves the format before the blocks, or where a rule of the head fails and it leaves the format
+    ///   behind it;
+    /// - `Rule` where it has the right shape, and a rule of the head fails;
+    /// - `Memory` where memory is short.
+    pub fn open<D: Depot>(
+        alloc: Global,
+        depot: &mut D,
+        name: &str,
+    ) -> Result<(BlockReader, Head), StreamFault>
+        ensures head { IfOk result (λ r. HasRead (D.gave depot.new name.now) r.0 r.1 []) }
+        ensures valid { IfOk result (λ r. IsValidHead r.1) }
+        ensures of_head { IfOk result (λ r. IsReaderOf r.0 r.1) }
+        ensures start { IfOk result (λ r. last_link r.0 ≡ None) }
+        ensures name { IfOk result (λ r. name_of r.0 ≡ name.now) }
+        ensures refused { (fault : StreamFault) → result ≡ Err fault → IsFaultOf (D.gave depot.new name.now) fault }
+        ensures failed { IsErrOf result StreamFault.Failed → Rose (D.faults depot.old name.now) (D.faults depot.new name.now) }
+        ensures steady { result ≢ Err StreamFault.Failed → D.faults depot.new ≡ D.faults depot.old }
+        ensures later { (other : List ℕ) → D.faults depot.old other ≤ D.faults depot.new other }
+        ensures kept { Grows (D.gave depot.old) (D.gave depot.new) }
+        ensures content { D.content depot.new ≡ D.content depot.old }
+    {
+        let key = String::from_str(alloc, name)?;
+        let window = Window::at_start(alloc, depot, name, &FileLimit, FIRST_LINE, ROOM)?;
+        let mut lines = Lines::at_start(window)?;
+        let (head, count) = opening(alloc, depot, name, &mut lines)?;
+        let mut reader = BlockReader::behind(alloc, key, lines, &head, count)?;
+        match head_fault(&head) {
+            None => Ok((reader, head)),
+            Some(fault) => Err(reader.blocks.judge_rest(depot, fault)),
+        }
+    }
+
+    // Stands behind what stands before the blocks.
+    fn behind(
+        alloc: Global,
+        name: String,
+        lines: Lines,
+        head: &Head,
+        count: u64,
+    ) -> Result<BlockReader, StreamFault>
+        requires well { IsWell lines }
+        requires fits { FitsHead (limits_of head.now.format) head.now }
+        requires count { count ≤ (limits_of head.now.format).links }
+        ensures behind { IfOk result (λ r. IsBehindHead r (string_bytes name) lines head.now count) }
+        ensures memory { (fault : StreamFault) → result ≡ Err fault → fault ≡ StreamFault.Memory }
+    {
+        let limits = limits_of(head.format);
+        let counts = counts_of_head(head);
+        let room = Room::new(alloc, &limits, &counts)?;
+        Ok(BlockReader {
+            blocks: Blocks {
+                name,
+                lines,
+                room,
+                size: block_size(&limits, &counts),
+                left: count,
+                place: 0,
+                before: None,
+            },
+            held: false,
+            over: false,
+            fault: None,
+        })
+    }
+
+    /// Reads the next block. `false` says that there is none, and that the file ends as it should: the head and the blocks
+    /// that were handed out are its valid certificate. After the end or a fault the same is answered again, and nothing is
+    /// read.
+    ///
+    /// # Errors
+    ///
+    /// - `Failed` where a read of the file failed in the call;
+    /// - `TooLong` where it has more bytes than the limit of its format;
+    /// - `Shape` where it leaves the format;
+    /// - `Rule` where it has the right shape, and a rule of the blocks fails.
+    pub fn next<D: Depot>(&mut self, depot: &mut D) -> Result<bool, StreamFault>
+        ensures handed { result ≡ Ok true → (head : Head) → (blocks : List Block) →
+            HasRead (D.gave depot.old (name_of self.old)) self.old head blocks →
+            HasRead (D.gave depot.new (name_of self.old)) self.new head (blocks ++ block_of self.new ∷ []) }
+        ensures whole { result ≡ Ok false → (head : Head) → (blocks : List Block) →
+            HasRead (D.gave depot.old (name_of self.old)) self.old head blocks →
+            IsTextOf (D.gave depot.new (name_of self.old)) head blocks }
+        ensures refused { (fault : StreamFault) → result ≡ Err fault → (head : Head) → (blocks : List Block) →
+            HasRead (D.gave depot.old (name_of self.old)) self.old head blocks →
+            IsFaultOf (D.gave depot.new (name_of self.old)) fault }
+        ensures valid { result ≡ Ok true → (head : Head) → IsReaderOf self.old head → IsValidBlock head (block_of self.new) }
+        ensures ascends { result ≡ Ok true → IsTrue (follows (last_link self.old) (block_of self.new).link)
+            × (last_link self.new ≡ Some (block_of self.new).link) }
+        ensures of_head { (head : Head) → IsReaderOf self.old head → IsReaderOf self.new head }
+        ensures holds { result ≡ Ok true → IsTrue (holds_block self.new) }
+        ensures fewer { result ≡ Ok true → blocks_left self.new < blocks_left self.old }
+        ensures ended { result ≡ Ok false → (blocks_left self.old ≡ 0) × IsTrue (is_over self.new) }
+        ensures over { IsTrue (is_over self.old) → (result ≡ Ok false) × (D.faults depot.new ≡ D.faults depot.old) }
+        ensures room { result ≢ Err StreamFault.Memory }
+        ensures failed { IsErrOf result StreamFault.Failed → (fault_of self.old ≡ Some StreamFault.Failed)
+            ⊎ Rose (D.faults depot.old (name_of self.old)) (D.faults depot.new (name_of self.old)) }
+        ensures keeps_fault { (fault : StreamFault) → result ≡ Err fault → fault_of self.new ≡ Some fault }
+        ensures again { (fault : StreamFault) → fault_of self.old ≡ Some fault →
+            (result ≡ Err fault) × (D.faults depot.new ≡ D.faults depot.old) }
+        ensures steady { result ≢ Err StreamFault.Failed → D.faults depot.new ≡ D.faults depot.old }
+        ensures later { (other : List ℕ) → D.faults depot.old other ≤ D.faults depot.new other }
+        ensures kept { Grows (D.gave depot.old) (D.gave depot.new) }
+        ensures content { D.content depot.new ≡ D.content depot.old }
+        ensures name { name_of self.new ≡ name_of self.old }
+    {
+        if let Some(fault) = self.fault {
+            return Err(fault);
+        }
+        if self.over {
+            return Ok(false);
+        }
+        let answer = self.blocks.advance(depot);
+        match answer {
+            Ok(more) => {
+                self.held = more;
+                self.over = !more;
+            }
+            Err(fault) => {
+                self.held = false;
+                self.fault = Some(fault);
+            }
+        }
+        answer
+    }
+
+    /// The block that was read last.
+    pub fn block(&self) -> &Block
+        requires { IsTrue (holds_block self.now) }
+        ensures { result.now ≡ block_of self.now }
+    {
+        &self.blocks.room.block
+    }
+}

@@ -1,0 +1,308 @@
+//! The parts of a certificate's text that are read one after another, each over the bytes that stand ready.
+ghost use Rattle.std.specs.Prelude.{◌≡◌, ◌≢◌, ◌≤◌, ◌+◌, ◌++◌, ℕ, List, length, IfOk, OnOk, OnErr, Ok, Err, codes, true};
+ghost use Rattle.std.specs.declared.result.Result.{Result};
+ghost use Rattle.te_model.specs.Shape.{is_count};
+ghost use Rattle.cert_text.specs.Place.{Place, place, Reads as ReadsSo};
+ghost use Rattle.cert_text.specs.Reading.{kept};
+ghost use Rattle.cert_text.specs.Grammar.{format_at, network_at, counted_at, pair_at, set_at, ratio_at, closing_at};
+ghost use Rattle.cert_text.specs.Fits.{IsWord, FitsNetwork, FitsPair, FitsSet};
+ghost use Rattle.block_reader.specs.Ahead.{passing};
+ghost use Rattle.block_reader.specs.Sizes.{format_size, network_size, count_size, pair_size, set_size, ratio_size};
+ghost use Rattle.block_reader.specs.Parts.{IsFormat, IsPart};
+ghost use Rattle.block_reader.specs.Answers.{IsBehind, Passes, IsWell, Answers, StopsAs, IsClosed, place_of};
+ghost use Rattle.block_reader.specs.Depots.{shown, Reads};
+
+use crate::lines::Lines;
+use crate::stream_fault::StreamFault;
+use cert_text::cursor::Bytes;
+use cert_text::reader::Reader;
+use cert_text::{Stop, grammar};
+use std::alloc::Global;
+use te_model::{DemandSet, Limits, Network, PairRoutes};
+use te_ports::Depot;
+
+/// A part of a certificate's text.
+pub(crate) trait Part {
+    /// What it gives.
+    type Value;
+
+    /// What it is read by may be used.
+    ghost is_ready: { Self → Type 0 };
+
+    /// Reading of it.
+    ghost at: { Self → Place → Result (Self.Value × Place) ℕ };
+
+    /// How many bytes reading of it looks at.
+    ghost looked: { Self → ℕ };
+
+    /// What holds of what it gives.
+    ghost Fits: { Self → Self.Value → Type 0 };
+
+    /// How many bytes reading of it looks at.
+    fn size(&self) -> usize
+        requires { is_ready self.now }
+        ensures { result ≡ looked self.now };
+
+    /// Reads it.
+    fn read(&self, alloc: Global, reader: &mut Reader<Bytes<'_>>) -> Result<Self::Value, Stop>
+        ensures fits { IfOk result (Fits self.now) }
+        ensures reads { ReadsSo result (place reader.new.line reader.new.source.bytes.now)
+            (at self.now (place reader.old.line reader.old.source.bytes.now)) };
+}
+
+// Reads a part over the bytes that stand ready, and goes past it.
+fn take_part<P: Part>(alloc: Global, lines: &mut Lines, part: &P) -> Result<P::Value, Stop>
+    requires { IsPart (P.looked part.now) (P.at part.now) }
+    ensures fits { IfOk result (P.Fits part.now) }
+    ensures took { IfOk result (λ x. (front : List ℕ) × Passes lines.old.window lines.new.window front
+        × (P.at part.now (place_of lines.old) ≡ Ok (x, place_of lines.new))) }
+    ensures stops { (line : ℕ) → result ≡ Err (Stop.Shape line) → P.at part.now (place_of lines.old) ≡ Err line }
+    ensures same { OnErr result (lines.new ≡ lines.old) }
+{
+    let mut reader = lines.reader();
+    let value = part.read(alloc, &mut reader)?;
+    let left = reader.source().left().len();
+    let line = reader.line();
+    lines.pass(left, line);
+    Ok(value)
+}
+
+/// Reads a part of the file of this name.
+pub(crate) fn read_part<D: Depot, P: Part>(
+    alloc: Global,
+    depot: &mut D,
+    name: &str,
+    lines: &mut Lines,
+    part: &P,
+) -> Result<P::Value, StreamFault>
+    requires ready { P.is_ready part.now }
+    requires part { IsPart (P.looked part.now) (P.at part.now) }
+    requires well { IsWell lines.old }
+    ensures well { OnOk result (IsWell lines.new) }
+    ensures fits { IfOk result (P.Fits part.now) }
+    ensures answers { Answers (D.gave depot.old name.now) (D.gave depot.new name.now) lines.old lines.new (P.at part.now) result }
+    ensures reads { Reads (shown D.content D.gave D.faults depot.old) (shown D.content D.gave D.faults depot.new)
+        name.now result }
+{
+    lines.fill(depot, name, part.size())?;
+    match take_part(alloc, lines, part) {
+        Ok(value) => Ok(value),
+        Err(stop) => Err(lines.stopped(depot, name, stop)),
+    }
+}
+
+/// The first line, which names the format.
+#[derive(Clone, Copy)]
+pub(crate) struct FormatLine;
+
+impl Part for FormatLine {
+    type Value = u32;
+
+    ghost is_ready = { λ _. Unit {0} };
+
+    ghost at = { λ _. format_at };
+
+    ghost looked = { λ _. format_size };
+
+    ghost Fits = { λ _ _. Unit {0} };
+
+    fn size(&self) -> usize {
+        14
+    }
+
+    fn read(&self, _alloc: Global, reader: &mut Reader<Bytes<'_>>) -> Result<u32, Stop> {
+        grammar::format(reader)
+    }
+}
+
+/// The nodes and the links.
+#[derive(Clone, Copy)]
+pub(crate) struct NetworkLines<'a> {
+    pub(crate) limits: &'a Limits,
+}
+
+impl<'a> Part for NetworkLines<'a> {
+    type Value = Network;
+
+    ghost is_ready = { λ p. IsFormat p.limits.now };
+
+    ghost at = { λ p. network_at p.limits.now kept };
+
+    ghost looked = { λ p. network_size p.limits.now };
+
+    ghost Fits = { λ p x. FitsNetwork p.limits.now x };
+
+    fn size(&self) -> usize {
+        58 + (self.limits.nodes as usize * 34 + self.limits.links as usize * 92)
+    }
+
+    fn read(&self, alloc: Global, reader: &mut Reader<Bytes<'_>>) -> Result<Network, Stop> {
+        grammar::network(reader, alloc, self.limits)
+    }
+}
+
+/// The count of the pairs.
+#[derive(Clone, Copy)]
+pub(crate) struct PairCount<'a> {
+    pub(crate) limits: &'a Limits,
+}
+
+impl<'a> Part for PairCount<'a> {
+    type Value = u64;
+
+    ghost is_ready = { λ _. Unit {0} };
+
+    ghost at = { λ p. counted_at (codes "pairs ") 0 p.limits.now.pairs };
+
+    ghost looked = { λ _. count_size };
+
+    ghost Fits = { λ p x. is_count 0 p.limits.now.pairs x ≡ true };
+
+    fn size(&self) -> usize {
+        30
+    }
+
+    fn read(&self, _alloc: Global, reader: &mut Reader<Bytes<'_>>) -> Result<u64, Stop> {
+        grammar::counted(reader, b"pairs ", 0, self.limits.pairs)
+    }
+}
+
+/// A pair and its paths.
+#[derive(Clone, Copy)]
+pub(crate) struct PairLines<'a> {
+    pub(crate) limits: &'a Limits,
+}
+
+impl<'a> Part for PairLines<'a> {
+    type Value = PairRoutes;
+
+    ghost is_ready = { λ p. IsFormat p.limits.now };
+
+    ghost at = { λ p. pair_at p.limits.now kept };
+
+    ghost looked = { λ p. pair_size p.limits.now };
+
+    ghost Fits = { λ p x. FitsPair p.limits.now x };
+
+    fn size(&self) -> usize {
+        69 + self.limits.paths as usize * (46 + self.limits.hops as usize * 23)
+    }
+
+    fn read(&self, alloc: Global, reader: &mut Reader<Bytes<'_>>) -> Result<PairRoutes, Stop> {
+        grammar::pair(reader, alloc, self.limits)
+    }
+}
+
+/// The demand set.
+#[derive(Clone, Copy)]
+pub(crate) struct SetLines<'a> {
+    pub(crate) limits: &'a Limits,
+    pub(crate) pairs: u64,
+}
+
+impl<'a> Part for SetLines<'a> {
+    type Value = DemandSet;
+
+    ghost is_ready = { λ p. IsFormat p.limits.now × (p.pairs ≤ p.limits.now.pairs) };
+
+    ghost at = { λ p. set_at p.limits.now p.pairs };
+
+    ghost looked = { λ p. set_size p.pairs };
+
+    ghost Fits = { λ p x. FitsSet p.limits.now p.pairs x };
+
+    fn size(&self) -> usize {
+        80 + (self.pairs as usize * 23 + self.pairs as usize * 23)
+    }
+
+    fn read(&self, alloc: Global, reader: &mut Reader<Bytes<'_>>) -> Result<DemandSet, Stop> {
+        grammar::set(reader, alloc, self.limits, self.pairs)
+    }
+}
+
+/// The ratio.
+#[derive(Clone, Copy)]
+pub(crate) struct RatioLine;
+
+impl Part for RatioLine {
+    type Value = u64;
+
+    ghost is_ready = { λ _. Unit {0} };
+
+    ghost at = { λ _. ratio_at };
+
+    ghost looked = { λ _. ratio_size };
+
+    ghost Fits = { λ _ x. IsWord x };
+
+    fn size(&self) -> usize {
+        29
+    }
+
+    fn read(&self, _alloc: Global, reader: &mut Reader<Bytes<'_>>) -> Result<u64, Stop> {
+        grammar::ratio(reader)
+    }
+}
+
+/// The count of the blocks.
+#[derive(Clone, Copy)]
+pub(crate) struct BlockCount<'a> {
+    pub(crate) limits: &'a Limits,
+}
+
+impl<'a> Part for BlockCount<'a> {
+    type Value = u64;
+
+    ghost is_ready = { λ _. Unit {0} };
+
+    ghost at = { λ p. counted_at (codes "blocks ") 0 p.limits.now.links };
+
+    ghost looked = { λ _. count_size };
+
+    ghost Fits = { λ p x. is_count 0 p.limits.now.links x ≡ true };
+
+    fn size(&self) -> usize {
+        30
+    }
+
+    fn read(&self, _alloc: Global, reader: &mut Reader<Bytes<'_>>) -> Result<u64, Stop> {
+        grammar::counted(reader, b"blocks ", 0, self.limits.links)
+    }
+}
+
+// Reads the last line over the bytes that stand ready.
+#[tactic(auto, unfolding(cert_text::specs::Grammar::closing_at))]
+fn take_closing(lines: &Lines) -> Result<(), Stop>
+    ensures closes { OnOk result ((end : Place) × (closing_at (place_of lines.now) ≡ Ok end)) }
+    ensures stops { (line : ℕ) → result ≡ Err (Stop.Shape line) → closing_at (place_of lines.now) ≡ Err line }
+    ensures room { result ≢ Err Stop.Memory }
+{
+    let mut reader = lines.reader();
+    reader.word(b"end")?;
+    reader.end_line()?;
+    reader.at_end()
+}
+
+/// Reads the last line of the file of this name, behind which nothing stands.
+pub(crate) fn close<D: Depot>(
+    depot: &mut D,
+    name: &str,
+    lines: &mut Lines,
+) -> Result<(), StreamFault>
+    requires well { IsWell lines.old }
+    ensures well { OnOk result (IsWell lines.new) }
+    ensures closes { OnOk result ((passed : List ℕ) → IsBehind (D.gave depot.old name.now) lines.old passed →
+        IsClosed (D.gave depot.new name.now) lines.old passed) }
+    ensures stops { (fault : StreamFault) → result ≡ Err fault → (passed : List ℕ) →
+        IsBehind (D.gave depot.old name.now) lines.old passed →
+        StopsAs (D.gave depot.new name.now) lines.old passed (passing closing_at) fault }
+    ensures room { result ≢ Err StreamFault.Memory }
+    ensures reads { Reads (shown D.content D.gave D.faults depot.old) (shown D.content D.gave D.faults depot.new)
+        name.now result }
+{
+    lines.fill(depot, name, 5)?;
+    match take_closing(lines) {
+        Ok(()) => Ok(()),
+        Err(misread) => Err(lines.stopped(depot, name, misread)),
+    }
+}
