@@ -92,6 +92,25 @@ pub const PARALLEL_WITHOUT_SECOND: &[&str] = &[
     "end\n",
 ];
 
+/// The first block has a weight past its range, and the second one the link of the first.
+pub const PARALLEL_TWO_FAULTS: &[&str] = &[
+    PARALLEL,
+    "500000",
+    PARALLEL_SET,
+    "blocks 2\n0 500000 1 1\n268435457 1\n0 0 1\n",
+    PARALLEL_FIRST,
+    "end\n",
+];
+
+/// The ratio is too small, and a byte stands after the end.
+pub const PARALLEL_WITH_LESS_AND_MORE: &[&str] = &[
+    PARALLEL,
+    "500000 1 1\nset all\nratio 1999999\nblocks 2\n",
+    PARALLEL_FIRST,
+    PARALLEL_SECOND,
+    "end\nx",
+];
+
 /// The weights of the pair sum to 999999.
 pub const PARALLEL_LIGHT: &[&str] = &[
     PARALLEL,
@@ -104,6 +123,14 @@ pub const PARALLEL_LIGHT: &[&str] = &[
 ];
 
 pub const TRIANGLE_FOR_ALL: &[&str] = &[FIRST, TRIANGLE, "set all\nratio 2000000\n", TRIANGLE_ALL];
+
+/// Two links that carry nothing have blocks too.
+pub const TRIANGLE_WITH_IDLE_BLOCKS: &[&str] = &[
+    FIRST,
+    TRIANGLE,
+    "set all\nratio 2000000\nblocks 4\n0 1000000 1 1\n1 1 0 0\n0 0 0 1\n1 1000000 1 1\n1 1 0 0\n1 0 0 1\n",
+    "2 0 1 0\n0 0 0 0\n3 0 1 0\n0 0 0 0\nend\n",
+];
 
 pub const TRIANGLE_FOR_ALL_WITH_LESS: &[&str] = &[
     FIRST,

@@ -2,10 +2,12 @@
 use crate::call::{Call, Out, leaves, says};
 use crate::certificates::{
     BLOCK_OF_NO_LINK, CUT, LEADING_ZERO, MANY_BLOCKS, MANY_NODES, MANY_PAIRS, MANY_PATHS,
-    NO_CAPACITY, PAIR_OF_ONE_NODE, PARALLEL_LIGHT, PARALLEL_WHOLE, PARALLEL_WITHOUT_SECOND,
-    PATHS_OUT_OF_ORDER, SMALLEST, SMALLEST_WITH_LESS, TRIANGLE_FOR_ALL, TRIANGLE_FOR_ALL_WITH_LESS,
-    TRIANGLE_FOR_MARGIN, TRIANGLE_SMALL_MARGIN, TRIANGLE_TWICE_A_NODE, TRIANGLE_WITHOUT_MINUS,
-    TWICE_A_NAME, UNENDED, UNREACHED_HIGH, UNREACHED_TOO_LOW, WIDE_NODES, WIDE_RATIO, WIDE_WEIGHT,
+    NO_CAPACITY, PAIR_OF_ONE_NODE, PARALLEL_LIGHT, PARALLEL_TWO_FAULTS, PARALLEL_WHOLE,
+    PARALLEL_WITH_LESS_AND_MORE, PARALLEL_WITHOUT_SECOND, PATHS_OUT_OF_ORDER, SMALLEST,
+    SMALLEST_WITH_LESS, TRIANGLE_FOR_ALL, TRIANGLE_FOR_ALL_WITH_LESS, TRIANGLE_FOR_MARGIN,
+    TRIANGLE_SMALL_MARGIN, TRIANGLE_TWICE_A_NODE, TRIANGLE_WITH_IDLE_BLOCKS,
+    TRIANGLE_WITHOUT_MINUS, TWICE_A_NAME, UNENDED, UNREACHED_HIGH, UNREACHED_TOO_LOW, WIDE_NODES,
+    WIDE_RATIO, WIDE_WEIGHT,
 };
 use std::test::Fail;
 
@@ -26,6 +28,7 @@ const CERTIFICATES: &[(&[&str], u8, &str)] = &[
     (PARALLEL_WHOLE, 0, YES_TWICE),
     (PARALLEL_WITHOUT_SECOND, 1, "no link 1 rule I2 place 0\n"),
     (TRIANGLE_FOR_ALL, 0, YES_TWICE),
+    (TRIANGLE_WITH_IDLE_BLOCKS, 0, YES_TWICE),
     (TRIANGLE_FOR_ALL_WITH_LESS, 1, OVER_CAPACITY),
     (TRIANGLE_FOR_MARGIN, 0, YES_MARGIN),
     (TRIANGLE_WITHOUT_MINUS, 1, "no link 0 rule I3 place 0\n"),
@@ -42,6 +45,13 @@ const CERTIFICATES: &[(&[&str], u8, &str)] = &[
     (WIDE_RATIO, 3, "refused: c: rule V8 at 0\n"),
     (BLOCK_OF_NO_LINK, 3, "refused: c: rule V8 at 1\n"),
     (WIDE_WEIGHT, 3, "refused: c: rule V9 at 0\n"),
+    // The least number of a rule is told, of all blocks; and a fault of shape before a no.
+    (PARALLEL_TWO_FAULTS, 3, "refused: c: rule V8 at 2\n"),
+    (
+        PARALLEL_WITH_LESS_AND_MORE,
+        3,
+        "refused: c: shape at line 22\n",
+    ),
     (LEADING_ZERO, 3, "refused: c: shape at line 11\n"),
     (UNENDED, 3, "refused: c: shape at line 16\n"),
     (&[SMALLEST, "x"], 3, "refused: c: shape at line 17\n"),

@@ -2,6 +2,8 @@
 #![tactic(auto)]
 
 #[cfg(test)]
+mod block_reader_tests;
+#[cfg(test)]
 mod cert_text_tests;
 #[cfg(test)]
 mod ratio_certificate_tests;

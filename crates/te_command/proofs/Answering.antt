@@ -1,12 +1,12 @@
 -- What `run` promises of an answer and of a refusal.
-use Rattle.std.proofs.Common.{◌≡◌, ◌≢◌, ◌⊎◌, ℕ, List, inl, map, string_bytes, Option, Some, refl, sym, ap, ◌∙◌, subst, arith}
+use Rattle.std.proofs.Common.{◌≡◌, ◌≢◌, ℕ, List, inl, map, string_bytes, Option, Some, ap, ◌∙◌, subst, arith}
 use Rattle.std.specs.declared.string.String.{String}
 use Rattle.std.specs.declared.alloc.Global.{Global}
 use Rattle.te_ports.specs.Ports.{Rose}
 use Rattle.te_command.specs.declared.answer.Answer.{Answer}
 use Rattle.te_command.specs.declared.answer.Answer.TheVariants.{Done, No, NoPath}
 use Rattle.te_command.specs.Files.{given, told, known}
-use Rattle.te_command.specs.Reading.{Reading, Means, MeansStatus, IsTold, ReadFailed}
+use Rattle.te_command.specs.Reading.{Means, MeansStatus, IsTold, ReadFailed}
 use Rattle.te_command.specs.Commands.{Command, command_of, reading_of}
 use Rattle.te_command.specs.Form.{IsAnswer}
 use Rattle.te_command.specs.Outcome.{status_of, text_of}

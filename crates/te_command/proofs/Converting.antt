@@ -1,5 +1,5 @@
 -- What `convert` writes: a file of the second format, which is converted to itself.
-use Rattle.std.proofs.Common.{◌≡◌, ◌≤◌, ℕ, List, length, inr, refl, sym, ap, ◌∙◌, arith}
+use Rattle.std.proofs.Common.{◌≡◌, ℕ, List, inr, refl, sym, ap, ◌∙◌, arith}
 use Rattle.te_model.specs.declared.certificate.Certificate.{Certificate}
 use Rattle.te_model.specs.declared.demand.DemandSet.{DemandSet}
 use Rattle.te_model.specs.declared.demand.DemandSet.TheVariants.{All, Margin, Box}

@@ -1,5 +1,5 @@
 -- How the answer of a command comes from the reading of one file and the rest.
-use Rattle.std.proofs.Common.{◌≡◌, ◌≤◌, ℕ, List, Result, Ok, Err, inl, inr, refl, ◌∙◌, subst, arith}
+use Rattle.std.proofs.Common.{◌≡◌, ℕ, List, Result, Ok, Err, inl, inr, refl, ◌∙◌, subst, arith}
 use Rattle.te_ports.specs.Ports.{Rose}
 use Rattle.te_ports.specs.Record.{Grows}
 use Rattle.te_ports.proofs.Giving.{read_kept}

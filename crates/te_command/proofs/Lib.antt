@@ -2,6 +2,7 @@ pub mod Following
 pub mod Telling
 pub mod Plans
 pub mod Verdict
+pub mod Feeding
 pub mod Ending
 pub mod Regular
 pub mod Converting

@@ -1,11 +1,10 @@
 -- A file that is told and gives a value is not refused.
 use Rattle.std.proofs.Common.{◌≡◌, ℕ, List, Option, Some, inl, inr, sym, ap, ◌∙◌}
 use Rattle.te_ports.specs.Limit.{IsLimit}
-use Rattle.te_ports.specs.Ports.{Told}
-use Rattle.te_command.specs.Files.{given, told, known}
+use Rattle.te_command.specs.Files.{given, told}
 use Rattle.te_command.specs.Reading.{Kind, Reading, answers, reads, RefusedIn, Means, RefusesUntold}
-use Rattle.te_command.proofs.Telling.{Agrees, Covers, given_is_known}
-use Rattle.te_command.proofs.Ending.{AtEnd, AreRegular, IsRegular, IsSound, not_both}
+use Rattle.te_command.proofs.Telling.{Agrees, given_is_known}
+use Rattle.te_command.proofs.Ending.{AtEnd, AreRegular, IsSound, not_both}
 
 -- a refusal of what is known of a told file is one of what is told
 refused_told : (A : Type 0) (kind : Kind A) (file : List ℕ) (content : List ℕ → Option (List ℕ)) (gave : List ℕ → ℕ → List ℕ → Type 0) (line all : List ℕ) →

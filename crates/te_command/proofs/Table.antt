@@ -1,5 +1,5 @@
 -- What holds of each command: its files are read in one way, and what its answers are.
-use Rattle.std.proofs.Common.{◌≡◌, ◌≤◌, ◌⊎◌, ℕ, List, [], length, Option, Some, None, inl, inr, refl, sym, ap, ◌∙◌, subst, arith}
+use Rattle.std.proofs.Common.{◌≡◌, ◌≤◌, ◌⊎◌, ℕ, List, length, Option, Some, None, inl, inr, refl, sym, ap, ◌∙◌, arith}
 use Rattle.te_model.specs.declared.certificate.Certificate.{Certificate}
 use Rattle.te_model.specs.declared.network.Network.{Network}
 use Rattle.te_model.specs.Inequalities.{LinkFailure, first_failure}
@@ -7,7 +7,7 @@ use Rattle.te_model.specs.Text.{Spells}
 use Rattle.te_model.proofs.SameNetworks.{same_or_not}
 use Rattle.te_model.proofs.Failures.{holds_from_none}
 use Rattle.te_model.proofs.Oblivious.{holds_is_oblivious}
-use Rattle.te_command.specs.Reading.{Reading, answers}
+use Rattle.te_command.specs.Reading.{answers}
 use Rattle.te_command.specs.Check.{IsVerdict, IsNetworkVerdict, IsProof, yes_line, no_line, no_network_line, verdict_on, network_verdict_on}
 use Rattle.te_command.specs.TopologyFile.{topology_reason}
 use Rattle.topology.specs.Topology.{topology_of}

@@ -1,14 +1,13 @@
 -- What reads gave of told files is what is told.
-use Rattle.std.proofs.Common.{◌≡◌, ℕ, ◌+◌, ◌<◌, ◌≤◌, List, [], ◌++◌, length, take, drop, Option, Some, Result, Ok, Err, inl, inr, refl, sym, ap, ◌∙◌, subst, arith, length-take}
+use Rattle.std.proofs.Common.{◌≡◌, ℕ, ◌+◌, ◌<◌, ◌≤◌, List, [], ◌++◌, length, take, drop, Option, Some, Ok, inl, inr, refl, sym, ap, ◌∙◌, subst, arith, length-take}
 use Rattle.std.proofs.lemmas.Grind.{common_steps}
 use Rattle.std.proofs.lemmas.List.{take-append-drop}
-use Rattle.te_ports.specs.Ports.{Told}
 use Rattle.te_ports.specs.Record.{IsPiece, IsPieceOf, HasGiven, nothing, more, IsRead, IsReadPastAllowed}
 use Rattle.te_ports.specs.PieceOf.{piece_of_told}
 use Rattle.te_ports.specs.Limit.{IsLimit}
 use Rattle.te_ports.proofs.Giving.{read_is, past_allowed}
 use Rattle.te_command.specs.Files.{Files, given, told, known}
-use Rattle.te_command.specs.Reading.{Kind, Reading, answers, reads, GivesIn, Means, IsTold, ReadFailed}
+use Rattle.te_command.specs.Reading.{Reading, answers, reads, Means, IsTold, ReadFailed}
 use Rattle.te_command.proofs.Ending.{AreRegular}
 
 -- what reads gave of told files are pieces of them

@@ -2,11 +2,12 @@
 use Rattle.std.proofs.Common.{◌≡◌, Option, Some, None, Result, Ok, Err, IfOk, inl, inr, refl}
 use Rattle.te_model.specs.declared.memory.Memory.{Memory}
 use Rattle.te_model.specs.declared.certificate.Certificate.{Certificate}
+use Rattle.te_model.specs.declared.network.Network.{Network}
 use Rattle.te_model.specs.Inequalities.{LinkFailure, first_failure}
 use Rattle.ratio_checker.specs.Finding.{finding_of}
 use Rattle.ratio_checker.specs.declared.finding.Finding.{Finding}
 use Rattle.te_command.specs.declared.answer.Answer.{Answer}
-use Rattle.te_command.specs.Check.{IsVerdict}
+use Rattle.te_command.specs.Check.{IsVerdict, IsNetworkVerdict}
 use Rattle.te_command.specs.Outcome.{IsLineOf, status_of, text_of}
 
 -- what the first failure gives
@@ -19,3 +20,10 @@ pub verdict_found : (c : Certificate) (finding : Finding) (r : Result Answer Mem
     IfOk r (IsLineOf c finding) → IfOk r (λ answer. IsVerdict c (status_of answer) (text_of answer))
 verdict_found c finding (Ok answer) is line = line_of_failure c (first_failure c) answer refl (rw is at line)
 verdict_found c finding (Err e) is line = line
+
+-- which is also that on a certificate of its network
+pub network_found : (c : Certificate) (network : Network) (r : Result Answer Memory) → c.head.network ≡ network →
+    IfOk r (λ answer. IsVerdict c (status_of answer) (text_of answer)) →
+    IfOk r (λ answer. IsNetworkVerdict c network (status_of answer) (text_of answer))
+network_found c network (Ok answer) same is = inl (same, is)
+network_found c network (Err e) same is = is

@@ -1,5 +1,5 @@
 -- The file of the failures of a network's links.
-use Rattle.std.specs.Prelude.{List, ℕ, [], ◌++◌, codes, length}
+use Rattle.std.specs.Prelude.{List, ℕ, ◌++◌, codes, length}
 use Rattle.std.specs.Fmt.{decimal}
 use Rattle.te_model.specs.declared.network.Network.{Network}
 use Rattle.te_model.specs.Network.{link_count}

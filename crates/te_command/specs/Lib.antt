@@ -19,3 +19,4 @@ pub mod Converted
 pub mod Run
 pub mod Asked
 pub mod Outcome
+pub mod Blocks

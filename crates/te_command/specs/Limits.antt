@@ -1,5 +1,5 @@
 -- The limits of files are limits for files that are read piece by piece.
-use Rattle.std.specs.Prelude.{ℕ, List, refl}
+use Rattle.std.specs.Prelude.{refl}
 use Rattle.std.proofs.Common.{lit≤}
 use Rattle.te_ports.specs.Limit.{IsLimit}
 use Rattle.te_model.specs.FileLimit.{file_limit}

@@ -24,8 +24,8 @@ impl<'a, K: FileKind> Limit for LimitOf<'a, K> {
     }
 }
 
-// The fault of a file that has too many bytes.
-fn too_long(alloc: Global, file: &str) -> Fault
+/// The fault of a file that has too many bytes.
+pub fn too_long(alloc: Global, file: &str) -> Fault
     ensures { IsRefusal file.now too_long result }
 {
     match format!(in alloc; "refused: {file}: too long\n") {
@@ -34,8 +34,8 @@ fn too_long(alloc: Global, file: &str) -> Fault
     }
 }
 
-// The fault of a file whose bytes are refused.
-fn refuse(alloc: Global, file: &str, refusal: Refusal) -> Fault
+/// The fault of a file whose bytes are refused.
+pub fn refuse(alloc: Global, file: &str, refusal: Refusal) -> Fault
     ensures { IsRefusal file.now (reason refusal) result }
 {
     match format!(in alloc; "refused: {file}: {refusal}\n") {

@@ -3,6 +3,7 @@
 
 mod answer;
 mod ask;
+mod certificates;
 mod commands;
 mod files;
 mod inputs;

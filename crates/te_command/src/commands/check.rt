@@ -1,16 +1,18 @@
 //! `check CERT`: whether the certificate in a file proves its ratio.
-ghost use Rattle.std.specs.Prelude.{◌≡◌, IfOk, string_bytes};
-ghost use Rattle.te_model.specs.Validity.{IsValid};
+ghost use Rattle.std.specs.Prelude.{◌≡◌, List, IfOk, string_bytes};
+ghost use Rattle.te_model.specs.declared.certificate.Block.{Block};
+ghost use Rattle.te_model.specs.declared.certificate.Certificate.{Certificate};
+ghost use Rattle.te_model.specs.declared.certificate.Head.{Head};
+ghost use Rattle.ratio_checker.specs.Feeds.{StandsFor};
 ghost use Rattle.te_command.specs.Check.{IsVerdict, yes_line};
 ghost use Rattle.te_command.specs.Outcome.{IsLineOf, status_of, text_of};
 
 use crate::answer::{Answer, Fault};
 use crate::ask::Ask;
-use crate::files::value_in;
-use crate::kind::Certificates;
-use ratio_checker::{Finding, verdict};
+use crate::certificates::feed_in;
+use ratio_checker::{Feed, Finding};
 use std::alloc::Global;
-use te_model::{Certificate, DemandSet, Memory};
+use te_model::{DemandSet, Memory};
 use te_ports::Depot;
 
 /// `check CERT`.
@@ -25,8 +27,8 @@ impl<'a> Ask for Check<'a> {
     ghost reading = { λ c. reading_of (check c.certificate.now) };
 
     fn answer<D: Depot>(&self, alloc: Global, depot: &mut D) -> Result<Answer, Fault> {
-        let spelled = value_in(alloc, depot, &Certificates, self.certificate)?;
-        Ok(judge(alloc, &spelled)?)
+        let feed = feed_in(alloc, depot, self.certificate)?;
+        Ok(judge(alloc, feed)?)
     }
 }
 
@@ -43,15 +45,13 @@ fn yes_line(alloc: Global, ratio: u64, set: &DemandSet) -> Result<String, Memory
     }
 }
 
-// The line of what was found of a certificate.
-fn line_of(alloc: Global, certificate: &Certificate, finding: Finding) -> Result<Answer, Memory>
-    ensures { IfOk result (IsLineOf certificate.now finding) }
+// The line of what was found of a certificate, of which this is the line of a yes.
+fn line_of(alloc: Global, yes: String, finding: Finding) -> Result<Answer, Memory>
+    ensures { (certificate : Certificate) → string_bytes yes ≡ yes_line certificate.head.ratio certificate.head.set →
+        IfOk result (IsLineOf certificate finding) }
 {
     match finding {
-        Finding::Yes => {
-            let line = yes_line(alloc, certificate.head.ratio, &certificate.head.set)?;
-            Ok(Answer::Done(line.into_bytes()))
-        }
+        Finding::Yes => Ok(Answer::Done(yes.into_bytes())),
         Finding::No { link, rule, place } => {
             let line = format!(in alloc; "no link {link} rule I{rule} place {place}\n")?;
             Ok(Answer::No(line.into_bytes()))
@@ -59,10 +59,12 @@ fn line_of(alloc: Global, certificate: &Certificate, finding: Finding) -> Result
     }
 }
 
-/// The answer on a certificate.
-pub fn judge(alloc: Global, certificate: &Certificate) -> Result<Answer, Memory>
-    requires { IsValid certificate.now }
-    ensures { IfOk result (λ answer. IsVerdict certificate.now (status_of answer) (text_of answer)) }
+/// The answer on the certificate whose head and blocks the feed was given.
+pub fn judge(alloc: Global, feed: Feed) -> Result<Answer, Memory>
+    requires { (head : Head) × (blocks : List Block) × StandsFor feed head blocks }
+    ensures { (head : Head) → (blocks : List Block) → StandsFor feed head blocks →
+        IfOk result (λ answer. IsVerdict (record { head = head; blocks = blocks }) (status_of answer) (text_of answer)) }
 {
-    line_of(alloc, certificate, verdict(certificate))
+    let yes = yes_line(alloc, feed.head().ratio, &feed.head().set)?;
+    line_of(alloc, yes, feed.finish())
 }

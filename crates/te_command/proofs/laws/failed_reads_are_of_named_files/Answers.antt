@@ -1,4 +1,4 @@
-use Rattle.std.proofs.Common.{◌≡◌, ◌⊎◌, ℕ, List, inl, inr}
+use Rattle.std.proofs.Common.{◌⊎◌, ℕ, List, inl, inr}
 use Rattle.te_ports.specs.Ports.{Rose}
 use Rattle.te_command.specs.Files.{Files, given}
 use Rattle.te_command.specs.Reading.{ReadFailed}

@@ -1,4 +1,4 @@
-use Rattle.std.proofs.Common.{map, string_bytes, ap, ◌∙◌, arith, refl}
+use Rattle.std.proofs.Common.{map, string_bytes, ap, ◌∙◌}
 use Rattle.te_command.specs.Asked.{meant}
 use Rattle.te_command.proofs.Delivering.{form_written}
 use Rattle.te_command.proofs.Answering.{answer_given, refusal_given, answer_told, refusal_told, answer_form, answer_exact, refusal_exact, answer_complete, refusal_complete, failed_given, failed_complete}

@@ -1,0 +1,25 @@
+use Rattle.std.proofs.Common.{ap, Ok}
+use Rattle.te_command.specs.Outcome.{shown}
+use Rattle.te_command.proofs.Feeding.{fed_more, fed_on, fed_whole, may_follow}
+use Rattle.te_command.proofs.certificates.feed_blocks.Goals as goal
+
+pub block-requires-in-rest-clause-above : goal.block-requires-in-rest-clause-above
+block-requires-in-rest-clause-above g c =
+    may_follow c.rest.reader c.next.new.self c.rest.feed _ c.rest.invariant.fed.next c.block.ensures (c.in_ok-next.ensures.ascends (ap Ok c.if-branch.true)).0
+
+pub rest-preserved : goal.rest-preserved
+rest-preserved g c =
+    let next = c.in_ok-next.ensures in
+    fed_more _ _ _ _ _ _ _ _ _ c.rest.invariant (next.handed (ap Ok c.if-branch.true)) c.block-in-rest.ensures.fed c.block.ensures
+    (next.ascends (ap Ok c.if-branch.true)).1 c.block-in-rest.ensures.rest.1 next.name (next.steady (λ e. cc))
+    (record { kept = next.kept; later = next.later; content = next.content })
+
+pub returns-clause-whole : goal.returns-clause-whole
+returns-clause-whole g c =
+    let seen = shown g.D.Depot.content g.D.Depot.gave g.D.Depot.faults in
+    fed_whole _ _ (seen c.rest.depot) (seen c.next.new.depot) _ _ c.rest.invariant (c.in_ok-next.ensures.whole (ap Ok c.if-branch.false))
+
+pub returns-clause-reads : goal.returns-clause-reads
+returns-clause-reads g c =
+    let next = c.in_ok-next.ensures in
+    fed_on _ _ _ _ _ _ c.rest.invariant (next.steady (λ e. cc)) (record { kept = next.kept; later = next.later; content = next.content })

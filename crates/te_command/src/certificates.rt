@@ -1,0 +1,63 @@
+//! Reading the file of a certificate one block at a time: what is found of it, or the line that refuses it.
+ghost use Rattle.std.specs.Prelude.{◌≡◌, [], OnOk};
+ghost use Rattle.block_reader.specs.Blocks.{name_of};
+ghost use Rattle.ratio_checker.specs.Feeds.{head_of};
+ghost use Rattle.te_command.specs.Blocks.{FeedsFile, IsFed, IsFedWhole, IsAnswerTo, ReadsOn};
+ghost use Rattle.te_command.specs.Outcome.{shown};
+
+use crate::answer::Fault;
+use crate::files::{refuse, too_long};
+use crate::refusal::Refusal;
+use block_reader::{BlockReader, StreamFault};
+use ratio_checker::Feed;
+use std::alloc::Global;
+use te_ports::Depot;
+
+// What is answered where the file has this fault.
+fn answer_to(alloc: Global, file: &str, fault: StreamFault) -> Fault
+    ensures { IsAnswerTo file.now fault result }
+{
+    match fault {
+        StreamFault::TooLong => too_long(alloc, file),
+        StreamFault::Shape(line) => refuse(alloc, file, Refusal::Shape(line)),
+        StreamFault::Rule(rule) => refuse(alloc, file, Refusal::Rule(rule)),
+        StreamFault::Failed => Fault::Read,
+        StreamFault::Memory => Fault::Memory,
+    }
+}
+
+// Gives the feed each block of the file, and reads the file to its end.
+fn feed_blocks<D: Depot>(
+    depot: &mut D,
+    reader: &mut BlockReader,
+    feed: &mut Feed,
+) -> Result<(), StreamFault>
+    requires { IsFed (D.gave depot.old (name_of reader.old)) reader.old feed.old (head_of feed.old) [] }
+    ensures whole { OnOk result (IsFedWhole (D.gave depot.new (name_of reader.old)) feed.new) }
+    ensures reads { ReadsOn (name_of reader.old) (shown D.content D.gave D.faults depot.old)
+        (shown D.content D.gave D.faults depot.new) result }
+{
+    'rest: while reader.next(depot)? {
+        feed.block(reader.block());
+    }
+    Ok(())
+}
+
+/// What is found of the certificate that the file of this name gives, as a feed that was given its head and all its
+/// blocks. No more than one of them is kept.
+///
+/// `Refused` comes only for bytes that reads of the file gave, and `Read` only where a read of it failed in the call.
+pub fn feed_in<D: Depot>(alloc: Global, depot: &mut D, file: &str) -> Result<Feed, Fault>
+    ensures { FeedsFile file.now (shown D.content D.gave D.faults depot.old)
+        (shown D.content D.gave D.faults depot.new) result }
+{
+    let (mut reader, head) = match BlockReader::open(alloc, depot, file) {
+        Ok(opened) => opened,
+        Err(fault) => return Err(answer_to(alloc, file, fault)),
+    };
+    let mut feed = Feed::new(alloc, head)?;
+    match feed_blocks(depot, &mut reader, &mut feed) {
+        Ok(()) => Ok(feed),
+        Err(fault) => Err(answer_to(alloc, file, fault)),
+    }
+}
