@@ -54,24 +54,23 @@ fn four_paths(
     Ok(rates)
 }
 
-// Takes `STEPS` steps, and says what became of the demands in the last.
+// Takes `STEPS` steps in which no link fails, and says what became of the demands in the last.
 fn steps(
     alloc: Global,
     net: &Network,
-    failed: &[bool],
     rates: &Recovered,
     matrix: &Matrix,
 ) -> Result<StepResult, Memory>
     requires network { IsTrue (is_well_formed net.now) }
-    requires marks { length failed.now ≡ link_count net.now }
     requires rates { IsRates net.now rates.now.routes }
     requires demands { length matrix.now.demand ≡ length rates.now.routes }
     requires small { EachIndex matrix.now.demand (λ p. slice_index matrix.now.demand p ≤ 2 ^ 32) }
 {
+    let failed = vec![in alloc; false; net.links.as_slice().len()]?;
     for _ in 1..STEPS {
-        let _ = step(alloc, net, failed, rates, matrix)?;
+        let _ = step(alloc, net, &failed, rates, matrix)?;
     }
-    step(alloc, net, failed, rates, matrix)
+    step(alloc, net, &failed, rates, matrix)
 }
 
 // How many links the least paths of the pairs have.
@@ -94,19 +93,17 @@ fn simulate(
     rt: &HostRuntime,
     net: &Network,
     pairs: &Pairs,
-    failed: &[bool],
     rates: &Recovered,
     is_timed: bool,
 ) -> io::Result<()>
     requires network { IsTrue (is_well_formed net.now) }
-    requires marks { length failed.now ≡ link_count net.now }
     requires pairs { ArePairsOf net.now pairs.now.list }
     requires rates { IsRates net.now rates.now.routes }
 {
     let alloc = rt.alloc();
     let matrix = demands(alloc, rates.routes.as_slice().len())?;
     let start = Instant::now(rt)?;
-    let Ok(found) = steps(alloc, net, failed, rates, &matrix) else {
+    let Ok(found) = steps(alloc, net, rates, &matrix) else {
         return Ok(());
     };
     let of_steps = start.elapsed(rt)?.as_micros();
@@ -132,7 +129,7 @@ pub fn measure_steps(rt: &HostRuntime, sources: u32, is_timed: bool) -> io::Resu
         let pairs = pairs_from(alloc, &net, sources)?;
         let failed = vec![in alloc; false; net.links.as_slice().len()]?;
         if let Ok(rates) = four_paths(alloc, &net, &failed, &pairs) {
-            simulate(rt, &net, &pairs, &failed, &rates, is_timed)?;
+            simulate(rt, &net, &pairs, &rates, is_timed)?;
         }
     }
     Ok(())
