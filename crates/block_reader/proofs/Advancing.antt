@@ -20,7 +20,8 @@ use Rattle.block_reader.specs.declared.stream_fault.StreamFault.{StreamFault}
 use Rattle.block_reader.specs.declared.stream_fault.StreamFault.TheVariants as faults
 use Rattle.block_reader.specs.Answers.{Gives}
 use Rattle.block_reader.specs.Blocks.{AreOf, AreBehind, SameRoom, IsSound, IsEarliest, IsShapeOf, IsTextOf, IsFaultOf}
-use Rattle.block_reader.specs.Depots.{Shown, Reads, ReadsTo}
+use Rattle.te_ports.specs.Shown.{Shown}
+use Rattle.block_reader.specs.Depots.{Reads, ReadsTo}
 use Rattle.block_reader.proofs.Handing.{block_handed, block_refused, sound_more, first_fault_is, earliest_more, fault_in, sound_block, valid_block}
 
 -- ---- what a call says of the file of one name

@@ -16,13 +16,14 @@ use Rattle.te_model.specs.Shape.{is_count, is_shaped, is_shaped_head, is_shaped_
 use Rattle.te_model.specs.Validity.{block_at as block_of, first_rule, head_fault, block_fault, blocks_fault, link_before, earlier, follows, fault_at, is_sound_block, has_block_numbers, has_small_numbers, IsValidHead, IsValidBlock}
 use Rattle.te_model.proofs.Earlier.{earlier-assoc}
 use Rattle.te_model.proofs.RuleParts.{first_rule-parts, blocks_fault-more}
-use Rattle.te_model.proofs.Tests.{and_true, or_else_none, unless_none}
+use Rattle.te_model.proofs.Tests.{and_true, and_three, or_else_none, unless_none}
 use Rattle.cert_text.specs.Place.{Place, place, ◌>>=◌}
 use Rattle.cert_text.specs.Reading.{kept, many_at}
 use Rattle.cert_text.specs.Grammar.{block_at, closing_at, opening_at, certificate_at, counts_of}
 use Rattle.cert_text.specs.Fits.{FitsHead, FitsBlock}
 use Rattle.cert_text.specs.declared.fault.CertFault.TheVariants as cert_faults
 use Rattle.cert_text.proofs.Laws.{fault_is}
+use Rattle.cert_text.proofs.Local.{quiet}
 use Rattle.cert_text.proofs.Outcomes.{is_spelled, is_rule_fault}
 use Rattle.cert_text.proofs.Productions.{room_of}
 use Rattle.cert_text.proofs.Shaped.{fits_shaped}
@@ -67,10 +68,7 @@ unfolding rest_at many_at
 end_read head blocks p e closes =
     ap (λ r. r >>= λ q. Ok (made head (blocks ++ []), q)) closes ∙ ap (λ bs. Ok (made head bs, e)) (append-nil blocks)
 
--- the step that reads no value, and the one that ends a certificate
-abbrev quiet : Place → Result (Unit {0} × Place) ℕ
-quiet q = Ok (tt, q)
-
+-- the step that ends a certificate
 abbrev done : Head → List Block → Place → Result (Certificate × Place) ℕ
 done head blocks e = Ok (made head (blocks ++ []), e)
 
@@ -215,15 +213,12 @@ fault_in gave old head blocks b fault are is =
 
 -- ---- valid parts
 
-three_true : (a b c : Bool) → (a && b && c) ≡ true → (a ≡ true) × (b ≡ true) × (c ≡ true)
-three_true a b c e = let f = and_true (a && b) c e in let g = and_true a b f.0 in (g.0, g.1, f.1)
-
 pub valid_head : (head : Head) → FitsHead (limits_of head.format) head → head_fault head ≡ None → IsValidHead head
 valid_head head fits none =
     let limits = limits_of head.format in
     let count : is_count 0 limits.links 0 ≡ true = grind (arith, nat_tests) in
     let shaped = fits_shaped (made head []) (record { head = fits; count = count; blocks = tt }) in
-    record { shaped = (three_true (is_shaped_head limits head) (is_count 0 limits.links 0) true shaped).0; no_fault = none }
+    record { shaped = (and_three (is_shaped_head limits head) (is_count 0 limits.links 0) true shaped).0; no_fault = none }
 
 pub sound_block : (net : Network) (before : Option ℕ) (k : ℕ) (b : Block) → block_fault net before k b ≡ None →
     (has_block_numbers net b ≡ true) × (follows before b.link ≡ true) × (has_small_numbers net b ≡ true)
@@ -239,7 +234,7 @@ valid_block head b fits of_block numbers small =
     let some = (room_of head.format).some_links in
     let count : is_count 0 limits.links 1 ≡ true = grind (arith, nat_tests) in
     let shaped = fits_shaped (made head (b ∷ [])) (record { head = fits; count = count; blocks = (of_block, tt) }) in
-    let each = (three_true (is_shaped_head limits head) (is_count 0 limits.links 1) (is_shaped_block limits head b && true) shaped).2 in
+    let each = (and_three (is_shaped_head limits head) (is_count 0 limits.links 1) (is_shaped_block limits head b && true) shaped).2 in
     record { shaped = (and_true (is_shaped_block limits head b) true each).0; numbers = numbers; small = small }
 
 -- ---- the beginning

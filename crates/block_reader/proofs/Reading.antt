@@ -3,7 +3,8 @@ use Rattle.std.proofs.Common.{◌≡◌, ◌≢◌, ◌∙◌, ℕ, List, Result
 use Rattle.te_ports.specs.Ports.{Rose}
 use Rattle.block_reader.specs.declared.stream_fault.StreamFault.{StreamFault}
 use Rattle.block_reader.specs.declared.stream_fault.StreamFault.TheVariants.{Failed}
-use Rattle.block_reader.specs.Depots.{Shown, Reads}
+use Rattle.te_ports.specs.Shown.{Shown}
+use Rattle.block_reader.specs.Depots.{Reads}
 
 pub reads_then : {A B : Type 0} (d0 d1 d2 : Shown) (name : List ℕ) (x : A) (r : Result B StreamFault) → Reads d0 d1 name (Ok x) → Reads d1 d2 name r → Reads d0 d2 name r
 reads_then d0 d1 d2 name x r first next =

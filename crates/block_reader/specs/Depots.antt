@@ -1,18 +1,10 @@
 -- What a call that reads a file may do to a depot.
-use Rattle.std.specs.Prelude.{◌≡◌, ◌≢◌, ◌≤◌, ℕ, List, Option, Result, Err, IsErrOf}
+use Rattle.std.specs.Prelude.{◌≡◌, ◌≢◌, ◌≤◌, ℕ, List, Result, Err, IsErrOf}
 use Rattle.te_ports.specs.Ports.{Rose}
 use Rattle.te_ports.specs.Record.{Grows}
+use Rattle.te_ports.specs.Shown.{Shown}
 use Rattle.block_reader.specs.declared.stream_fault.StreamFault.{StreamFault}
 use Rattle.block_reader.specs.declared.stream_fault.StreamFault.TheVariants.{Failed}
-
--- what a depot shows: what it tells, what its reads gave, and how often they failed
-pub record Shown : Type 1 where
-  pub content : List ℕ → Option (List ℕ)
-  pub gave : List ℕ → ℕ → List ℕ → Type 0
-  pub faults : List ℕ → ℕ
-
-abbrev pub shown : {D : Type 0} → (D → List ℕ → Option (List ℕ)) → (D → List ℕ → ℕ → List ℕ → Type 0) → (D → List ℕ → ℕ) → D → Shown
-shown content gave faults depot = record { content = content depot; gave = gave depot; faults = faults depot }
 
 -- it answers a failed read only where a read of the file failed in the call, and tells and keeps what it had
 pub record Reads {A : Type 0} (old new : Shown) (name : List ℕ) (result : Result A StreamFault) : Type 0 where

@@ -37,7 +37,8 @@ impl Blocks {
     ghost use Rattle.cert_text.specs.Fits.{FitsBlock};
     ghost use Rattle.block_reader.specs.Answers.{IsWell, Answers};
     ghost use Rattle.block_reader.specs.Blocks.{AreBehind, AreOf, IsFaultOf, IsTextOf, IsShapeOf, IsSound, IsEarliest, SameRoom, block_in};
-    ghost use Rattle.block_reader.specs.Depots.{shown, Reads, ReadsTo};
+    ghost use Rattle.te_ports.specs.Shown.{shown};
+    ghost use Rattle.block_reader.specs.Depots.{Reads, ReadsTo};
 
     // Reads the lines of the next block into the room.
     fn take_next<D: Depot>(&mut self, depot: &mut D) -> Result<(), StreamFault>

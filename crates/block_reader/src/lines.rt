@@ -21,7 +21,8 @@ pub(crate) struct Lines {
 impl Lines {
     ghost use Rattle.block_reader.specs.Standing.{StandsAt, StandsIn};
     ghost use Rattle.block_reader.specs.Answers.{IsBehind, IsWell, HasEnough, IsClosedBy, Passes, IsDrained};
-    ghost use Rattle.block_reader.specs.Depots.{shown, Reads, ReadsTo};
+    ghost use Rattle.te_ports.specs.Shown.{shown};
+    ghost use Rattle.block_reader.specs.Depots.{Reads, ReadsTo};
 
     /// The first bytes of a file. `Failed` where a read failed.
     pub(crate) fn at_start(window: Window) -> Result<Lines, StreamFault>

@@ -9,7 +9,8 @@ ghost use Rattle.cert_text.specs.Listed.{IsListOf};
 ghost use Rattle.block_reader.specs.Sizes.{block_size};
 ghost use Rattle.block_reader.specs.Parts.{IsFormat};
 ghost use Rattle.block_reader.specs.Answers.{IsWell, Answers};
-ghost use Rattle.block_reader.specs.Depots.{shown, Reads};
+ghost use Rattle.te_ports.specs.Shown.{shown};
+ghost use Rattle.block_reader.specs.Depots.{Reads};
 
 use crate::lines::Lines;
 use crate::parts::{

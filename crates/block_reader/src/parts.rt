@@ -10,7 +10,8 @@ ghost use Rattle.block_reader.specs.Ahead.{passing};
 ghost use Rattle.block_reader.specs.Sizes.{format_size, network_size, count_size, pair_size, set_size, ratio_size};
 ghost use Rattle.block_reader.specs.Parts.{IsFormat, IsPart};
 ghost use Rattle.block_reader.specs.Answers.{IsBehind, Passes, IsWell, Answers, StopsAs, IsClosed, place_of};
-ghost use Rattle.block_reader.specs.Depots.{shown, Reads};
+ghost use Rattle.te_ports.specs.Shown.{shown};
+ghost use Rattle.block_reader.specs.Depots.{Reads};
 
 use crate::lines::Lines;
 use crate::stream_fault::StreamFault;

@@ -18,17 +18,14 @@ use Rattle.te_model.specs.declared.certificate.Head.{Head}
 use Rattle.te_model.specs.declared.certificate.Certificate.{Certificate}
 use Rattle.te_model.specs.Network.{node_count, link_count, is_name}
 use Rattle.te_model.specs.Shape.{is_count, is_word, are_words, is_row_of, is_shaped_link, is_shaped_network, is_shaped_path, is_shaped_pair, is_shaped_set, is_shaped_head, is_shaped_row, has_one_each, is_shaped_block, is_shaped}
-use Rattle.te_model.proofs.Tests.{and_true}
+use Rattle.te_model.proofs.Tests.{and_true, and_three}
 use Rattle.cert_text.specs.Grammar.{counts_of, has_boxes, has_bounds}
 use Rattle.cert_text.specs.Fits.{IsWord, AreWords, IsNamed, FitsLink, FitsNetwork, FitsPath, FitsPair, FitsList, FitsSet, FitsHead, FitsRow, FitsSides, FitsBlock, FitsFormat}
 
 -- ---- tests of several parts
 
-and_3 : (a b c : Bool) → (a && b && c) ≡ true → (a ≡ true) × (b ≡ true) × (c ≡ true)
-and_3 a b c e = let f = and_true (a && b) c e in let g = and_true a b f.0 in (g.0, g.1, f.1)
-
-and_4 : (a b c d : Bool) → (a && b && c && d) ≡ true → (a ≡ true) × (b ≡ true) × (c ≡ true) × (d ≡ true)
-and_4 a b c d e = let f = and_true (a && b && c) d e in let g = and_3 a b c f.0 in (g.0, g.1, g.2, f.1)
+and_four : (a b c d : Bool) → (a && b && c && d) ≡ true → (a ≡ true) × (b ≡ true) × (c ≡ true) × (d ≡ true)
+and_four a b c d e = let f = and_true (a && b && c) d e in let g = and_three a b c f.0 in (g.0, g.1, g.2, f.1)
 
 all_of : {X : Type 0} (test : X → Bool) (P : X → Type 0) → ((x : X) → test x ≡ true → P x) → (xs : List X) → list_all test xs ≡ true → AllByRecursion P xs
 all_of test P each [] all = tt
@@ -62,7 +59,7 @@ test_list n ns fits = rw (eq-eqb (length ns) n fits.count, test_words ns fits.wo
 
 link_of : (l : Link) → is_shaped_link l ≡ true → FitsLink l
 link_of l e =
-    let f = and_4 (is_word l.tail) (is_word l.head) (is_word l.capacity) (is_word l.cost) e in
+    let f = and_four (is_word l.tail) (is_word l.head) (is_word l.capacity) (is_word l.cost) e in
     record { tail = word_of l.tail f.0; head = word_of l.head f.1; capacity = word_of l.capacity f.2; cost = word_of l.cost f.3 }
 
 test_link : (l : Link) → FitsLink l → is_shaped_link l ≡ true
@@ -70,7 +67,7 @@ test_link l fits = rw (test_word l.tail fits.tail, test_word l.head fits.head, t
 
 network_of : (limits : Limits) (net : Network) → is_shaped_network limits net ≡ true → FitsNetwork limits net
 network_of limits net e =
-    let f = and_4 (is_count 2 limits.nodes (node_count net)) (list_all is_name net.names) (is_count 1 limits.links (link_count net)) (list_all is_shaped_link net.links) e in
+    let f = and_four (is_count 2 limits.nodes (node_count net)) (list_all is_name net.names) (is_count 1 limits.links (link_count net)) (list_all is_shaped_link net.links) e in
     record { nodes = f.0; names = all_of is_name IsNamed (λ n h. h) net.names f.1; links = f.2; each_link = all_of is_shaped_link FitsLink link_of net.links f.3 }
 
 test_network : (limits : Limits) (net : Network) → FitsNetwork limits net → is_shaped_network limits net ≡ true
@@ -79,7 +76,7 @@ test_network limits net fits =
 
 path_of : (limits : Limits) (s : PathShare) → is_shaped_path limits s ≡ true → FitsPath limits s
 path_of limits s e =
-    let f = and_3 (is_word s.weight) (is_count 1 limits.hops (length s.links)) (are_words s.links) e in
+    let f = and_three (is_word s.weight) (is_count 1 limits.hops (length s.links)) (are_words s.links) e in
     record { weight = word_of s.weight f.0; hops = f.1; links = words_of s.links f.2 }
 
 test_path : (limits : Limits) (s : PathShare) → FitsPath limits s → is_shaped_path limits s ≡ true
@@ -87,7 +84,7 @@ test_path limits s fits = rw (test_word s.weight fits.weight, fits.hops, test_wo
 
 pair_of : (limits : Limits) (r : PairRoutes) → is_shaped_pair limits r ≡ true → FitsPair limits r
 pair_of limits r e =
-    let f = and_4 (is_word r.pair.src) (is_word r.pair.dst) (is_count 1 limits.paths (length r.paths)) (list_all (is_shaped_path limits) r.paths) e in
+    let f = and_four (is_word r.pair.src) (is_word r.pair.dst) (is_count 1 limits.paths (length r.paths)) (list_all (is_shaped_path limits) r.paths) e in
     record { src = word_of r.pair.src f.0; dst = word_of r.pair.dst f.1; paths = f.2; each_path = all_of (is_shaped_path limits) (FitsPath limits) (path_of limits) r.paths f.3 }
 
 test_pair : (limits : Limits) (r : PairRoutes) → FitsPair limits r → is_shaped_pair limits r ≡ true
@@ -105,11 +102,11 @@ number_of_format f known = either (eqb f 2) known
 set_of : (limits : Limits) (pairs : ℕ) (s : DemandSet) → is_shaped_set limits pairs s ≡ true → FitsSet limits pairs s
 set_of limits pairs All e = tt
 set_of limits pairs (Margin num den base) e =
-    let f = and_4 (eqb limits.format 1) (is_word num) (is_word den) (is_row_of pairs base.demand) e in
+    let f = and_four (eqb limits.format 1) (is_word num) (is_word den) (is_row_of pairs base.demand) e in
     let first : limits.format ≡ 1 = eqb-true limits.format 1 f.0 in
     (ap (λ (n : ℕ). eqb n 2) first, word_of num f.1, word_of den f.2, list_of pairs base.demand f.3)
 set_of limits pairs (Box lower upper) e =
-    let f = and_3 (has_boxes limits) (is_row_of pairs lower.demand) (is_row_of pairs upper.demand) e in
+    let f = and_three (has_boxes limits) (is_row_of pairs lower.demand) (is_row_of pairs upper.demand) e in
     (f.0, list_of pairs lower.demand f.1, list_of pairs upper.demand f.2)
 
 test_set : (limits : Limits) (pairs : ℕ) (s : DemandSet) → (limits.format ≡ 1) ⊎ (limits.format ≡ 2) → FitsSet limits pairs s → is_shaped_set limits pairs s ≡ true
@@ -125,8 +122,8 @@ head_of limits h e =
     let pairs = is_count 0 limits.pairs (length h.routes) in
     let each = list_all (is_shaped_pair limits) h.routes in
     let set = is_shaped_set limits (length h.routes) h.set in
-    let f = and_3 (format && net && pairs && each) set (is_word h.ratio) e in
-    let g = and_4 format net pairs each f.0 in
+    let f = and_three (format && net && pairs && each) set (is_word h.ratio) e in
+    let g = and_four format net pairs each f.0 in
     record {
       format = eqb-true h.format limits.format g.0;
       network = network_of limits h.network g.1;
@@ -180,8 +177,8 @@ block_of limits h b e =
     let plus = has_one_each h.set (length h.routes) b.plus in
     let minus = has_one_each h.set (length h.routes) b.minus in
     let f = and_true (link && a && low && weights && count && rows && plus) minus e in
-    let g = and_4 (link && a && low && weights) count rows plus f.0 in
-    let i = and_4 link a low weights g.0 in
+    let g = and_four (link && a && low && weights) count rows plus f.0 in
+    let i = and_four link a low weights g.0 in
     record {
       link = word_of b.link i.0;
       a = word_of b.a i.1;
@@ -208,7 +205,7 @@ test_block limits h b fits =
 pub shaped_fits : (c : Certificate) → is_shaped (limits_of c.head.format) c ≡ true → FitsFormat c
 shaped_fits c e =
     let limits = limits_of c.head.format in
-    let f = and_3 (is_shaped_head limits c.head) (is_count 0 limits.links (length c.blocks)) (list_all (is_shaped_block limits c.head) c.blocks) e in
+    let f = and_three (is_shaped_head limits c.head) (is_count 0 limits.links (length c.blocks)) (list_all (is_shaped_block limits c.head) c.blocks) e in
     record { head = head_of limits c.head f.0; count = f.1; blocks = all_of (is_shaped_block limits c.head) (FitsBlock limits (counts_of c.head)) (block_of limits c.head) c.blocks f.2 }
 
 pub fits_shaped : (c : Certificate) → FitsFormat c → is_shaped (limits_of c.head.format) c ≡ true

@@ -15,7 +15,8 @@ use Rattle.ratio_checker.specs.Feeds.{StandsFor, next_link}
 use Rattle.te_command.specs.declared.answer.Fault.{Fault}
 use Rattle.te_command.specs.declared.answer.Fault.TheVariants.{Refused, Read, Memory}
 use Rattle.te_command.specs.CertificateFile.{certificates, shape_reason, rule_reason}
-use Rattle.te_command.specs.Outcome.{Shown, Reads, ReadsFile, OnRead}
+use Rattle.te_ports.specs.Shown.{Shown}
+use Rattle.te_command.specs.Outcome.{Reads, ReadsFile, OnRead}
 use Rattle.te_command.specs.Blocks.{IsFed, IsFedWhole, ReadsOn, IsAnswerTo, FeedsFile, link_after}
 use Rattle.te_command.proofs.Following.{both}
 

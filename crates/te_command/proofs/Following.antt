@@ -8,7 +8,8 @@ use Rattle.te_command.specs.declared.answer.Fault.{Fault}
 use Rattle.te_command.specs.declared.answer.Fault.TheVariants.{Refused, Read, Memory}
 use Rattle.te_command.specs.Files.{Files, given}
 use Rattle.te_command.specs.Reading.{Kind, Answers, Reading, answers, reads, GivesIn, Means, ReadFailed}
-use Rattle.te_command.specs.Outcome.{Shown, Reads, ReadsFile, Meant, OnRead, Follows, status_of, text_of}
+use Rattle.te_ports.specs.Shown.{Shown}
+use Rattle.te_command.specs.Outcome.{Reads, ReadsFile, Meant, OnRead, Follows, status_of, text_of}
 
 -- what a file gave it still gives
 pub gives_kept : (A : Type 0) (kind : Kind A) (file : List ℕ) (value : A) (old new : Shown) → Grows old.gave new.gave →

@@ -15,7 +15,8 @@ use Rattle.failure.specs.Series.{no_failures}
 use Rattle.te_command.specs.FailureFile.{failure_files}
 use Rattle.te_command.specs.PlanFile.{plans}
 use Rattle.te_command.specs.Commands.{with_plan, with_failures}
-use Rattle.te_command.specs.Outcome.{Shown, ReadsFile, GivesPlan, ReadsFailures, Follows, no_answer}
+use Rattle.te_ports.specs.Shown.{Shown}
+use Rattle.te_command.specs.Outcome.{ReadsFile, GivesPlan, ReadsFailures, Follows, no_answer}
 use Rattle.te_command.proofs.Following.{gives_kept, no_change, both, after, goes_on, stops}
 
 -- what is read after a plan, and after its network

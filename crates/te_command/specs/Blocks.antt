@@ -13,7 +13,8 @@ use Rattle.te_command.specs.declared.answer.Fault.{Fault}
 use Rattle.te_command.specs.declared.answer.Fault.TheVariants.{Read, Memory}
 use Rattle.te_command.specs.Reading.{too_long}
 use Rattle.te_command.specs.CertificateFile.{certificates, shape_reason, rule_reason}
-use Rattle.te_command.specs.Outcome.{Shown, Reads, ReadsFile, IsRefusal}
+use Rattle.te_ports.specs.Shown.{Shown}
+use Rattle.te_command.specs.Outcome.{Reads, ReadsFile, IsRefusal}
 
 -- the least link that may follow this one
 abbrev pub link_after : Option ℕ → ℕ

@@ -2,6 +2,7 @@
 use Rattle.std.specs.Prelude.{◌≡◌, ◌≢◌, ◌≤◌, ℕ, List, string_bytes, Option, Some, None, Result, Ok, Err}
 use Rattle.te_ports.specs.Ports.{Rose}
 use Rattle.te_ports.specs.Record.{Grows}
+use Rattle.te_ports.specs.Shown.{Shown}
 use Rattle.te_model.specs.declared.certificate.Certificate.{Certificate}
 use Rattle.te_model.specs.declared.network.Network.{Network}
 use Rattle.ratio_checker.specs.declared.finding.Finding.{Finding}
@@ -27,16 +28,7 @@ use Rattle.te_command.specs.Refusals.{reason}
 use Rattle.te_command.specs.Check.{yes_line, no_line}
 use Rattle.te_command.specs.Commands.{with_plan}
 
--- what a depot shows: what it tells, what its reads gave, and how often they failed
-pub record Shown : Type 1 where
-  pub content : List ℕ → Option (List ℕ)
-  pub gave : List ℕ → ℕ → List ℕ → Type 0
-  pub faults : List ℕ → ℕ
-
-abbrev pub shown : {D : Type 0} → (D → List ℕ → Option (List ℕ)) → (D → List ℕ → ℕ → List ℕ → Type 0) → (D → List ℕ → ℕ) → D → Shown
-shown content gave faults depot = record { content = content depot; gave = gave depot; faults = faults depot }
-
--- what a call may do to it
+-- what a call may do to a depot
 pub record Reads (old new : Shown) : Type 0 where
   pub kept : Grows old.gave new.gave
   pub later : (file : List ℕ) → old.faults file ≤ new.faults file

@@ -1,6 +1,7 @@
 //! What every command promises.
 ghost use Rattle.te_command.specs.Reading.{Reading};
-ghost use Rattle.te_command.specs.Outcome.{Follows, shown};
+ghost use Rattle.te_ports.specs.Shown.{shown};
+ghost use Rattle.te_command.specs.Outcome.{Follows};
 
 use crate::answer::{Answer, Fault};
 use std::alloc::Global;

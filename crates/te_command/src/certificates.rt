@@ -3,7 +3,7 @@ ghost use Rattle.std.specs.Prelude.{◌≡◌, [], OnOk};
 ghost use Rattle.block_reader.specs.Blocks.{name_of};
 ghost use Rattle.ratio_checker.specs.Feeds.{head_of};
 ghost use Rattle.te_command.specs.Blocks.{FeedsFile, IsFed, IsFedWhole, IsAnswerTo, ReadsOn};
-ghost use Rattle.te_command.specs.Outcome.{shown};
+ghost use Rattle.te_ports.specs.Shown.{shown};
 
 use crate::answer::Fault;
 use crate::files::{refuse, too_long};

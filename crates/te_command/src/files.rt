@@ -2,7 +2,8 @@
 ghost use Rattle.std.specs.Prelude.{◌≤◌, List, length, IfOk};
 ghost use Rattle.te_command.specs.Reading.{refused_line, too_long};
 ghost use Rattle.te_command.specs.Refusals.{reason};
-ghost use Rattle.te_command.specs.Outcome.{IsRefusal, ReadsBytesOf, ReadsFile, shown};
+ghost use Rattle.te_ports.specs.Shown.{shown};
+ghost use Rattle.te_command.specs.Outcome.{IsRefusal, ReadsBytesOf, ReadsFile};
 
 use crate::answer::Fault;
 use crate::kind::FileKind;

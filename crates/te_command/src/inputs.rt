@@ -3,7 +3,8 @@ ghost use Rattle.std.specs.Prelude.{◌≤◌, IfOk, IsTrue};
 ghost use Rattle.te_model.specs.Network.{is_well_formed, link_count, node_count};
 ghost use Rattle.traffic_matrix.specs.Limits.{IsSeries};
 ghost use Rattle.plan.specs.Plan.{InRange};
-ghost use Rattle.te_command.specs.Outcome.{ReadsInputs, ReadsFailures, shown};
+ghost use Rattle.te_ports.specs.Shown.{shown};
+ghost use Rattle.te_command.specs.Outcome.{ReadsInputs, ReadsFailures};
 
 use crate::answer::Fault;
 use crate::files::value_in;

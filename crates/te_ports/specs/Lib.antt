@@ -1,5 +1,6 @@
 pub mod Ports
 pub mod Record
+pub mod Shown
 pub mod PieceOf
 pub mod Limit
 pub mod MemDepot

@@ -4,7 +4,8 @@ use Rattle.cert_text.specs.Fits.{FitsPair}
 use Rattle.cert_text.specs.Reading.{kept, many_at}
 use Rattle.cert_text.specs.Grammar.{pair_at}
 use Rattle.block_reader.specs.Answers.{IsWell, Gives}
-use Rattle.block_reader.specs.Depots.{shown, Reads}
+use Rattle.te_ports.specs.Shown.{shown}
+use Rattle.block_reader.specs.Depots.{Reads}
 use Rattle.block_reader.proofs.opening.pairs.Given as goal
 
 abbrev pub invariant-loop : goal.invariant-loop

@@ -1,5 +1,5 @@
 use Rattle.std.proofs.Common.{ap, Ok}
-use Rattle.te_command.specs.Outcome.{shown}
+use Rattle.te_ports.specs.Shown.{shown}
 use Rattle.te_command.proofs.Feeding.{fed_more, fed_on, fed_whole, may_follow}
 use Rattle.te_command.proofs.certificates.feed_blocks.Goals as goal
 

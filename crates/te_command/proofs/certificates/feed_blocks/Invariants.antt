@@ -1,5 +1,5 @@
 use Rattle.block_reader.specs.Blocks.{name_of, blocks_left}
-use Rattle.te_command.specs.Outcome.{shown}
+use Rattle.te_ports.specs.Shown.{shown}
 use Rattle.te_command.proofs.Feeding.{StandsFed}
 use Rattle.te_command.proofs.certificates.feed_blocks.Given as goal
 

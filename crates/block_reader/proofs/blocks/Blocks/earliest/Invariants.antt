@@ -2,7 +2,8 @@ use Rattle.std.proofs.Common.{Ok}
 use Rattle.std.specs.Prelude.{string_bytes}
 use Rattle.block_reader.specs.Answers.{IsWell}
 use Rattle.block_reader.specs.Blocks.{SameRoom}
-use Rattle.block_reader.specs.Depots.{shown, Reads}
+use Rattle.te_ports.specs.Shown.{shown}
+use Rattle.block_reader.specs.Depots.{Reads}
 use Rattle.block_reader.proofs.Advancing.{Carries}
 use Rattle.block_reader.proofs.blocks.Blocks.earliest.Given as goal
 

@@ -1,0 +1,11 @@
+-- What a depot shows of its files.
+use Rattle.std.specs.Prelude.{ℕ, List, Option}
+
+-- what it tells of each file, what its reads gave, and how often they failed
+pub record Shown : Type 1 where
+  pub content : List ℕ → Option (List ℕ)
+  pub gave : List ℕ → ℕ → List ℕ → Type 0
+  pub faults : List ℕ → ℕ
+
+abbrev pub shown : {D : Type 0} → (D → List ℕ → Option (List ℕ)) → (D → List ℕ → ℕ → List ℕ → Type 0) → (D → List ℕ → ℕ) → D → Shown
+shown content gave faults depot = record { content = content depot; gave = gave depot; faults = faults depot }
