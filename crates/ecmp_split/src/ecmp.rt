@@ -38,8 +38,7 @@ impl PairSplit for Ecmp {
         searches: &mut Searches,
         dst: u32,
     ) -> Result<NextHops, Memory> {
-        let hops = next_hops(alloc, net, searches, dst)?;
-        Ok(hops)
+        next_hops(alloc, net, searches, dst)
     }
 
     fn split(

@@ -38,8 +38,7 @@ impl PairSplit for Spf {
         searches: &mut Searches,
         dst: u32,
     ) -> Result<Ways, Memory> {
-        let ways = ways_to(alloc, net, searches, dst)?;
-        Ok(ways)
+        ways_to(alloc, net, searches, dst)
     }
 
     fn split(
