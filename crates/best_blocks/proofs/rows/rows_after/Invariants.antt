@@ -1,0 +1,5 @@
+use Rattle.best_blocks.specs.Rows.{AreRowsFrom}
+use Rattle.best_blocks.proofs.rows.rows_after.Given as goal
+
+abbrev pub invariant-loop-i : goal.invariant-loop-i
+invariant-loop-i l = AreRowsFrom l.i l.net l.new l.marks l.next.items

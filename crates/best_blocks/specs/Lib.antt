@@ -1,0 +1,11 @@
+pub mod Best
+pub mod Conditions
+pub mod Marks
+pub mod Metric
+pub mod Need
+pub mod Potentials
+pub mod Quotient
+pub mod Rows
+pub mod Scale
+pub mod Sharing
+pub mod Under

@@ -1,0 +1,35 @@
+-- Distances from the nodes that are marked.
+use Rattle.std.specs.Prelude.{◌≡◌, ◌⊎◌, ℕ, ◌+◌, ◌<◌, Bool, true, false, not, ◌&&◌, ◌==◌, nat_le, List, [], Option, Some, None, length, slice_index, slice_index_or}
+use Rattle.te_model.specs.declared.network.Network.{Network}
+use Rattle.te_model.specs.Network.{tail_of, head_of}
+use Rattle.te_model.specs.Path.{has_number}
+use Rattle.shortest_path.specs.Graph.{distance_at}
+use Rattle.shortest_path.specs.Paths.{AreDistances}
+
+-- whether node i is marked
+abbrev pub is_marked : List Bool → ℕ → Bool
+is_marked marks i = slice_index_or marks i false
+
+-- the row of node i
+abbrev pub row_at : List (List (Option ℕ)) → ℕ → List (Option ℕ)
+row_at rows i = slice_index_or rows i []
+
+-- a row for each of n nodes: the distances from those that are marked, and the distances or nothing for the others
+pub record AreRowsFrom (n : ℕ) (net : Network) (weights : List ℕ) (marks : List Bool) (rows : List (List (Option ℕ))) : Type 0 where
+  pub count : length rows ≡ n
+  pub each : (i : ℕ) → i < n → is_marked marks i ≡ true → AreDistances net weights i (row_at rows i)
+  pub others : (i : ℕ) → i < n → is_marked marks i ≡ false → (row_at rows i ≡ []) ⊎ AreDistances net weights i (row_at rows i)
+
+-- the weights of n links are the same but on the changed ones
+abbrev pub IsSameElsewhere : ℕ → List ℕ → List ℕ → List ℕ → Type 0
+IsSameElsewhere n changed old new = (h : ℕ) → h < n → has_number changed h ≡ false → slice_index new h ≡ slice_index old h
+
+-- whether a link between nodes at these distances is neither tight by its old weight nor a short cut by its new one
+abbrev pub is_loose : Option ℕ → Option ℕ → ℕ → ℕ → Bool
+is_loose None to old new = true
+is_loose (Some x) None old new = true
+is_loose (Some x) (Some y) old new = not (y == x + old) && nat_le y (x + new)
+
+-- the same of link h and the distances of its ends
+abbrev pub is_slack_for : Network → List (Option ℕ) → List ℕ → List ℕ → ℕ → Bool
+is_slack_for net row old new h = is_loose (distance_at row (tail_of net h)) (distance_at row (head_of net h)) (slice_index old h) (slice_index new h)

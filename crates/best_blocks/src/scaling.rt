@@ -1,0 +1,87 @@
+//! By what weights are scaled.
+ghost use Rattle.std.specs.Prelude.{◌≡◌, ◌<◌, ◌≤◌, ℕ, false, IfSome, IfNone, IsTrue, All, length, slice_index};
+ghost use Rattle.te_model.specs.Demand.{lower_of, upper_of};
+ghost use Rattle.te_model.specs.Network.{is_well_formed};
+ghost use Rattle.best_blocks.specs.Best.{IsBestScale, IsScaleForAll, IsScaleBetween, balances};
+ghost use Rattle.best_blocks.specs.Conditions.{IsRoutingWithin, IsSetWithin};
+ghost use Rattle.best_blocks.specs.Metric.{IsMetric};
+ghost use Rattle.best_blocks.specs.Scale.{AreScalable, HasNoScale};
+ghost use Rattle.best_blocks.specs.Sharing.{IsSharedLink};
+ghost use Rattle.best_blocks.specs.Under.{IsScaleUnder};
+
+use crate::balance::greatest_balance;
+use crate::metric::Metric;
+use crate::quotient::{greatest_quotient, has_free_share};
+use crate::sharing::SharedLink;
+use routing::Routing;
+use te_model::{DemandSet, Network, SHARE_UNIT};
+
+/// By what the weights of a block are scaled: `a / b`.
+#[derive(Clone, Copy, Debug, PartialEq, Eq)]
+pub struct Scale {
+    pub a: u64,
+    pub b: u64,
+}
+
+/// The best scale for every matrix, or `None` where there is none.
+fn scale_for_all(shares: &[u64], distances: &[u64]) -> Option<Scale>
+    requires count { length distances.now ≡ length shares.now }
+    requires some { (p : ℕ) × (p < length shares.now) × (0 < slice_index shares.now p) }
+    ensures some { IfSome result (λ s. IsScaleForAll (length shares.now) (slice_index shares.now) (slice_index distances.now) s.a s.b) }
+    ensures none { IfNone result ((p : ℕ) × (p < length shares.now) × (0 < slice_index shares.now p) × (slice_index distances.now p ≡ 0)) }
+{
+    if has_free_share(shares, distances) {
+        return None;
+    }
+    let best = greatest_quotient(shares, distances);
+    Some(Scale {
+        a: best.share,
+        b: best.distance,
+    })
+}
+
+/// The best scale between the bounds of the set, or `None` where there is none.
+fn scale_between(set: &DemandSet, shares: &[u64], distances: &[u64]) -> Option<Scale>
+    requires { AreScalable set.now shares.now distances.now }
+    ensures some { IfSome result (λ s. IsScaleBetween (lower_of set.now) (upper_of set.now) (length shares.now) (slice_index shares.now) (slice_index distances.now) s.a s.b) }
+    ensures none { IfNone result (balances (lower_of set.now) (upper_of set.now) (length shares.now) (slice_index shares.now) (slice_index distances.now) 1 ≡ false) }
+{
+    match greatest_balance(set, shares, distances) {
+        Some(b) => Some(Scale { a: SHARE_UNIT, b }),
+        None => None,
+    }
+}
+
+/// The best scale, or `None` where there is none.
+fn scale_of(set: &DemandSet, shares: &[u64], distances: &[u64]) -> Option<Scale>
+    requires numbers { AreScalable set.now shares.now distances.now }
+    requires some { (p : ℕ) × (p < length shares.now) × (0 < slice_index shares.now p) }
+    ensures some { IfSome result (λ s. IsBestScale set.now (length shares.now) (slice_index shares.now) (slice_index distances.now) s.a s.b) }
+    ensures none { IfNone result (HasNoScale set.now (length shares.now) (slice_index shares.now) (slice_index distances.now)) }
+{
+    match set {
+        DemandSet::All => scale_for_all(shares, distances),
+        DemandSet::Margin { .. } => scale_between(set, shares, distances),
+        DemandSet::Box { .. } => scale_between(set, shares, distances),
+    }
+}
+
+/// The best scale of the weights of the metric on the link, or `None` where there is none.
+pub fn scale_under(
+    net: &Network,
+    routing: &Routing,
+    set: &DemandSet,
+    shared: &SharedLink,
+    metric: &Metric,
+) -> Option<Scale>
+    requires network { IsTrue (is_well_formed net.now) }
+    requires routing { IsRoutingWithin net.now routing.now.routes }
+    requires set { IsSetWithin (length routing.now.routes) set.now }
+    requires shared { IsSharedLink net.now routing.now.routes set.now shared.now }
+    requires metric { IsMetric net.now routing.now.routes shared.now.marks metric.now }
+    ensures some { IfSome result (λ s. IsScaleUnder net.now routing.now.routes set.now shared.now.link metric.now.weights s.a s.b) }
+    ensures scale { IfSome result (λ s. IsBestScale set.now (length routing.now.routes) (slice_index shared.now.shares) (slice_index metric.now.distances) s.a s.b) }
+    ensures none { IfNone result (HasNoScale set.now (length routing.now.routes) (slice_index shared.now.shares) (slice_index metric.now.distances)) }
+{
+    scale_of(set, shared.shares.as_slice(), metric.distances.as_slice())
+}
