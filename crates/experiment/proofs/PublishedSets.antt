@@ -6,7 +6,7 @@ use Rattle.std.proofs.lemmas.List.Elements.{All-replicate}
 use Rattle.std.proofs.lemmas.Bool.Decides.{nat_tests}
 use Rattle.te_model.specs.declared.demand.Matrix.{Matrix}
 use Rattle.routing.specs.Routes.{AreDemands}
-use Rattle.ratio_certificate.specs.Conditions.{IsSetWithin}
+use Rattle.best_blocks.specs.Conditions.{IsSetWithin}
 use Rattle.traffic_matrix.specs.declared.series.Series.{Series}
 use Rattle.traffic_matrix.specs.Limits.{IsSeries, IsMatrix}
 use Rattle.plan.specs.declared.experiment.Experiment.{Experiment}

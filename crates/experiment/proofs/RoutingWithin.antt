@@ -12,7 +12,7 @@ use Rattle.te_model.specs.Pairs.{no_pair, pair_at, AscendPairs}
 use Rattle.te_model.specs.Path.{routes_at, no_routes, source_of, destination_of}
 use Rattle.routing.specs.Routes.{IsRoutingOf, HasFewPaths}
 use Rattle.scheme.specs.Reach.{ArePairsOf, IsPairOf}
-use Rattle.ratio_certificate.specs.Conditions.{IsRoutingWithin}
+use Rattle.best_blocks.specs.Conditions.{IsRoutingWithin}
 use Rattle.series_simulation.proofs.FewPairs.{network_pairs_few}
 
 -- the pair of the routes at a place

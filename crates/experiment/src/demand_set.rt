@@ -1,6 +1,6 @@
 //! The demand set of a plan.
 ghost use Rattle.std.specs.Prelude.{◌≡◌, IfOk};
-ghost use Rattle.ratio_certificate.specs.Conditions.{IsNoBox};
+ghost use Rattle.best_blocks.specs.Conditions.{IsNoBox};
 ghost use Rattle.experiment.specs.Published.{first_matrix, published_set};
 
 use std::alloc::Global;

@@ -2,7 +2,7 @@
 ghost use Rattle.std.specs.Prelude.{◌≤◌, IfOk, IfErr, OnOk, IsTrue, length};
 ghost use Rattle.te_model.specs.Network.{is_well_formed, link_count};
 ghost use Rattle.path_budget.specs.Budget.{trimmed};
-ghost use Rattle.ratio_certificate.specs.Conditions.{IsNoBox, IsSetWithin};
+ghost use Rattle.best_blocks.specs.Conditions.{IsNoBox, IsSetWithin};
 ghost use Rattle.ratio_certificate.specs.Made.{IsMade};
 ghost use Rattle.scheme.specs.Fault.{IsFault};
 ghost use Rattle.scheme.specs.Reach.{AllReached, ArePairsOf};

@@ -1,11 +1,9 @@
--- Certificates of starting blocks are valid, and their inequalities hold.
-use Rattle.std.proofs.Common.{◌≡◌, ℕ, zero, suc, ◌+◌, ◌*◌, ◌^◌, ◌<◌, ◌≤◌, ◌⊎◌, Bool, true, false, ◌||◌, cond, List, [], ◌∷◌, ◌++◌, Some, length, arith, refl, ap, sym, subst, ◌∙◌, inl, inr, nat_le, nat_lt, ◌==◌, get_or}
-use Rattle.std.specs.Prelude.{All, IsTrue, IfOk, IfSome, Result, Ok, Err, Option, None, find, unwrap_or}
-use Rattle.te_model.specs.declared.memory.Memory.{Memory}
+-- Certificates of best blocks are valid, and their inequalities hold.
+use Rattle.std.proofs.Common.{◌≡◌, ℕ, ◌*◌, ◌^◌, ◌<◌, ◌≤◌, ◌⊎◌, Bool, true, false, ◌||◌, cond, List, [], ◌∷◌, Some, length, arith, refl, sym, subst, ◌∙◌, inl, inr, nat_le, ◌==◌, get_or}
+use Rattle.std.specs.Prelude.{All, IsTrue, find, unwrap_or}
 use Rattle.std.specs.List.{list_any}
-use Rattle.std.proofs.lemmas.Bool.{cases_lt, eqb-true, eq-eqb, le-leb, lt-ltb}
-use Rattle.std.proofs.lemmas.List.{get_or_append_left, get_or_push, length-append, length-replicate, get_or-replicate}
-use Rattle.std.proofs.lemmas.List.Elements.{All-nil, All-head, All-tail, All-get_or, All-from_get_or}
+use Rattle.std.proofs.lemmas.Bool.{cases_lt, eqb-true, le-leb}
+use Rattle.std.proofs.lemmas.List.Elements.{All-head, All-tail, All-from_get_or}
 use Rattle.te_model.specs.declared.network.Network.{Network}
 use Rattle.te_model.specs.declared.route.PairRoutes.{PairRoutes}
 use Rattle.te_model.specs.declared.certificate.Block.{Block}
@@ -18,88 +16,28 @@ use Rattle.te_model.specs.Network.{node_count, link_count, is_well_formed}
 use Rattle.te_model.specs.Path.{share}
 use Rattle.te_model.specs.Certificate.{block_of, empty_block}
 use Rattle.te_model.specs.Inequalities.{keeps_bounds, pays_weights, weigh, BlockHolds, Holds}
-use Rattle.te_model.specs.Validity.{block_at, AscendByLink, IsValid, IsValidBlock}
+use Rattle.te_model.specs.Validity.{AscendByLink, IsValid, IsValidBlock}
 use Rattle.te_model.proofs.Sums.{sum_below-zero}
 use Rattle.te_model.proofs.ValidParts.{valid_parts}
-use Rattle.routing.proofs.Splits.{share-le, splits_of}
-use Rattle.ratio_certificate.specs.Best.{IsBestBlock}
-use Rattle.ratio_certificate.specs.Conditions.{IsNoBox, IsRoutingWithin, IsSetWithin}
-use Rattle.ratio_certificate.specs.Made.{AreStartingBlocks, HasShare, IsMade, IsStartingBlock, starting_weights}
-use Rattle.ratio_certificate.specs.Need.{HasNumbers, IsGreatestNeed}
-use Rattle.ratio_certificate.proofs.BlockValid.{best_valid}
-use Rattle.ratio_certificate.proofs.HeadValid.{made_head}
-use Rattle.ratio_certificate.proofs.Holding.{best_holds}
 use Rattle.te_model.proofs.WellFormed.{well_formed_parts}
-use Rattle.ratio_certificate.proofs.Pushed.{all_append, all_weaker, any_append, any_last}
-use Rattle.ratio_certificate.proofs.Starting.{starting_pays}
+use Rattle.best_blocks.specs.Conditions.{IsNoBox, IsRoutingWithin, IsSetWithin}
+use Rattle.best_blocks.specs.Need.{HasNumbers, IsGreatestNeed}
+use Rattle.best_blocks.specs.Sharing.{HasShare}
+use Rattle.best_blocks.proofs.BlockValid.{best_valid}
+use Rattle.best_blocks.proofs.Holding.{best_holds}
+use Rattle.ratio_certificate.specs.Made.{HasBlock, IsMade, IsOwnBest, IsWithinStart}
+use Rattle.ratio_certificate.specs.Polished.{IsPolished}
+use Rattle.ratio_certificate.specs.Weighting.{AreWeights}
+use Rattle.ratio_certificate.proofs.HeadValid.{made_head}
 
-pub no_blocks : (net : Network) (routes : List PairRoutes) (wanted : DemandSet) → AreStartingBlocks 0 net routes wanted []
-no_blocks net routes wanted = record {
-  best = All-nil (IsStartingBlock net routes wanted);
-  ascending = λ k below. absurd (omega arith);
-  below = All-nil (λ (b : Block). b.link < 0);
-  few = omega arith;
-  complete = λ e below. absurd (omega arith);
-}
-
--- a best block of the starting weights, on a link with a share
-pub starting_of : (net : Network) (routes : List PairRoutes) (wanted : DemandSet) (e : ℕ) (weights : List ℕ) (r : Result (Option Block) Memory) →
-    weights ≡ starting_weights net → HasShare routes e → IfOk r (λ o. IfSome o (λ b. IsBestBlock net routes wanted e weights b)) →
-    IfOk r (λ o. IfSome o (λ b. IsStartingBlock net routes wanted b))
-starting_of net routes wanted e weights (Ok (Some b)) start some best = (
-  subst (HasShare routes) (sym best.link_is) some,
-  subst (λ h. IsBestBlock net routes wanted h (starting_weights net) b) (sym best.link_is)
-      (subst (λ (ws : List ℕ). IsBestBlock net routes wanted e ws b) start best),
-)
-starting_of net routes wanted e weights (Ok None) start some best = tt
-starting_of net routes wanted e weights (Err m) start some best = tt
-
--- blocks that ascend, and one of a later link
-ascend_append : (blocks : List Block) (b : Block) → AscendByLink blocks → All (λ c. c.link < b.link) blocks → AscendByLink (blocks ++ b ∷ [])
-ascend_append blocks b ascend below zero inside = refl
-ascend_append blocks b ascend below (suc k) inside =
-    let n = length blocks in
-    let count = length-append blocks (b ∷ []) in
-    let before : block_at (blocks ++ b ∷ []) k ≡ block_at blocks k = get_or_append_left blocks (b ∷ []) (empty_block 0) k (omega (arith, inside, count)) in
-    elim (cases_lt (suc k) n) [
-      | inl lt ↦
-          let here : block_at (blocks ++ b ∷ []) (suc k) ≡ block_at blocks (suc k) = get_or_append_left blocks (b ∷ []) (empty_block 0) (suc k) lt in
-          subst (λ (x : Block). nat_lt (block_at (blocks ++ b ∷ []) k).link x.link ≡ true) (sym here)
-          (subst (λ (x : Block). nat_lt x.link (block_at blocks (suc k)).link ≡ true) (sym before) (ascend (suc k) lt))
-      | inr ge ↦
-          let last : n ≡ suc k = omega (arith, ge, inside, count) in
-          let here : block_at (blocks ++ b ∷ []) (suc k) ≡ b = get_or_push blocks b (empty_block 0) (suc k) last in
-          subst (λ (x : Block). nat_lt (block_at (blocks ++ b ∷ []) k).link x.link ≡ true) (sym here)
-          (subst (λ (x : Block). nat_lt x.link b.link ≡ true) (sym before)
-          (lt-ltb (block_at blocks k).link b.link (All-get_or (λ c. c.link < b.link) blocks k (empty_block 0) (omega arith) below)))
-    ]
-
-pub block_added : (m : ℕ) (net : Network) (routes : List PairRoutes) (wanted : DemandSet) (blocks : List Block) (b : Block) →
-    AreStartingBlocks m net routes wanted blocks → b.link ≡ m → IsStartingBlock net routes wanted b → AreStartingBlocks (m + 1) net routes wanted (blocks ++ b ∷ [])
-block_added m net routes wanted blocks b are is best = record {
-  best = all_append (IsStartingBlock net routes wanted) blocks b are.best best;
-  ascending = ascend_append blocks b are.ascending (all_weaker (λ c. c.link < m) (λ c. c.link < b.link) (λ c lt. omega (arith, lt, is)) blocks are.below);
-  below = all_append (λ (c : Block). c.link < m + 1) blocks b (all_weaker (λ c. c.link < m) (λ c. c.link < m + 1) (λ c lt. omega (arith, lt)) blocks are.below)
-      (omega (arith, is));
-  few = omega (arith, are.few, length-append blocks (b ∷ []));
-  complete = λ e below share. elim (cases_lt e m) [
-    | inl lt ↦ any_append (λ c. c.link == e) blocks b (are.complete e lt share)
-    | inr ge ↦ any_last (λ c. c.link == e) blocks b (eq-eqb b.link e (omega (arith, is, ge, below)))
-  ];
-}
-
-pub block_left_out : (m : ℕ) (net : Network) (routes : List PairRoutes) (wanted : DemandSet) (blocks : List Block) →
-    AreStartingBlocks m net routes wanted blocks → (HasShare routes m → ⊥) → AreStartingBlocks (m + 1) net routes wanted blocks
-block_left_out m net routes wanted blocks are none = record {
-  best = are.best;
-  ascending = are.ascending;
-  below = all_weaker (λ c. c.link < m) (λ c. c.link < m + 1) (λ c lt. omega (arith, lt)) blocks are.below;
-  few = omega (arith, are.few);
-  complete = λ e below share. elim (cases_lt e m) [
-    | inl lt ↦ are.complete e lt share
-    | inr ge ↦ let e_is : e ≡ m = omega (arith, ge, below) in absurd (none (subst (HasShare routes) e_is share))
-  ];
-}
+-- best blocks of their own weights, of exactly the links with a share, ascending by link
+pub record AreMadeBlocks (net : Network) (routes : List PairRoutes) (set : DemandSet) (blocks : List Block) : Type 0 where
+  pub best : All (IsOwnBest net routes set) blocks
+  pub weights : All (λ b. AreWeights net b.weights) blocks
+  pub ascending : AscendByLink blocks
+  pub below : All (λ b. b.link < link_count net) blocks
+  pub few : length blocks ≤ link_count net
+  pub complete : (e : ℕ) → e < link_count net → HasShare routes e → HasBlock blocks e
 
 -- the block of a link is one of the blocks, or the link has none
 block_or_none : (P : Block → Type 0) (e : ℕ) (blocks : List Block) → All P blocks →
@@ -139,68 +77,51 @@ empty_holds h e none = record {
     no_bounds (Margin num den base) = nothing _ _ (length h.routes)
     no_bounds (Box lower upper) = nothing _ _ (length h.routes)
 
--- starting blocks are valid
-pub starting_valid : (h : Head) (blocks : List Block) → h.format ≡ 1 → is_well_formed h.network ≡ true → IsRoutingWithin h.network h.routes →
-    AreStartingBlocks (link_count h.network) h.network h.routes h.set blocks → All (IsValidBlock h) blocks
-starting_valid h blocks first formed within are k d below =
+-- made blocks are valid
+pub blocks_valid : (h : Head) (blocks : List Block) → h.format ≡ 1 → is_well_formed h.network ≡ true → IsRoutingWithin h.network h.routes →
+    AreMadeBlocks h.network h.routes h.set blocks → All (IsValidBlock h) blocks
+blocks_valid h blocks first formed within are k d below =
     let net = h.network in
     let b = get_or blocks k d in
     let fits : node_count net ≤ (limits_of h.format).nodes = subst (λ f. node_count net ≤ (limits_of f).nodes) (sym first) (well_formed_parts net formed).nodes in
-    best_valid h b.link (starting_weights net) b formed within fits (are.below k d below) (length-replicate (link_count net) (2 ^ 20))
-    (All-from_get_or (λ w. w ≤ 2 ^ 28) (starting_weights net) 0 (λ i inside.
-    let at = get_or-replicate (link_count net) i (2 ^ 20) 0 (omega (arith, inside, length-replicate (link_count net) (2 ^ 20))) in omega (arith, at)))
+    let weights = are.weights k d below in
+    best_valid h b.link b.weights b formed within fits (are.below k d below) weights.count
+    (All-from_get_or (λ w. w ≤ 2 ^ 28) b.weights 0 (λ i inside. weights.small i (omega (arith, inside, weights.count))))
     (are.best k d below).1
 
 abbrev head_of_set : Network → List PairRoutes → DemandSet → Head
 head_of_set net routes wanted = record { format = 1; network = net; routes = routes; set = wanted; ratio = 0 }
 
-pub starting_numbers : (net : Network) (routes : List PairRoutes) (wanted : DemandSet) (blocks : List Block) → is_well_formed net ≡ true →
-    IsRoutingWithin net routes → AreStartingBlocks (link_count net) net routes wanted blocks → All (HasNumbers net) blocks
-starting_numbers net routes wanted blocks formed within are k d below =
-    let valid = starting_valid (head_of_set net routes wanted) blocks refl formed within are k d below in
-    let best = (are.best k d below).1 in
-    record {
-      numbers = valid.numbers;
-      small = valid.small;
-      weights = ap (λ (ws : List ℕ). length ws) best.weights_are ∙ length-replicate (link_count net) (2 ^ 20);
-    }
-
--- the greatest need of starting blocks is within the limit of ratios
-pub starting_need : (net : Network) (routes : List PairRoutes) (wanted : DemandSet) (blocks : List Block) (need : ℕ) → is_well_formed net ≡ true →
-    IsRoutingWithin net routes → AreStartingBlocks (link_count net) net routes wanted blocks → IsGreatestNeed net blocks need → need ≤ 1000000 * 2 ^ 42
-starting_need net routes wanted blocks need formed within are greatest =
-    greatest.least (1000000 * 2 ^ 42) (λ k d below.
-    let b = get_or blocks k d in
-    let best = (are.best k d below).1 in
-    starting_pays net routes wanted b.link b formed within (are.below k d below) best
-    (λ p inside. omega (arith, best.shares_are p inside, share-le routes p b.link (splits_of net routes within.splits) inside)))
+pub blocks_numbers : (net : Network) (routes : List PairRoutes) (wanted : DemandSet) (blocks : List Block) → is_well_formed net ≡ true →
+    IsRoutingWithin net routes → AreMadeBlocks net routes wanted blocks → All (HasNumbers net) blocks
+blocks_numbers net routes wanted blocks formed within are k d below =
+    let valid = blocks_valid (head_of_set net routes wanted) blocks refl formed within are k d below in
+    record { numbers = valid.numbers; small = valid.small; weights = (are.weights k d below).count }
 
 pub certificate_valid : (c : Certificate) → c.head.format ≡ 1 → is_well_formed c.head.network ≡ true → 1 ≤ link_count c.head.network → IsRoutingWithin c.head.network c.head.routes →
-    IsSetWithin (length c.head.routes) c.head.set → IsNoBox c.head.set →
-    AreStartingBlocks (link_count c.head.network) c.head.network c.head.routes c.head.set c.blocks →
-    IsGreatestNeed c.head.network c.blocks c.head.ratio → IsValid c
-certificate_valid c first formed some within set no_box are greatest =
+    IsSetWithin (length c.head.routes) c.head.set → IsNoBox c.head.set → AreMadeBlocks c.head.network c.head.routes c.head.set c.blocks →
+    c.head.ratio < 10 ^ 19 → IsValid c
+certificate_valid c first formed some within set no_box are small =
     let net = c.head.network in
-    let ratio = starting_need net c.head.routes c.head.set c.blocks c.head.ratio formed within are greatest in
     let few : link_count net ≤ (limits_of c.head.format).links = subst (λ f. link_count net ≤ (limits_of f).links) (sym first) (well_formed_parts net formed).links in
     (valid_parts c).1 (record {
-      head = made_head c.head first formed some within set no_box (omega (arith, ratio));
+      head = made_head c.head first formed some within set no_box small;
       count = omega (arith, are.few, few);
-      blocks = starting_valid c.head c.blocks first formed within are;
+      blocks = blocks_valid c.head c.blocks first formed within are;
       ascending = are.ascending;
     })
 
-pub certificate_holds : (c : Certificate) → IsRoutingWithin c.head.network c.head.routes →
-    AreStartingBlocks (link_count c.head.network) c.head.network c.head.routes c.head.set c.blocks → IsGreatestNeed c.head.network c.blocks c.head.ratio → Holds c
+pub certificate_holds : (c : Certificate) → IsRoutingWithin c.head.network c.head.routes → AreMadeBlocks c.head.network c.head.routes c.head.set c.blocks →
+    IsGreatestNeed c.head.network c.blocks c.head.ratio → Holds c
 certificate_holds c within are greatest e below =
     let net = c.head.network in
-    let best : All (λ b. IsBestBlock net c.head.routes c.head.set b.link (starting_weights net) b × IsTrue (pays_weights net b c.head.ratio)) c.blocks =
-    λ k d inside. ((are.best k d inside).1, greatest.enough k d inside)
+    let best : All (λ b. IsOwnBest net c.head.routes c.head.set b × IsTrue (pays_weights net b c.head.ratio)) c.blocks =
+    λ k d inside. (are.best k d inside, greatest.enough k d inside)
     in
-    elim (block_or_none (λ b. IsBestBlock net c.head.routes c.head.set b.link (starting_weights net) b × IsTrue (pays_weights net b c.head.ratio)) e c.blocks best) [
+    elim (block_or_none (λ b. IsOwnBest net c.head.routes c.head.set b × IsTrue (pays_weights net b c.head.ratio)) e c.blocks best) [
       | inl there ↦
           let b = block_of c.blocks e in
-          best_holds c.head b.link (starting_weights net) b within there.0.0 there.0.1
+          best_holds c.head b.link b.weights b within there.0.0.1 there.0.1
       | inr absent ↦
           subst (BlockHolds c.head) (sym absent.0) (empty_holds c.head e (λ share.
           let has = are.complete e below share in
@@ -217,9 +138,9 @@ certificate_of net routes wanted ratio blocks = record {
 -- a certificate of copies of a network and a routing
 pub made_certificate : (net : Network) (routes : List PairRoutes) (wanted : DemandSet) (blocks : List Block) (ratio : ℕ) (n : Network) (r : List PairRoutes) (bs : List Block) →
     n ≡ net → r ≡ routes → bs ≡ blocks → is_well_formed net ≡ true → 1 ≤ link_count net → IsRoutingWithin net routes → IsSetWithin (length routes) wanted →
-    IsNoBox wanted → AreStartingBlocks (link_count net) net routes wanted blocks → IsGreatestNeed net blocks ratio →
-    IsMade net routes wanted (certificate_of n r wanted ratio bs)
-made_certificate net routes wanted blocks ratio n r bs is_n is_r is_bs formed some within set no_box are greatest =
+    IsNoBox wanted → AreMadeBlocks net routes wanted blocks → All (IsWithinStart net routes wanted) blocks → IsPolished net routes wanted blocks →
+    ratio < 10 ^ 19 → IsGreatestNeed net blocks ratio → IsMade net routes wanted (certificate_of n r wanted ratio bs)
+made_certificate net routes wanted blocks ratio n r bs is_n is_r is_bs formed some within set no_box are starting polished small greatest =
     subst (λ (x : Network). IsMade net routes wanted (certificate_of x r wanted ratio bs)) (sym is_n)
     (subst (λ (x : List PairRoutes). IsMade net routes wanted (certificate_of net x wanted ratio bs)) (sym is_r)
     (subst (λ (x : List Block). IsMade net routes wanted (certificate_of net routes wanted ratio x)) (sym is_bs)
@@ -228,9 +149,11 @@ made_certificate net routes wanted blocks ratio n r bs is_n is_r is_bs formed so
       network = refl;
       routes_are = refl;
       set_is = refl;
-      valid = certificate_valid (certificate_of net routes wanted ratio blocks) refl formed some within set no_box are greatest;
+      valid = certificate_valid (certificate_of net routes wanted ratio blocks) refl formed some within set no_box are small;
       holds = certificate_holds (certificate_of net routes wanted ratio blocks) within are greatest;
       best = are.best;
+      starting = starting;
+      polished = polished;
       blocks = are.complete;
       ratio = greatest;
     })))

@@ -32,13 +32,10 @@ use Rattle.te_model.proofs.SoundLinks.{sound_links}
 use Rattle.te_model.proofs.Tests.{all_to_tests}
 use Rattle.te_model.proofs.PathRoutings.{path_routing}
 use Rattle.te_model.proofs.WellFormed.{links_join}
-use Rattle.ratio_certificate.specs.Conditions.{IsNoBox, IsRoutingWithin, IsSetWithin}
+use Rattle.best_blocks.proofs.Pushed.{all_tests}
+use Rattle.best_blocks.specs.Conditions.{IsNoBox, IsRoutingWithin, IsSetWithin}
 use Rattle.te_model.proofs.WellFormed.{few_links, few_nodes, well_formed_parts}
 use Rattle.shortest_path.proofs.PathLengths.{path_short}
-
--- a test of each element, from a test at each place
-pub all_tests : {X : Type 0} (test : X → Bool) (xs : List X) (d : X) → ((k : ℕ) → k < length xs → test (get_or xs k d) ≡ true) → list_all test xs ≡ true
-all_tests test xs d each = all_to_tests test (λ x. test x ≡ true) (λ x e. e) xs (All-from_get_or (λ x. test x ≡ true) xs d each)
 
 shaped_network : (net : Network) → is_well_formed net ≡ true → 1 ≤ link_count net → is_shaped_network FORMAT_1 net ≡ true
 shaped_network net formed some =

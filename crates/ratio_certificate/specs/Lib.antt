@@ -1,8 +1,9 @@
-pub mod Best
 pub mod Conditions
 pub mod Made
-pub mod Marks
-pub mod Metric
-pub mod Need
-pub mod Scale
-pub mod Tables
+pub mod Making
+pub mod Places
+pub mod Polished
+pub mod Rising
+pub mod Rounds
+pub mod Steps
+pub mod Weighting

@@ -2,18 +2,15 @@
 //!
 //! - `need`: how great a ratio a block needs.
 //! - `scale`: the best block of a link for given weights.
-//! - `make`: a certificate of a routing.
+//! - `make`: a certificate of a routing, of the best of sixteen rounds for each link, polished.
 #![tactic(auto)]
 
-mod balance;
-mod best;
-mod capacity;
+mod changes;
 mod making;
-mod metric;
-mod quotient;
-mod rows;
-mod shares;
+mod polish;
+mod raising;
+mod rounds;
+mod weighting;
 
-pub use best::scale;
-pub use capacity::need;
+pub use best_blocks::{need, scale};
 pub use making::make;

@@ -1,89 +1,136 @@
 //! The making of certificates.
-ghost use Rattle.std.specs.Prelude.{◌≡◌, ◌≤◌, IfOk, IfSome, IfNone, IsTrue, length};
+ghost use Rattle.std.specs.Prelude.{◌≡◌, ◌<◌, ◌≤◌, ℕ, All, IfOk, IsTrue, length};
 ghost use Rattle.te_model.specs.Network.{is_well_formed, link_count};
-ghost use Rattle.routing.specs.Shares.{AreShares, AreSharesOn};
-ghost use Rattle.ratio_certificate.specs.Conditions.{IsNoBox, IsRoutingWithin, IsSetWithin};
-ghost use Rattle.ratio_certificate.specs.Made.{starting_weights, AreStartingBlocks, HasShare, IsMade, IsStartingBlock};
-ghost use Rattle.ratio_certificate.specs.Metric.{IsMetric};
+ghost use Rattle.routing.specs.Shares.{AreShares};
+ghost use Rattle.best_blocks.specs.Best.{IsBestBlock};
+ghost use Rattle.best_blocks.specs.Conditions.{IsNoBox, IsRoutingWithin, IsSetWithin};
+ghost use Rattle.best_blocks.specs.Sharing.{IsSharedLink};
+ghost use Rattle.ratio_certificate.specs.Made.{IsMade};
+ghost use Rattle.ratio_certificate.specs.Making.{AreBlocksOf, AreSharedLinks};
+ghost use Rattle.ratio_certificate.specs.Rising.{AreRounds};
+ghost use Rattle.ratio_certificate.specs.Steps.{AreWeightings};
+ghost use Rattle.ratio_certificate.specs.Weighting.{IsWeighting};
 
-use crate::best::best_block;
-use crate::capacity::greatest_need;
-use crate::metric::{Metric, metric_of};
-use crate::shares::shares_by;
-use routing::{PairShare, Routing, Shares};
+use crate::polish::{metric_by, polish};
+use crate::rounds::best_round;
+use crate::weighting::Weighting;
+use best_blocks::{SharedLink, best_block, greatest_need, shared_link};
+use routing::{Routing, Shares};
 use std::alloc::Global;
 use te_model::{
     Block, Certificate, DemandSet, FORMAT_1, Head, Items, Memory, Network, copy_network,
 };
 
-/// The weight of every link from which a certificate starts.
-const STARTING_WEIGHT: u64 = 1 << 20;
-
-/// The best block of the link, or `None` where no pair has a share on it.
-fn starting_block(
+/// The links on which there is a share, ascending.
+fn shared_links(
     alloc: Global,
     net: &Network,
-    metric: &Metric,
-    routing: &Routing,
-    set: &DemandSet,
-    link: u32,
-    list: &[PairShare],
-) -> Result<Option<Block>, Memory>
-    requires network { IsTrue (is_well_formed net.now) }
-    requires metric { IsMetric net.now routing.now.routes metric.now }
-    requires weights { metric.now.weights ≡ starting_weights net.now }
-    requires routing { IsRoutingWithin net.now routing.now.routes }
-    requires set { IsSetWithin (length routing.now.routes) set.now }
-    requires list { AreSharesOn routing.now.routes link list.now }
-    ensures link { IfOk result (λ o. IfSome o (λ b. b.link ≡ link)) }
-    ensures best { IfOk result (λ o. IfSome o (λ b. IsStartingBlock net.now routing.now.routes set.now b)) }
-    ensures none { IfOk result (λ o. IfNone o (HasShare routing.now.routes link → ⊥)) }
-{
-    if list.is_empty() {
-        return Ok(None);
-    }
-    let shares = shares_by(alloc, routing, link, list)?;
-    best_block(alloc, net, metric, routing, set, link, &shares)
-}
-
-/// The best blocks of the links on which there is a share, ascending by link.
-fn starting_blocks(
-    alloc: Global,
-    net: &Network,
-    metric: &Metric,
     routing: &Routing,
     set: &DemandSet,
     shares: &Shares,
-) -> Result<Vec<Block>, Memory>
+) -> Result<Vec<SharedLink>, Memory>
     requires network { IsTrue (is_well_formed net.now) }
-    requires metric { IsMetric net.now routing.now.routes metric.now }
-    requires weights { metric.now.weights ≡ starting_weights net.now }
+    requires routing { IsRoutingWithin net.now routing.now.routes }
+    requires shares { AreShares net.now routing.now.routes shares.now }
+    ensures { IfOk result (λ l. AreSharedLinks (link_count net.now) net.now routing.now.routes set.now l.items) }
+{
+    let mut links = Vec::new(alloc);
+    for e in 0..net.links.as_slice().len() {
+        let list = shares.on(e as u32);
+        if list.len() > 0 {
+            let link = shared_link(alloc, net, routing, set, e as u32, list)?;
+            links.push(link)?;
+        }
+    }
+    Ok(links)
+}
+
+/// The best round of each of the links.
+fn best_rounds(
+    alloc: Global,
+    net: &Network,
+    routing: &Routing,
+    set: &DemandSet,
+    links: &[SharedLink],
+) -> Result<Vec<Weighting>, Memory>
+    requires network { IsTrue (is_well_formed net.now) }
     requires routing { IsRoutingWithin net.now routing.now.routes }
     requires set { IsSetWithin (length routing.now.routes) set.now }
-    requires shares { AreShares net.now routing.now.routes shares.now }
-    ensures { IfOk result (λ b. AreStartingBlocks (link_count net.now) net.now routing.now.routes set.now b.items) }
+    requires links { All (IsSharedLink net.now routing.now.routes set.now) links.now }
+    ensures { IfOk result (λ l. AreRounds (length links.now) net.now routing.now.routes set.now links.now l.items) }
 {
-    let mut blocks = Vec::new(alloc);
-    for e in 0..net.links.as_slice().len() {
-        match starting_block(
-            alloc,
-            net,
-            metric,
-            routing,
-            set,
-            e as u32,
-            shares.on(e as u32),
-        )? {
-            Some(block) => blocks.push(block)?,
-            None => {}
-        }
+    let mut list = Vec::with_capacity(alloc, links.len())?;
+    for shared in links {
+        let weighting = best_round(alloc, net, routing, set, shared)?;
+        list.push(weighting)?;
+    }
+    Ok(list)
+}
+
+/// What stands for a block that is not there.
+fn no_block(alloc: Global) -> Block {
+    Block {
+        link: 0,
+        a: 0,
+        b: 1,
+        weights: Items::new(Vec::new(alloc)),
+        rows: Items::new(Vec::new(alloc)),
+        plus: Items::new(Vec::new(alloc)),
+        minus: Items::new(Vec::new(alloc)),
+    }
+}
+
+/// The best block of the weights, of which there is one, since they are 1 and more.
+fn block_of(
+    alloc: Global,
+    net: &Network,
+    routing: &Routing,
+    set: &DemandSet,
+    shared: &SharedLink,
+    weighting: &Weighting,
+) -> Result<Block, Memory>
+    requires network { IsTrue (is_well_formed net.now) }
+    requires routing { IsRoutingWithin net.now routing.now.routes }
+    requires set { IsSetWithin (length routing.now.routes) set.now }
+    requires shared { IsSharedLink net.now routing.now.routes set.now shared.now }
+    requires weighting { IsWeighting net.now routing.now.routes set.now weighting.now }
+    requires link { weighting.now.link ≡ shared.now.link }
+    ensures { IfOk result (IsBestBlock net.now routing.now.routes set.now weighting.now.link weighting.now.weights) }
+{
+    let metric = metric_by(alloc, net, routing, set, shared, weighting)?;
+    match best_block(alloc, net, routing, set, shared, &metric)? {
+        Some(block) => Ok(block),
+        None => Ok(no_block(alloc)),
+    }
+}
+
+/// The best block of each of the weights.
+fn blocks_of(
+    alloc: Global,
+    net: &Network,
+    routing: &Routing,
+    set: &DemandSet,
+    links: &[SharedLink],
+    list: &[Weighting],
+) -> Result<Vec<Block>, Memory>
+    requires network { IsTrue (is_well_formed net.now) }
+    requires routing { IsRoutingWithin net.now routing.now.routes }
+    requires set { IsSetWithin (length routing.now.routes) set.now }
+    requires links { All (IsSharedLink net.now routing.now.routes set.now) links.now }
+    requires list { AreWeightings net.now routing.now.routes set.now links.now list.now list.now }
+    ensures { IfOk result (λ b. AreBlocksOf (length list.now) net.now routing.now.routes set.now list.now b.items) }
+{
+    let mut blocks = Vec::with_capacity(alloc, list.len())?;
+    for k in 0..list.len() {
+        let block = block_of(alloc, net, routing, set, &links[k], &list[k])?;
+        blocks.push(block)?;
     }
     Ok(blocks)
 }
 
-/// A certificate of the routing's oblivious ratio over the matrices of the set: the best blocks of
-/// the starting weights, and the greatest of their needs as the ratio (after Applegate and Cohen,
-/// 2003).
+/// A certificate of the routing's oblivious ratio over the matrices of the set: for each link with a share the best block of
+/// its best round (multiplicative weights; Plotkin, Shmoys and Tardos, 1995), polished, and the greatest of their needs as the
+/// ratio (after Applegate and Cohen, 2003).
 ///
 /// `Memory` comes where memory is wanting.
 pub fn make(
@@ -99,11 +146,11 @@ pub fn make(
     requires first { IsNoBox set }
     ensures { IfOk result (IsMade net.now routing.now.routes set) }
 {
-    let links = net.links.as_slice().len();
-    let weights = vec![in alloc; STARTING_WEIGHT; links]?;
-    let metric = metric_of(alloc, net, routing, weights)?;
     let shares = Shares::new(alloc, net, routing)?;
-    let blocks = starting_blocks(alloc, net, &metric, routing, &set, &shares)?;
+    let links = shared_links(alloc, net, routing, &set, &shares)?;
+    let start = best_rounds(alloc, net, routing, &set, &links)?;
+    let list = polish(alloc, net, routing, &set, &links, start)?;
+    let blocks = blocks_of(alloc, net, routing, &set, &links, &list)?;
     let ratio = greatest_need(net, &blocks) as u64;
     let network = copy_network(alloc, net)?;
     let routes = routing.copy(alloc)?.routes;

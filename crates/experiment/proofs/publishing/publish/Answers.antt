@@ -3,7 +3,7 @@ use Rattle.te_model.specs.declared.route.PairRoutes.{PairRoutes}
 use Rattle.te_model.specs.declared.route.Pair.{Pair}
 use Rattle.routing.specs.Routes.{IsRoutingOf}
 use Rattle.path_budget.specs.Budget.{trimmed}
-use Rattle.ratio_certificate.specs.Conditions.{IsSetWithin}
+use Rattle.best_blocks.specs.Conditions.{IsSetWithin}
 use Rattle.ratio_certificate.specs.Made.{IsMade}
 use Rattle.std.proofs.lemmas.List.{length-map}
 use Rattle.experiment.proofs.RoutingWithin.{routing_within}

@@ -1,6 +1,0 @@
-use Rattle.ratio_certificate.proofs.Balances.{asked-small}
-use Rattle.std.proofs.Common.{arith}
-use Rattle.ratio_certificate.proofs.balance.asked.Goals as goal
-
-pub returns-clause-small : goal.returns-clause-small
-returns-clause-small c = omega (arith, asked-small c.args.b c.args.share c.requires.share, c.requires.b)

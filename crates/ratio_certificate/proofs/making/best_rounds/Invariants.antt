@@ -1,0 +1,5 @@
+use Rattle.ratio_certificate.specs.Rising.{AreRounds}
+use Rattle.ratio_certificate.proofs.making.best_rounds.Given as goal
+
+abbrev pub invariant-loop-shared : goal.invariant-loop-shared
+invariant-loop-shared l = AreRounds l.shared-index l.net l.routing.routes l.set l.links l.list.items

@@ -1,0 +1,31 @@
+use Rattle.std.proofs.Common.{◌≡◌, ◌+◌, ◌<◌, length, arith, sym, subst}
+use Rattle.std.proofs.lemmas.List.{get_or_read}
+use Rattle.best_blocks.specs.Best.{IsBestBlock}
+use Rattle.ratio_certificate.specs.declared.weighting.Weighting.{Weighting}
+use Rattle.ratio_certificate.specs.Making.{AreBlocksOf}
+use Rattle.ratio_certificate.specs.Places.{no_weighting, weighting_at}
+use Rattle.ratio_certificate.specs.Weighting.{IsWeighting}
+use Rattle.ratio_certificate.proofs.LinkLists.{block_added}
+use Rattle.ratio_certificate.proofs.making.blocks_of.Goals as goal
+
+pub block_of-requires-clause-weighting : goal.block_of-requires-clause-weighting
+block_of-requires-clause-weighting c =
+    let list = c.args.list.now in
+    let k = c.loop-k.k in
+    let inside : k < length list = omega arith in
+    let at : c.index-list-k.result ≡ weighting_at list k = get_or_read list k c.index-list-k.result inside c.index-list-k.is no_weighting in
+    subst (IsWeighting c.args.net.now c.args.routing.now.routes c.args.set.now) (sym at) (c.requires.list.each k (omega (arith, inside, c.requires.list.count)))
+
+pub loop-k-preserved : goal.loop-k-preserved
+loop-k-preserved c =
+    let net = c.args.net.now in
+    let routes = c.args.routing.now.routes in
+    let wanted = c.args.set.now in
+    let list = c.args.list.now in
+    let k = c.loop-k.k in
+    let inside : k < length list = omega arith in
+    let block = c.in_ok-block.block in
+    let at : c.index-list-k.result ≡ weighting_at list k = get_or_read list k c.index-list-k.result inside c.index-list-k.is no_weighting in
+    let best = subst (λ (w : Weighting). IsBestBlock net routes wanted w.link w.weights block) at c.in_ok-block.ensures in
+    subst (AreBlocksOf (k + 1) net routes wanted list) (sym c.in_ok-push.ensures.items)
+    (block_added k net routes wanted list c.loop-k.blocks.items block c.loop-k.invariant best)

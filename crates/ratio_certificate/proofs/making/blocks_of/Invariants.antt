@@ -1,0 +1,5 @@
+use Rattle.ratio_certificate.specs.Making.{AreBlocksOf}
+use Rattle.ratio_certificate.proofs.making.blocks_of.Given as goal
+
+abbrev pub invariant-loop-k : goal.invariant-loop-k
+invariant-loop-k l = AreBlocksOf l.k l.net l.routing.routes l.set l.list l.blocks.items

@@ -1,0 +1,35 @@
+use Rattle.std.proofs.Common.{◌≡◌, ◌<◌, ℕ, length, arith, sym, subst}
+use Rattle.std.proofs.lemmas.List.{get_or_read}
+use Rattle.te_model.specs.Network.{link_count}
+use Rattle.ratio_certificate.specs.declared.weighting.Weighting.{Weighting}
+use Rattle.ratio_certificate.specs.Places.{no_weighting, weighting_at}
+use Rattle.ratio_certificate.specs.Polished.{IsFine}
+use Rattle.ratio_certificate.specs.Steps.{IsSettledAt}
+use Rattle.ratio_certificate.specs.Weighting.{IsWeighting}
+use Rattle.ratio_certificate.proofs.Stepping.{done_at}
+use Rattle.ratio_certificate.proofs.Trying.{none_gives_both}
+use Rattle.ratio_certificate.proofs.polish.next_step.Goals as goal
+
+pub step_at-requires-clause-weighting : goal.step_at-requires-clause-weighting
+step_at-requires-clause-weighting c =
+    let k = c.in-Some.k in
+    let inside : k < length c.args.list.now = c.in-Some.ensures.some.within in
+    let at : c.index-list-k.result ≡ weighting_at c.args.list.now k = get_or_read c.args.list.now k c.index-list-k.result inside c.index-list-k.is no_weighting in
+    subst (IsWeighting c.args.net.now c.args.routing.now.routes c.args.set.now) (sym at)
+    (c.requires.list.each k (omega (arith, inside, c.requires.list.count)))
+
+pub returns-in-Some-clause-none : goal.returns-in-Some-clause-none
+returns-in-Some-clause-none c =
+    let net = c.args.net.now in
+    let routes = c.args.routing.now.routes in
+    let wanted = c.args.set.now in
+    let list = c.args.list.now in
+    let k = c.in-Some.k in
+    let w = c.index-list-k.result in
+    let worst = c.in-Some.ensures.some in
+    let at : w ≡ weighting_at list k = get_or_read list k w worst.within c.index-list-k.is no_weighting in
+    none_gives_both c.step_at.result _ _ _
+    (λ fine settled. done_at net routes wanted list k worst
+    (subst (λ (x : Weighting). IsFine x.weights x.b) at fine)
+    (subst (λ (x : Weighting). (h : ℕ) → h < link_count net → IsSettledAt net routes wanted x.link x.need x.weights h) at settled))
+    c.step_at.ensures.fine c.step_at.ensures.none

@@ -1,0 +1,11 @@
+use Rattle.std.proofs.Common.{◌≤◌}
+use Rattle.te_model.specs.Network.{link_count}
+use Rattle.ratio_certificate.specs.Steps.{AreWeightings}
+use Rattle.ratio_certificate.specs.Weighting.{left_in}
+use Rattle.ratio_certificate.proofs.polish.polish.Given as goal
+
+abbrev pub invariant-loop-list : goal.invariant-loop-list
+invariant-loop-list l = AreWeightings l.net l.routing.routes l.set l.links l.fn.start.items l.list.items × (l.from ≤ link_count l.net)
+
+abbrev pub decreases-loop-list : goal.decreases-loop-list
+decreases-loop-list l = left_in l.list.items

@@ -1,6 +1,0 @@
-use Rattle.std.proofs.Common.{slice_index}
-use Rattle.ratio_certificate.specs.Marks.{AreSourceMarks}
-use Rattle.ratio_certificate.proofs.rows.sources_of.Given as goal
-
-abbrev pub invariant-loop-p : goal.invariant-loop-p
-invariant-loop-p l = AreSourceMarks l.nodes l.p l.routing.routes l.set (slice_index l.shares) l.marks.items

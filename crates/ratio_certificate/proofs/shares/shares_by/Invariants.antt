@@ -1,5 +1,0 @@
-use Rattle.ratio_certificate.proofs.SharesListed.{AreWritten}
-use Rattle.ratio_certificate.proofs.shares.shares_by.Given as goal
-
-abbrev pub invariant-loop-entry : goal.invariant-loop-entry
-invariant-loop-entry l = AreWritten l.entry-index l.routing.routes l.link l.list l.shares.items

@@ -1,0 +1,234 @@
+//! The polish: the first weights of the greatest need are doubled until they are fine, and then changed one by one while that improves their need.
+ghost use Rattle.std.specs.Prelude.{◌≡◌, ◌^◌, ◌<◌, ◌≤◌, ℕ, All, IfOk, IfSome, IfNone, IsTrue, true, false, length, slice_index, slice_index_or};
+ghost use Rattle.te_model.specs.Network.{is_well_formed, link_count};
+ghost use Rattle.best_blocks.specs.Conditions.{IsRoutingWithin, IsSetWithin};
+ghost use Rattle.best_blocks.specs.Metric.{IsMetric};
+ghost use Rattle.best_blocks.specs.Sharing.{IsSharedLink};
+ghost use Rattle.ratio_certificate.specs.Polished.{IsFine, IsWorst};
+ghost use Rattle.ratio_certificate.specs.Places.{weighting_at};
+ghost use Rattle.ratio_certificate.specs.Steps.{AreWeightings, IsDone, IsProgress, IsSettledAt};
+ghost use Rattle.ratio_certificate.specs.Weighting.{AreDoubled, AreWeights, IsWeighting};
+
+use crate::changes::find_change;
+use crate::weighting::{Weighting, weighting_of};
+use best_blocks::{Metric, SharedLink, metric_of};
+use routing::Routing;
+use std::alloc::Global;
+use te_model::{DemandSet, Memory, Network};
+
+/// Weights are fine where one is no less than this.
+const FINE_WEIGHT: u64 = 1 << 20;
+
+/// Weights are fine where `b` is no less than this.
+const FINE_B: u64 = 1 << 35;
+
+/// The first place of the greatest need, or `None` where there is none.
+fn worst(list: &[Weighting]) -> Option<usize>
+    ensures some { IfSome result (IsWorst (length list.now) (λ j. (weighting_at list.now j).need)) }
+    ensures none { IfNone result (length list.now ≡ 0) }
+{
+    if list.len() == 0 {
+        return None;
+    }
+    let mut place = 0;
+    for k in 0..list.len() {
+        if list[place].need < list[k].need {
+            place = k;
+        }
+    }
+    Some(place)
+}
+
+/// Whether one of the weights is at least 2^20.
+fn has_fine_weight(weights: &[u64]) -> bool
+    ensures some { result ≡ true → (h : ℕ) × (h < length weights.now) × (2 ^ 20 ≤ slice_index weights.now h) }
+    ensures none { result ≡ false → (h : ℕ) → h < length weights.now → slice_index weights.now h < 2 ^ 20 }
+{
+    for h in 0..weights.len() {
+        if weights[h] >= FINE_WEIGHT {
+            return true;
+        }
+    }
+    false
+}
+
+/// Whether the weights are fine.
+fn is_fine(weighting: &Weighting) -> bool
+    ensures fine { result ≡ true → IsFine weighting.now.weights weighting.now.b }
+    ensures small { result ≡ false → (h : ℕ) → h < length weighting.now.weights → slice_index weighting.now.weights h < 2 ^ 20 }
+    ensures room { result ≡ false → weighting.now.b < 2 ^ 35 }
+{
+    weighting.b >= FINE_B || has_fine_weight(weighting.weights.as_slice())
+}
+
+/// Twice each of the weights.
+fn doubled(alloc: Global, weights: &[u64]) -> Result<Vec<u64>, Memory>
+    requires { (h : ℕ) → h < length weights.now → slice_index weights.now h < 2 ^ 20 }
+    ensures { IfOk result (λ w. AreDoubled weights.now w.items) }
+{
+    let mut twice = Vec::with_capacity(alloc, weights.len())?;
+    for h in 0..weights.len() {
+        twice.push(2 * weights[h])?;
+    }
+    Ok(twice)
+}
+
+/// The metric of the weights.
+pub fn metric_by(
+    alloc: Global,
+    net: &Network,
+    routing: &Routing,
+    set: &DemandSet,
+    shared: &SharedLink,
+    weighting: &Weighting,
+) -> Result<Metric, Memory>
+    requires network { IsTrue (is_well_formed net.now) }
+    requires shared { IsSharedLink net.now routing.now.routes set.now shared.now }
+    requires weights { AreWeights net.now weighting.now.weights }
+    ensures metric { IfOk result (IsMetric net.now routing.now.routes shared.now.marks) }
+    ensures weights { IfOk result (λ m. m.weights ≡ weighting.now.weights) }
+{
+    let weights = Vec::from_slice(alloc, weighting.weights.as_slice())?;
+    metric_of(alloc, net, routing, shared.marks.as_slice(), weights)
+}
+
+/// The weights with each doubled. They need no more, and the greatest of them is nearer to 2^20.
+fn double(
+    alloc: Global,
+    net: &Network,
+    routing: &Routing,
+    set: &DemandSet,
+    shared: &SharedLink,
+    weighting: &Weighting,
+) -> Result<Weighting, Memory>
+    requires network { IsTrue (is_well_formed net.now) }
+    requires routing { IsRoutingWithin net.now routing.now.routes }
+    requires set { IsSetWithin (length routing.now.routes) set.now }
+    requires shared { IsSharedLink net.now routing.now.routes set.now shared.now }
+    requires weighting { IsWeighting net.now routing.now.routes set.now weighting.now }
+    requires link { weighting.now.link ≡ shared.now.link }
+    requires small { (h : ℕ) → h < length weighting.now.weights → slice_index weighting.now.weights h < 2 ^ 20 }
+    requires room { weighting.now.b < 2 ^ 35 }
+    ensures { IfOk result (IsProgress net.now routing.now.routes set.now weighting.now) }
+{
+    let weights = doubled(alloc, weighting.weights.as_slice())?;
+    let metric = metric_of(alloc, net, routing, shared.marks.as_slice(), weights)?;
+    weighting_of(alloc, net, routing, set, shared, &metric)
+}
+
+/// A step of the polish: other weights at a place of the list, and the link from which the next change is sought.
+#[derive(Drop)]
+struct Step {
+    place: usize,
+    weighting: Weighting,
+    from: usize,
+}
+
+/// A step of the weights at the place, or `None` where they are fine and no change improves their need.
+fn step_at(
+    alloc: Global,
+    net: &Network,
+    routing: &Routing,
+    set: &DemandSet,
+    shared: &SharedLink,
+    weighting: &Weighting,
+    place: usize,
+    from: usize,
+) -> Result<Option<Step>, Memory>
+    requires network { IsTrue (is_well_formed net.now) }
+    requires routing { IsRoutingWithin net.now routing.now.routes }
+    requires set { IsSetWithin (length routing.now.routes) set.now }
+    requires shared { IsSharedLink net.now routing.now.routes set.now shared.now }
+    requires weighting { IsWeighting net.now routing.now.routes set.now weighting.now }
+    requires link { weighting.now.link ≡ shared.now.link }
+    requires from { from ≤ link_count net.now }
+    ensures place { IfOk result (λ o. IfSome o (λ s. s.place ≡ place)) }
+    ensures from { IfOk result (λ o. IfSome o (λ s. s.from ≤ link_count net.now)) }
+    ensures some { IfOk result (λ o. IfSome o (λ s. IsProgress net.now routing.now.routes set.now weighting.now s.weighting)) }
+    ensures fine { IfOk result (λ o. IfNone o (IsFine weighting.now.weights weighting.now.b)) }
+    ensures none { IfOk result (λ o. IfNone o ((h : ℕ) → h < link_count net.now → IsSettledAt net.now routing.now.routes set.now weighting.now.link weighting.now.need weighting.now.weights h)) }
+{
+    if !is_fine(weighting) {
+        let weighting = double(alloc, net, routing, set, shared, weighting)?;
+        return Ok(Some(Step {
+            place,
+            weighting,
+            from,
+        }));
+    }
+    let metric = metric_by(alloc, net, routing, set, shared, weighting)?;
+    match find_change(
+        alloc,
+        net,
+        routing,
+        set,
+        shared,
+        &metric,
+        weighting.need,
+        from,
+    )? {
+        Some(change) => Ok(Some(Step {
+            place,
+            weighting: change.weighting,
+            from: change.link,
+        })),
+        None => Ok(None),
+    }
+}
+
+/// A step of the first weights of the greatest need, or `None` where the list is done.
+fn next_step(
+    alloc: Global,
+    net: &Network,
+    routing: &Routing,
+    set: &DemandSet,
+    links: &[SharedLink],
+    list: &[Weighting],
+    from: usize,
+) -> Result<Option<Step>, Memory>
+    requires network { IsTrue (is_well_formed net.now) }
+    requires routing { IsRoutingWithin net.now routing.now.routes }
+    requires set { IsSetWithin (length routing.now.routes) set.now }
+    requires links { All (IsSharedLink net.now routing.now.routes set.now) links.now }
+    requires list { AreWeightings net.now routing.now.routes set.now links.now list.now list.now }
+    requires from { from ≤ link_count net.now }
+    ensures place { IfOk result (λ o. IfSome o (λ s. s.place < length list.now)) }
+    ensures from { IfOk result (λ o. IfSome o (λ s. s.from ≤ link_count net.now)) }
+    ensures some { IfOk result (λ o. IfSome o (λ s. IsProgress net.now routing.now.routes set.now (weighting_at list.now s.place) s.weighting)) }
+    ensures none { IfOk result (λ o. IfNone o (IsDone net.now routing.now.routes set.now list.now)) }
+{
+    match worst(list) {
+        Some(k) => step_at(alloc, net, routing, set, &links[k], &list[k], k, from),
+        None => Ok(None),
+    }
+}
+
+/// Weights that are polished, of the links and weights at the start.
+pub fn polish(
+    alloc: Global,
+    net: &Network,
+    routing: &Routing,
+    set: &DemandSet,
+    links: &[SharedLink],
+    start: Vec<Weighting>,
+) -> Result<Vec<Weighting>, Memory>
+    requires network { IsTrue (is_well_formed net.now) }
+    requires routing { IsRoutingWithin net.now routing.now.routes }
+    requires set { IsSetWithin (length routing.now.routes) set.now }
+    requires links { All (IsSharedLink net.now routing.now.routes set.now) links.now }
+    requires start { AreWeightings net.now routing.now.routes set.now links.now start.items start.items }
+    ensures list { IfOk result (λ l. AreWeightings net.now routing.now.routes set.now links.now start.items l.items) }
+    ensures done { IfOk result (λ l. IsDone net.now routing.now.routes set.now l.items) }
+{
+    let mut list = start;
+    let mut from = 0;
+    loop {
+        match next_step(alloc, net, routing, set, links, &list, from)? {
+            Some(step) => {
+                list[step.place] = step.weighting;
+                from = step.from;
+            }
+            None => return Ok(list),
+        }
+    }
+}
