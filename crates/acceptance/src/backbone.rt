@@ -86,6 +86,34 @@ fn backbone_is_published_and_compared(rt: HostRuntime) -> Result<(), Fail> {
     Ok(())
 }
 
+/// What a plan on the backbone publishes, and the ratio that the starting weights alone give it.
+const PUBLISHED: &[(&str, u64)] = &[
+    ("\"publish\":\"racke\",\"trees\":8,\"seed\":7", 26_500_000),
+    ("\"publish\":\"ecmp\"", 106_000_000),
+    ("\"publish\":\"ksp\",\"k\":4", 53_000_000),
+    ("\"publish\":\"spf\",\"margin\":[2,1]", 16_010_554),
+];
+
+#[test]
+fn backbone_has_lower_ratios(rt: HostRuntime) -> Result<(), Fail> {
+    let alloc = rt.alloc();
+    let matrices = gravity_matrices(alloc)?;
+    for (keys, starting) in PUBLISHED {
+        let plan = format!(in alloc;
+            "{{\"topology\":\"net.csv\",\"matrices\":\"tm.csv\",{keys}}}"
+        )?;
+        let file = on_backbone(&rt, alloc, "publish", plan.as_str(), &matrices)?;
+        let again = on_backbone(&rt, alloc, "publish", plan.as_str(), &matrices)?;
+        assert_eq!(rt; file.bytes(), again.bytes());
+        let (_, ratio) = routing_in(alloc, file.bytes())?;
+        assert!(rt; ratio < *starting);
+        let answer = written_over(&rt, alloc, &["check", "c"], &[("c", file.bytes())])?;
+        let line = format!(in alloc; "yes ratio {ratio} set ")?;
+        assert!(rt; answer.bytes().starts_with(line.as_bytes()));
+    }
+    Ok(())
+}
+
 /// Twenty matrices, each demand from 0 to 10000.
 fn drawn_matrices(alloc: Global, network: &Network) -> Result<String, Fail> {
     let names = network.names.as_slice();

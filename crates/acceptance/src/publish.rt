@@ -7,6 +7,9 @@ const SPF: &str = "{\"topology\":\"t\",\"matrices\":\"m\",\"publish\":\"spf\"}";
 /// Links from a to b and from b to c.
 const LINE: &str = "source,target,capacity,cost\na,b,10,1\nb,c,10,1\n";
 
+/// Links from a and from b to c, and both ways between a and b.
+const TRIANGLE: &str = "source,target,capacity,cost\na,c,10,1\nb,c,10,1\na,b,10,1\nb,a,10,1\n";
+
 /// A demand from a to b.
 const DEMAND: &str = "step,source,target,demand\n0,a,b,1\n";
 
@@ -37,18 +40,33 @@ const CERTIFICATES: &[(&[&str], &[&str], &[&str], &str)] = &[
         &[DEMAND],
         "\n0 1 2\n500000 1 0\n500000 1 1\nset all\nratio 2000000\n",
     ),
-    // The trees of the default scheme have one path for each pair.
+    // The trees of the default scheme have one path for each pair. The starting weights alone give 2000000.
     (
         &["{\"topology\":\"t\",\"matrices\":\"m\"}"],
         &["source,target,capacity,cost\na,b,10,1\nb,a,10,1\n"],
         &["step,source,target,demand\n0,a,b,1\n0,b,a,1\n"],
-        "\n0 1 1\n1000000 1 0\n1 0 1\n1000000 1 1\nset all\nratio 2000000\n",
+        "\n0 1 1\n1000000 1 0\n1 0 1\n1000000 1 1\nset all\nratio 1",
     ),
+    // The starting weights alone give 2000000.
     (
         &["{\"topology\":\"t\",\"matrices\":\"m\",\"publish\":\"spf\",\"margin\":[1,1]}"],
-        &["source,target,capacity,cost\na,c,10,1\nb,c,10,1\na,b,10,1\nb,a,10,1\n"],
+        &[TRIANGLE],
         &["step,source,target,demand\n0,a,c,10\n0,b,c,10\n1,a,c,7\n"],
-        "\nset margin 1 1\nbase 10 10\nratio 2000000\n",
+        "\nset margin 1 1\nbase 10 10\nratio 1",
+    ),
+    // The starting weights alone give 4000000.
+    (
+        &[SPF],
+        &[TRIANGLE],
+        &["step,source,target,demand\n0,a,c,10\n0,b,c,10\n"],
+        "\nset all\nratio 2",
+    ),
+    // Nothing is asked for at step 0, so b is as great as it may be.
+    (
+        &["{\"topology\":\"t\",\"matrices\":\"m\",\"publish\":\"spf\",\"margin\":[1,1]}"],
+        &["source,target,capacity,cost\na,b,10,1\n"],
+        &["step,source,target,demand\n1,a,b,5\n"],
+        "\nset margin 1 1\nbase 0\nratio 1\nblocks 1\n0 1000000 68719476736 1\n",
     ),
 ];
 

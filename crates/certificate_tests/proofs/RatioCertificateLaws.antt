@@ -11,10 +11,11 @@ use Rattle.te_model.specs.Laws.{PairsJoinNodes}
 use Rattle.te_model.specs.Path.{routes_at, no_routes, source_of, destination_of}
 use Rattle.te_model.specs.Validity.{pair_below}
 use Rattle.te_model.specs.ThreeNodes.{three_nodes, straight_routes}
-use Rattle.ratio_certificate.specs.Best.{IsBestBlock}
-use Rattle.ratio_certificate.specs.Conditions.{IsRoutingWithin}
-use Rattle.ratio_certificate.specs.Need.{HasNumbers}
-use Rattle.ratio_certificate.proofs.BlockValid.{best_valid}
+use Rattle.best_blocks.specs.Best.{IsBestBlock}
+use Rattle.best_blocks.specs.Conditions.{IsRoutingWithin}
+use Rattle.best_blocks.specs.Need.{HasNumbers}
+use Rattle.best_blocks.specs.Sharing.{HasShare}
+use Rattle.best_blocks.proofs.BlockValid.{best_valid}
 use Rattle.sample_networks.proofs.PathRoutings.{path_routing}
 
 abbrev head_of_set : DemandSet → Head
@@ -52,11 +53,17 @@ straight_within = record {
 pub sample_within : (net : Network) (routes : List PairRoutes) → net ≡ three_nodes → routes ≡ straight_routes → IsRoutingWithin net routes
 sample_within net routes is_net is_routes = rw (is_net, is_routes) straight_within
 
-pub best_numbers : (net : Network) (routes : List PairRoutes) (wanted : DemandSet) (weights : List ℕ) (block : Block) → net ≡ three_nodes → routes ≡ straight_routes →
-    length weights ≡ 4 → All (λ w. w ≤ 2 ^ 28) weights → IsBestBlock net routes wanted 0 weights block → HasNumbers net block
-best_numbers net routes wanted weights block is_net is_routes count small best =
-    let best_of_straight = subst (λ r. IsBestBlock three_nodes r wanted 0 weights block) is_routes (subst (λ n. IsBestBlock n routes wanted 0 weights block) is_net best) in
-    let valid = best_valid (head_of_set wanted) 0 weights block refl straight_within (omega arith) (omega arith) count small best_of_straight in
+-- each of the first two links carries the demand of one pair
+pub straight_shares : (e : ℕ) → e < 2 → HasShare straight_routes e
+straight_shares zero below = (0, omega arith, omega arith)
+straight_shares (suc zero) below = (1, omega arith, omega arith)
+straight_shares (suc (suc e)) below = absurd (omega arith)
+
+pub best_numbers : (net : Network) (routes : List PairRoutes) (wanted : DemandSet) (e : ℕ) (weights : List ℕ) (block : Block) → e < 2 → net ≡ three_nodes → routes ≡ straight_routes →
+    length weights ≡ 4 → All (λ w. w ≤ 2 ^ 28) weights → IsBestBlock net routes wanted e weights block → HasNumbers net block
+best_numbers net routes wanted e weights block below is_net is_routes count small best =
+    let best_of_straight = subst (λ r. IsBestBlock three_nodes r wanted e weights block) is_routes (subst (λ n. IsBestBlock n routes wanted e weights block) is_net best) in
+    let valid = best_valid (head_of_set wanted) e weights block refl straight_within (omega arith) (omega arith) count small best_of_straight in
     subst (λ n. HasNumbers n block) (sym is_net) (record {
       numbers = valid.numbers;
       small = valid.small;

@@ -6,4 +6,6 @@ mod block_reader_tests;
 #[cfg(test)]
 mod cert_text_tests;
 #[cfg(test)]
+mod polished_tests;
+#[cfg(test)]
 mod ratio_certificate_tests;

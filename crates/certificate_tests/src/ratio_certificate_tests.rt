@@ -1,6 +1,6 @@
-ghost use Rattle.std.specs.Prelude.{◌≡◌, ◌≤◌, ◌^◌, All, IfOk, length};
+ghost use Rattle.std.specs.Prelude.{◌≡◌, ◌^◌, ◌<◌, ◌≤◌, All, IfOk, length};
 ghost use Rattle.te_model.specs.ThreeNodes.{straight_routes, three_nodes};
-ghost use Rattle.ratio_certificate.specs.Conditions.{IsSetWithin};
+ghost use Rattle.best_blocks.specs.Conditions.{IsNoBox, IsSetWithin};
 
 use ratio_certificate::*;
 use routing::Routing;
@@ -10,7 +10,7 @@ use std::test::Fail;
 use te_model::{Block, Certificate, DemandSet, Memory, Network, Row};
 
 /// The nodes a, b and c, with links from a and from b to c, and both ways between a and b.
-fn three_nodes(alloc: Global) -> Result<Network, AllocError>
+pub fn three_nodes(alloc: Global) -> Result<Network, AllocError>
     ensures { IfOk result (λ n. n ≡ three_nodes) }
 {
     let ends = [(0, 2, 10, 1), (1, 2, 10, 1), (0, 1, 10, 1), (1, 0, 10, 1)];
@@ -29,8 +29,9 @@ fn straight_routes(alloc: Global) -> Result<Routing, AllocError>
 }
 
 /// The matrices in which both demands are equal, or all.
-fn demands(alloc: Global, equal: bool) -> Result<DemandSet, AllocError>
-    ensures { IfOk result (IsSetWithin 2) }
+pub fn demands(alloc: Global, equal: bool) -> Result<DemandSet, AllocError>
+    ensures set { IfOk result (IsSetWithin 2) }
+    ensures first { IfOk result IsNoBox }
 {
     if equal {
         Ok(DemandSet::Margin {
@@ -53,19 +54,21 @@ fn bounded(alloc: Global) -> Result<DemandSet, AllocError>
     })
 }
 
-/// The best block of the first link for the weights, and its need.
-fn best_of_first(
+/// The best block of a link with a share for the weights, and its need.
+pub fn best_on(
     alloc: Global,
     set: &DemandSet,
+    link: u32,
     weights: &[u64],
 ) -> Result<Option<(Block, u128)>, Memory>
     requires set { IsSetWithin 2 set.now }
+    requires link { link < 2 }
     requires count { length weights.now ≡ 4 }
     requires small { All (λ w. w ≤ 2 ^ 28) weights.now }
 {
     let net = three_nodes(alloc)?;
     let routing = straight_routes(alloc)?;
-    match scale(alloc, &net, &routing, set, 0, weights)? {
+    match scale(alloc, &net, &routing, set, link, weights)? {
         Some(block) => {
             let least = need(&net, &block);
             Ok(Some((block, least)))
@@ -109,7 +112,7 @@ fn has_best_between(alloc: Global, set: &DemandSet) -> bool
 {
     let weights = [1, 1, 0, 0];
     let rows = [(0, [0, 0, 1]), (1, [0, 0, 1])];
-    match best_of_first(alloc, set, &weights) {
+    match best_on(alloc, set, 0, &weights) {
         Ok(Some((block, least))) => {
             is_block(&block, 0, 2, &weights, &rows, &[1, 0], &[0, 1]) && least == 1_000_000
         }
@@ -122,14 +125,14 @@ fn best_blocks(rt: HostRuntime) -> Result<(), Fail> {
     let alloc = rt.alloc();
     let weights = [1, 1, 0, 0];
     let all = demands(alloc, false)?;
-    match best_of_first(alloc, &all, &weights) {
+    match best_on(alloc, &all, 0, &weights) {
         Ok(Some((block, least))) => {
             assert!(rt; is_block(&block, 0, 1, &weights, &[(0, [0, 0, 1])], &[], &[]));
             assert_eq!(rt; least, 2_000_000);
         }
         _ => assert!(rt; false),
     }
-    match best_of_first(alloc, &all, &[0, 0, 0, 0]) {
+    match best_on(alloc, &all, 0, &[0, 0, 0, 0]) {
         Ok(found) => assert!(rt; found.is_none()),
         Err(_) => assert!(rt; false),
     }
@@ -140,31 +143,65 @@ fn best_blocks(rt: HostRuntime) -> Result<(), Fail> {
     Ok(())
 }
 
-/// The certificate of the straight routes for all matrices.
-fn made(alloc: Global) -> Result<Certificate, Memory> {
-    let net = three_nodes(alloc)?;
-    let routing = straight_routes(alloc)?;
-    make(alloc, &net, &routing, DemandSet::All)
+/// What the first link needs for every matrix, or 0 where the weights have no best block.
+fn need_of_first(alloc: Global, weights: &[u64]) -> Result<u128, Memory>
+    requires count { length weights.now ≡ 4 }
+    requires small { All (λ w. w ≤ 2 ^ 28) weights.now }
+{
+    match best_on(alloc, &DemandSet::All, 0, weights)? {
+        Some((_, least)) => Ok(least),
+        None => Ok(0),
+    }
 }
 
 #[test]
-fn a_made_certificate(rt: HostRuntime) {
-    match made(rt.alloc()) {
-        Ok(certificate) => {
-            // Each distance is one weight, and the weights of all four links are paid for.
-            assert_eq!(rt; certificate.head.ratio, 4_000_000);
-            let far = 1 << 20;
-            let weights = [far, far, far, far];
-            match certificate.blocks.as_slice() {
-                [first, second] => {
-                    let from_a = [(0, [0, far, far])];
-                    let from_b = [(1, [far, 0, far])];
-                    assert!(rt; is_block(first, 0, far, &weights, &from_a, &[], &[]));
-                    assert!(rt; is_block(second, 1, far, &weights, &from_b, &[], &[]));
-                }
-                _ => assert!(rt; false),
-            }
+fn needs_of_weights(rt: HostRuntime) {
+    let alloc = rt.alloc();
+    let far = 1 << 20;
+    // Each distance is one weight, and the weights of all four links are paid for.
+    assert_eq!(rt; need_of_first(alloc, &[far, far, far, far]), Ok(4_000_000));
+    // The link from a to b is on no least path, so half its weight leaves the distances as they are.
+    assert_eq!(rt;
+        need_of_first(alloc, &[far, far, far / 2, far]),
+        Ok(3_500_000)
+    );
+    // Doubled until the greatest is 2^20, weights need no more than before.
+    assert_eq!(rt; need_of_first(alloc, &[1, 1, 0, 0]), Ok(2_000_000));
+    assert_eq!(rt; need_of_first(alloc, &[2, 2, 0, 0]), Ok(2_000_000));
+    assert_eq!(rt; need_of_first(alloc, &[far, far, 0, 0]), Ok(2_000_000));
+}
+
+/// The certificate of the straight routes over the set.
+pub fn made(alloc: Global, set: DemandSet) -> Result<Certificate, Memory>
+    requires set { IsSetWithin 2 set }
+    requires first { IsNoBox set }
+{
+    let net = three_nodes(alloc)?;
+    let routing = straight_routes(alloc)?;
+    make(alloc, &net, &routing, set)
+}
+
+/// Whether both links with a share have a block, and the ratio is one of these.
+fn is_made_between(certificate: &Certificate, least: u64, most: u64) -> bool {
+    let ratio = certificate.head.ratio;
+    match certificate.blocks.as_slice() {
+        [first, second] => {
+            first.link == 0 && second.link == 1 && least <= ratio && ratio <= most
         }
-        Err(_) => assert!(rt; false),
+        _ => false,
     }
+}
+
+#[test]
+fn made_certificates(rt: HostRuntime) -> Result<(), Fail> {
+    let alloc = rt.alloc();
+    // The routes have the ratio 2 for every matrix and 1 for multiples of one; the starting weights give twice as much.
+    for (equal, least, most) in [(false, 2_000_000, 3_999_999), (true, 1_000_000, 1_999_999)] {
+        let set = demands(alloc, equal)?;
+        match made(alloc, set) {
+            Ok(certificate) => assert!(rt; is_made_between(&certificate, least, most)),
+            Err(_) => assert!(rt; false),
+        }
+    }
+    Ok(())
 }
