@@ -3,6 +3,7 @@ pub mod Pushed
 pub mod Quotients
 pub mod Needs
 pub mod Balances
+pub mod AllowedUse
 pub mod RowsFrom
 pub mod Marking
 pub mod Distances

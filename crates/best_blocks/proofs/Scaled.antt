@@ -15,6 +15,7 @@ use Rattle.best_blocks.specs.Metric.{IsMetric}
 use Rattle.best_blocks.specs.Scale.{AreScalable, HasNoScale}
 use Rattle.best_blocks.specs.Sharing.{IsSharedLink}
 use Rattle.best_blocks.specs.Under.{IsScaleUnder}
+use Rattle.best_blocks.specs.Used.{AreSharesListed}
 use Rattle.best_blocks.proofs.Distances.{metric_near, pair_distance}
 use Rattle.best_blocks.proofs.SmallNumbers.{scalable, shares_small}
 
@@ -46,20 +47,18 @@ pub if_scale : (P Q : ℕ → ℕ → Type 0) → ((a b : ℕ) → P a b → Q a
 if_scale P Q each (Some s) is = each s.a s.b is
 if_scale P Q each None is = tt
 
-pub scale_read : (r : Option Scale) (set : DemandSet) (n : ℕ) (xs ds shares distances : List ℕ) → xs ≡ shares → ds ≡ distances → length shares ≡ n →
-    IfSome r (λ s. IsBestScale set (length xs) (slice_index xs) (slice_index ds) s.a s.b) →
+pub scale_read : (r : Option Scale) (set : DemandSet) (n : ℕ) (shares ds distances : List ℕ) → ds ≡ distances → length shares ≡ n →
+    IfSome r (λ s. IsBestScale set (length shares) (slice_index shares) (slice_index ds) s.a s.b) →
     IfSome r (λ s. IsBestScale set n (slice_index shares) (slice_index distances) s.a s.b)
-scale_read r set n xs ds shares distances is_xs is_ds count best =
+scale_read r set n shares ds distances is count best =
     subst (λ k. IfSome r (λ s. IsBestScale set k (slice_index shares) (slice_index distances) s.a s.b)) count
-    (subst (λ (d : List ℕ). IfSome r (λ s. IsBestScale set (length shares) (slice_index shares) (slice_index d) s.a s.b)) is_ds
-    (subst (λ (x : List ℕ). IfSome r (λ s. IsBestScale set (length x) (slice_index x) (slice_index ds) s.a s.b)) is_xs best))
+    (subst (λ (d : List ℕ). IfSome r (λ s. IsBestScale set (length shares) (slice_index shares) (slice_index d) s.a s.b)) is best)
 
-pub none_read : (r : Option Scale) (set : DemandSet) (n : ℕ) (xs ds shares distances : List ℕ) → xs ≡ shares → ds ≡ distances → length shares ≡ n →
-    IfNone r (HasNoScale set (length xs) (slice_index xs) (slice_index ds)) → IfNone r (HasNoScale set n (slice_index shares) (slice_index distances))
-none_read r set n xs ds shares distances is_xs is_ds count none =
+pub none_read : (r : Option Scale) (set : DemandSet) (n : ℕ) (shares ds distances : List ℕ) → ds ≡ distances → length shares ≡ n →
+    IfNone r (HasNoScale set (length shares) (slice_index shares) (slice_index ds)) → IfNone r (HasNoScale set n (slice_index shares) (slice_index distances))
+none_read r set n shares ds distances is count none =
     subst (λ k. IfNone r (HasNoScale set k (slice_index shares) (slice_index distances))) count
-    (subst (λ (d : List ℕ). IfNone r (HasNoScale set (length shares) (slice_index shares) (slice_index d))) is_ds
-    (subst (λ (x : List ℕ). IfNone r (HasNoScale set (length x) (slice_index x) (slice_index ds))) is_xs none))
+    (subst (λ (d : List ℕ). IfNone r (HasNoScale set (length shares) (slice_index shares) (slice_index d))) is none)
 
 -- b is at most 2^36 where no distance is above 2^35
 pub b_small : (set : DemandSet) (n : ℕ) (shares distance : ℕ → ℕ) (a b : ℕ) → ((p : ℕ) → distance p ≤ 2 ^ 35) → IsBestScale set n shares distance a b → b ≤ 2 ^ 36
@@ -73,3 +72,7 @@ pub some_share : (net : Network) (routes : List PairRoutes) (set : DemandSet) (l
 some_share net routes set l shared =
     let (p, below, some) = shared.some in
     (p, omega (arith, below, shared.shares_are.count), omega (arith, some, shared.shares_are.each p below))
+
+-- its list and its shares tell the shares of the routing
+pub shares_listed : (net : Network) (routes : List PairRoutes) (set : DemandSet) (l : SharedLink) → IsSharedLink net routes set l → AreSharesListed l
+shares_listed net routes set l shared = record { routes = routes; listed = shared.listed; shares_are = shared.shares_are }

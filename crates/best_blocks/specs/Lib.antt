@@ -9,3 +9,4 @@ pub mod Rows
 pub mod Scale
 pub mod Sharing
 pub mod Under
+pub mod Used

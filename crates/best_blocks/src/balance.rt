@@ -1,11 +1,16 @@
 //! Between bounds: the greatest number that balances what shares ask for against the distances.
 ghost use Rattle.std.specs.Prelude.{◌≡◌, ◌^◌, ◌<◌, ◌≤◌, ℕ, IfOk, IfSome, IfNone, false, length, slice_index};
 ghost use Rattle.te_model.specs.declared.units.TheConstants.{SHARE_UNIT};
+ghost use Rattle.te_model.specs.declared.limits.TheConstants.{FORMAT_2};
 ghost use Rattle.te_model.specs.Demand.{lower_of, upper_of};
+ghost use Rattle.te_model.specs.Inequalities.{weigh};
 ghost use Rattle.best_blocks.specs.Best.{added, asked, balances, taken_back, IsGreatestBalance};
 ghost use Rattle.best_blocks.specs.Scale.{AreScalable};
+ghost use Rattle.best_blocks.specs.Used.{used, used_by, AreSharesListed};
 ghost use Rattle.shortest_path.specs.Pairs.{AreValues};
 
+use crate::sharing::SharedLink;
+use routing::PairShare;
 use std::alloc::Global;
 use te_model::{DemandSet, Memory, SHARE_UNIT};
 
@@ -22,40 +27,82 @@ fn asked(share: u64, b: u64) -> u64
     (b * share + (SHARE_UNIT - 1)) / SHARE_UNIT
 }
 
-/// Whether what is added is taken back between the bounds of the set.
+/// What a pair uses of what the distances allow.
 #[tactic(auto, using(crate::proofs::Balances::bound_term))]
-fn balances(set: &DemandSet, shares: &[u64], distances: &[u64], b: u64) -> bool
-    requires numbers { AreScalable set.now shares.now distances.now }
+fn used_by(set: &DemandSet, entry: PairShare, distance: u64, b: u64) -> u128
+    requires lower { lower_of set.now entry.pair ≤ 2 ^ 52 }
+    requires upper { upper_of set.now entry.pair ≤ 2 ^ 52 }
+    requires share { entry.share ≤ SHARE_UNIT }
+    requires distance { distance ≤ 2 ^ 35 }
     requires b { b ≤ 2 ^ 36 }
-    ensures { result ≡ balances (lower_of set.now) (upper_of set.now) (length shares.now) (slice_index shares.now) (slice_index distances.now) b }
+    ensures value { result ≡ used_by (lower_of set.now entry.pair) (upper_of set.now entry.pair) distance (asked b entry.share) }
+    ensures small { result ≤ 2 ^ 89 }
 {
-    let mut gain: u128 = 0;
-    let mut loss: u128 = 0;
-    for p in 0..shares.len() {
-        let wanted = asked(shares[p], b);
-        let more = wanted.saturating_sub(distances[p]);
-        let less = distances[p].saturating_sub(wanted);
-        gain += set.upper(p) as u128 * more as u128;
-        loss += set.lower(p) as u128 * less as u128;
+    let pair = entry.pair as usize;
+    let wanted = asked(entry.share, b);
+    let more = wanted.saturating_sub(distance);
+    let within = wanted.min(distance);
+    set.upper(pair) as u128 * more as u128 + set.lower(pair) as u128 * within as u128
+}
+
+/// What the pairs with a share use of what the distances allow. The other pairs use nothing.
+fn used(set: &DemandSet, shared: &SharedLink, distances: &[u64], b: u64) -> u128
+    requires numbers { AreScalable set.now shared.now.shares distances.now }
+    requires listed { AreSharesListed shared.now }
+    requires b { b ≤ 2 ^ 36 }
+    ensures { result ≡ used (lower_of set.now) (upper_of set.now) (length shared.now.shares) (slice_index shared.now.shares) (slice_index distances.now) b }
+{
+    let mut sum: u128 = 0;
+    for entry in shared.list.as_slice() {
+        sum += used_by(set, *entry, distances[entry.pair as usize], b);
     }
-    gain <= loss
+    sum
+}
+
+/// What the distances allow at the lower bounds.
+#[tactic(auto, using(crate::proofs::Balances::bound_term))]
+fn allowed(set: &DemandSet, distances: &[u64]) -> u128
+    requires few { length distances.now ≤ FORMAT_2.pairs }
+    requires lower { (p : ℕ) → lower_of set.now p ≤ 2 ^ 52 }
+    requires near { (p : ℕ) → slice_index distances.now p ≤ 2 ^ 35 }
+    ensures { result ≡ weigh (length distances.now) (lower_of set.now) (slice_index distances.now) }
+{
+    let mut sum: u128 = 0;
+    for p in 0..distances.len() {
+        sum += set.lower(p) as u128 * distances[p] as u128;
+    }
+    sum
+}
+
+/// Whether what is added is taken back between the bounds of the set: whether the pairs use no more
+/// than the distances allow, which is the same for every `b`.
+fn balances(set: &DemandSet, shared: &SharedLink, distances: &[u64], allowed: u128, b: u64) -> bool
+    requires numbers { AreScalable set.now shared.now.shares distances.now }
+    requires listed { AreSharesListed shared.now }
+    requires allowed { allowed ≡ weigh (length distances.now) (lower_of set.now) (slice_index distances.now) }
+    requires b { b ≤ 2 ^ 36 }
+    ensures { result ≡ balances (lower_of set.now) (upper_of set.now) (length shared.now.shares) (slice_index shared.now.shares) (slice_index distances.now) b }
+{
+    used(set, shared, distances, b) <= allowed
 }
 
 /// The greatest number up to 2^36 that balances, or `None` where 1 does not. A greater number never
 /// balances more easily, so the search halves.
-pub fn greatest_balance(set: &DemandSet, shares: &[u64], distances: &[u64]) -> Option<u64>
-    requires { AreScalable set.now shares.now distances.now }
-    ensures some { IfSome result (λ b. IsGreatestBalance (lower_of set.now) (upper_of set.now) (length shares.now) (slice_index shares.now) (slice_index distances.now) b) }
-    ensures none { IfNone result (balances (lower_of set.now) (upper_of set.now) (length shares.now) (slice_index shares.now) (slice_index distances.now) 1 ≡ false) }
+pub fn greatest_balance(set: &DemandSet, shared: &SharedLink, distances: &[u64]) -> Option<u64>
+    requires numbers { AreScalable set.now shared.now.shares distances.now }
+    requires listed { AreSharesListed shared.now }
+    ensures some { IfSome result (λ b. IsGreatestBalance (lower_of set.now) (upper_of set.now) (length shared.now.shares) (slice_index shared.now.shares) (slice_index distances.now) b) }
+    ensures none { IfNone result (balances (lower_of set.now) (upper_of set.now) (length shared.now.shares) (slice_index shared.now.shares) (slice_index distances.now) 1 ≡ false) }
 {
-    if !balances(set, shares, distances, 1) {
+    let allowed = allowed(set, distances);
+    if !balances(set, shared, distances, allowed, 1) {
         return None;
     }
     let mut low = 1;
     let mut high = MAX_B + 1;
     while high - low > 1 {
         let middle = low + (high - low) / 2;
-        if balances(set, shares, distances, middle) {
+        if balances(set, shared, distances, allowed, middle) {
             low = middle;
         } else {
             high = middle;

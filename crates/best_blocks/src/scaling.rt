@@ -8,6 +8,7 @@ ghost use Rattle.best_blocks.specs.Metric.{IsMetric};
 ghost use Rattle.best_blocks.specs.Scale.{AreScalable, HasNoScale};
 ghost use Rattle.best_blocks.specs.Sharing.{IsSharedLink};
 ghost use Rattle.best_blocks.specs.Under.{IsScaleUnder};
+ghost use Rattle.best_blocks.specs.Used.{AreSharesListed};
 
 use crate::balance::greatest_balance;
 use crate::metric::Metric;
@@ -41,28 +42,30 @@ fn scale_for_all(shares: &[u64], distances: &[u64]) -> Option<Scale>
 }
 
 /// The best scale between the bounds of the set, or `None` where there is none.
-fn scale_between(set: &DemandSet, shares: &[u64], distances: &[u64]) -> Option<Scale>
-    requires { AreScalable set.now shares.now distances.now }
-    ensures some { IfSome result (λ s. IsScaleBetween (lower_of set.now) (upper_of set.now) (length shares.now) (slice_index shares.now) (slice_index distances.now) s.a s.b) }
-    ensures none { IfNone result (balances (lower_of set.now) (upper_of set.now) (length shares.now) (slice_index shares.now) (slice_index distances.now) 1 ≡ false) }
+fn scale_between(set: &DemandSet, shared: &SharedLink, distances: &[u64]) -> Option<Scale>
+    requires numbers { AreScalable set.now shared.now.shares distances.now }
+    requires listed { AreSharesListed shared.now }
+    ensures some { IfSome result (λ s. IsScaleBetween (lower_of set.now) (upper_of set.now) (length shared.now.shares) (slice_index shared.now.shares) (slice_index distances.now) s.a s.b) }
+    ensures none { IfNone result (balances (lower_of set.now) (upper_of set.now) (length shared.now.shares) (slice_index shared.now.shares) (slice_index distances.now) 1 ≡ false) }
 {
-    match greatest_balance(set, shares, distances) {
+    match greatest_balance(set, shared, distances) {
         Some(b) => Some(Scale { a: SHARE_UNIT, b }),
         None => None,
     }
 }
 
 /// The best scale, or `None` where there is none.
-fn scale_of(set: &DemandSet, shares: &[u64], distances: &[u64]) -> Option<Scale>
-    requires numbers { AreScalable set.now shares.now distances.now }
-    requires some { (p : ℕ) × (p < length shares.now) × (0 < slice_index shares.now p) }
-    ensures some { IfSome result (λ s. IsBestScale set.now (length shares.now) (slice_index shares.now) (slice_index distances.now) s.a s.b) }
-    ensures none { IfNone result (HasNoScale set.now (length shares.now) (slice_index shares.now) (slice_index distances.now)) }
+fn scale_of(set: &DemandSet, shared: &SharedLink, distances: &[u64]) -> Option<Scale>
+    requires numbers { AreScalable set.now shared.now.shares distances.now }
+    requires listed { AreSharesListed shared.now }
+    requires some { (p : ℕ) × (p < length shared.now.shares) × (0 < slice_index shared.now.shares p) }
+    ensures some { IfSome result (λ s. IsBestScale set.now (length shared.now.shares) (slice_index shared.now.shares) (slice_index distances.now) s.a s.b) }
+    ensures none { IfNone result (HasNoScale set.now (length shared.now.shares) (slice_index shared.now.shares) (slice_index distances.now)) }
 {
     match set {
-        DemandSet::All => scale_for_all(shares, distances),
-        DemandSet::Margin { .. } => scale_between(set, shares, distances),
-        DemandSet::Box { .. } => scale_between(set, shares, distances),
+        DemandSet::All => scale_for_all(shared.shares.as_slice(), distances),
+        DemandSet::Margin { .. } => scale_between(set, shared, distances),
+        DemandSet::Box { .. } => scale_between(set, shared, distances),
     }
 }
 
@@ -83,5 +86,5 @@ pub fn scale_under(
     ensures scale { IfSome result (λ s. IsBestScale set.now (length routing.now.routes) (slice_index shared.now.shares) (slice_index metric.now.distances) s.a s.b) }
     ensures none { IfNone result (HasNoScale set.now (length routing.now.routes) (slice_index shared.now.shares) (slice_index metric.now.distances)) }
 {
-    scale_of(set, shared.shares.as_slice(), metric.distances.as_slice())
+    scale_of(set, shared, metric.distances.as_slice())
 }

@@ -8,11 +8,11 @@ pub loop-high-preserved : goal.loop-high-preserved
 loop-high-preserved c =
     let kept = c.loop-high.invariant in
     let middle = c.loop-high.low + (c.loop-high.high - c.loop-high.low) / 2 in
-    let shares = slice_index c.args.shares.now in
+    let shares = slice_index c.args.shared.now.shares in
     let distance = slice_index c.args.distances.now in
     let lower = lower_of c.args.set.now in
     let upper = upper_of c.args.set.now in
-    let n = length c.args.shares.now in
+    let n = length c.args.shared.now.shares in
     let fails : balances lower upper n shares distance middle ≡ false =
     sym c.balances-in-loop-high.ensures ∙ c.if-balances.false
     in (
