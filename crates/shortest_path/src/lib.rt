@@ -4,7 +4,8 @@
 //! - `least_path`: the least path between two nodes by the sum of lengths, then by the list of links.
 //! - `costs`: the costs of the links as lengths.
 //! - `length_along`, `is_sum`: sums of lengths along given links.
-//! - `toward`, `follow` and `least_walk`: the same where only some links are open.
+//! - `toward`, `follow` and `least_walk`: the same where only some links are open. `first_links` and `walk_along` are the
+//!   two parts of `follow`, for many walks to one node.
 //! - `Searches`: many searches in one network. `Ways`: the least ways by cost from each node to one.
 #![tactic(auto)]
 
@@ -27,5 +28,5 @@ pub use length::{is_sum, length_along};
 pub use path::least_path;
 pub use rows::Direction;
 pub use searches::Searches;
-pub use walk::{first_links, follow, least_walk, toward};
+pub use walk::{first_links, follow, least_walk, toward, walk_along};
 pub use ways::{Ways, way_from, ways_to};

@@ -68,6 +68,9 @@ pub fn first_links(
 }
 
 /// The least walk from `src` to `dst` along the first links, or `None` where there is no walk.
+///
+/// `sums` are those that `toward` gives for `dst`, and `firsts` those that `first_links` gives for them. `Memory` comes
+/// where memory is wanting.
 pub fn walk_along(
     alloc: Global,
     net: &Network,
