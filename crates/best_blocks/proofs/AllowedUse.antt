@@ -16,7 +16,8 @@ use Rattle.best_blocks.specs.declared.sharing.SharedLink.{SharedLink}
 use Rattle.best_blocks.specs.Best.{added, asked, balances, taken_back}
 use Rattle.best_blocks.specs.Scale.{AreScalable}
 use Rattle.best_blocks.specs.Used.{used, used_by, AreSharesListed}
-use Rattle.best_blocks.proofs.Balances.{asked-small, bound_term}
+use Rattle.te_model.proofs.Sizes.{bound_term}
+use Rattle.best_blocks.proofs.Balances.{asked-small}
 
 -- what pair p uses
 abbrev pub used_at : DemandSet → List ℕ → List ℕ → ℕ → ℕ → ℕ

@@ -65,7 +65,3 @@ balances-same lower upper n shares distance shares' distance' b same_share same_
 -- a number of at most 2^36 times a share
 pub asked_fits : (b s : ℕ) → b ≤ 2 ^ 36 → s ≤ 1000000 → b * s ≤ 2 ^ 36 * 1000000
 asked_fits b s hb hs = mul-le b s (2 ^ 36) 1000000 hb hs
-
--- a bound of a pair times a number of at most 2^36
-pub bound_term : (d n : ℕ) → d ≤ 2 ^ 52 → n ≤ 2 ^ 36 → d * n ≤ 2 ^ 88
-bound_term d n hd hn = omega (arith, mul-le d n (2 ^ 52) (2 ^ 36) hd hn)

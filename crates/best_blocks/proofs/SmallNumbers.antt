@@ -1,8 +1,7 @@
 -- The shares on a link, the distances and the bounds of a set are within their limits.
-use Rattle.std.proofs.Common.{◌≡◌, ℕ, ◌*◌, ◌^◌, ◌<◌, ◌≤◌, List, length, slice_index, arith}
+use Rattle.std.proofs.Common.{◌≡◌, ℕ, ◌^◌, ◌<◌, ◌≤◌, List, length, slice_index, arith}
 use Rattle.std.proofs.lemmas.Bool.Decides.{nat_tests}
 use Rattle.std.proofs.lemmas.List.Elements.{All-get_or}
-use Rattle.std.proofs.lemmas.Nat.{mul-le}
 use Rattle.te_model.specs.declared.network.Network.{Network}
 use Rattle.te_model.specs.declared.route.PairRoutes.{PairRoutes}
 use Rattle.te_model.specs.declared.demand.DemandSet.{DemandSet}
@@ -12,6 +11,7 @@ use Rattle.te_model.specs.declared.units.TheConstants.{SHARE_UNIT}
 use Rattle.te_model.specs.Demand.{lower_of, upper_of}
 use Rattle.te_model.specs.Path.{share}
 use Rattle.te_model.specs.PathRouting.{IsPathRouting}
+use Rattle.te_model.proofs.Valid.{square_small}
 use Rattle.shortest_path.proofs.Values.{listed_small}
 use Rattle.routing.proofs.Splits.{share-le, splits_of}
 use Rattle.best_blocks.specs.Conditions.{IsSetWithin}
@@ -24,10 +24,6 @@ shares_small net routes e shares routing are =
     listed_small SHARE_UNIT shares (λ p below.
     let inside : p < length routes = omega (arith, below, are.count) in
     omega (arith, are.each p inside, share-le routes p e (splits_of net routes routing) inside))
-
--- a base demand times the square of a factor
-square_small : (d f : ℕ) → d ≤ 2 ^ 32 → f ≤ 1000 → d * (f * f) ≤ 2 ^ 52
-square_small d f small few = omega (arith, mul-le d (f * f) (2 ^ 32) (1000 * 1000) small (mul-le f f 1000 1000 few few))
 
 pub bounds_small : (pairs : ℕ) (wanted : DemandSet) → IsSetWithin pairs wanted → (p : ℕ) → (lower_of wanted p ≤ 2 ^ 52) × (upper_of wanted p ≤ 2 ^ 52)
 bounds_small pairs AllMatrices within p = (omega arith, omega arith)

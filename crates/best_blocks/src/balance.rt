@@ -28,7 +28,7 @@ fn asked(share: u64, b: u64) -> u64
 }
 
 /// What a pair uses of what the distances allow.
-#[tactic(auto, using(crate::proofs::Balances::bound_term))]
+#[tactic(auto, using(te_model::proofs::Sizes::bound_term))]
 fn used_by(set: &DemandSet, entry: PairShare, distance: u64, b: u64) -> u128
     requires lower { lower_of set.now entry.pair ≤ 2 ^ 52 }
     requires upper { upper_of set.now entry.pair ≤ 2 ^ 52 }
@@ -60,7 +60,7 @@ fn used(set: &DemandSet, shared: &SharedLink, distances: &[u64], b: u64) -> u128
 }
 
 /// What the distances allow at the lower bounds.
-#[tactic(auto, using(crate::proofs::Balances::bound_term))]
+#[tactic(auto, using(te_model::proofs::Sizes::bound_term))]
 fn allowed(set: &DemandSet, distances: &[u64]) -> u128
     requires few { length distances.now ≤ FORMAT_2.pairs }
     requires lower { (p : ℕ) → lower_of set.now p ≤ 2 ^ 52 }

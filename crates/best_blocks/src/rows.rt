@@ -1,12 +1,14 @@
 //! Distances from the nodes that need a row.
-ghost use Rattle.std.specs.Prelude.{◌≡◌, ◌^◌, ◌<◌, ◌≤◌, [], All, IfOk, IsTrue, true, false, length};
+ghost use Rattle.std.specs.Prelude.{◌≡◌, ◌^◌, ◌<◌, ◌≤◌, [], All, None, IfOk, IfSome, IsTrue, true, false, length};
 ghost use Rattle.te_model.specs.declared.limits.TheConstants.{FORMAT_2};
 ghost use Rattle.te_model.specs.Network.{is_well_formed, link_count, node_count};
+ghost use Rattle.shortest_path.specs.declared.rows.Direction.TheVariants.{Forward};
 ghost use Rattle.shortest_path.specs.Graph.{distance_at};
 ghost use Rattle.shortest_path.specs.Paths.{AreDistances};
+ghost use Rattle.shortest_path.specs.Rows.{IsSearchGraph};
 ghost use Rattle.best_blocks.specs.Rows.{is_loose, is_marked, is_slack_for, row_at, AreRowsFrom, IsSameElsewhere};
 
-use shortest_path::distances;
+use shortest_path::{Direction, Searches};
 use std::alloc::Global;
 use te_model::{Items, Memory, Network};
 
@@ -32,25 +34,50 @@ fn is_marked(marks: &[bool], node: usize) -> bool
     }
 }
 
-/// The distances from the node if it is marked, and else nothing.
+/// The distances from the node. The searches are along links in the network.
+fn row_from(
+    alloc: Global,
+    net: &Network,
+    searches: &mut Searches,
+    weights: &[u64],
+    node: usize,
+) -> Result<Vec<Option<u64>>, Memory>
+    requires network { IsTrue (is_well_formed net.now) }
+    requires along { IsSearchGraph net.now Forward searches.old }
+    requires weights { length weights.now ≡ link_count net.now }
+    requires small { All (λ w. w ≤ 2 ^ 28) weights.now }
+    requires nodes { node_count net.now ≤ FORMAT_2.nodes }
+    requires node { node < node_count net.now }
+    ensures distances { IfOk result (λ r. AreDistances net.now weights.now node r.items) }
+    ensures same { searches.new ≡ searches.old }
+{
+    let mut row = vec![in alloc; None; net.names.as_slice().len()]?;
+    searches.distances(net, weights, node as u32, &mut row);
+    Ok(row)
+}
+
+/// The distances from the node if it is marked, and else nothing. The searches are along links in
+/// the network.
 fn row_if_marked(
     alloc: Global,
     net: &Network,
+    searches: &mut Searches,
     weights: &[u64],
     marks: &[bool],
     node: usize,
 ) -> Result<Vec<Option<u64>>, Memory>
     requires network { IsTrue (is_well_formed net.now) }
+    requires along { IsSearchGraph net.now Forward searches.old }
     requires weights { length weights.now ≡ link_count net.now }
     requires small { All (λ w. w ≤ 2 ^ 28) weights.now }
     requires nodes { node_count net.now ≤ FORMAT_2.nodes }
     requires node { node < node_count net.now }
     ensures marked { IfOk result (λ r. is_marked marks.now node ≡ true → AreDistances net.now weights.now node r.items) }
     ensures other { IfOk result (λ r. is_marked marks.now node ≡ false → r.items ≡ []) }
+    ensures same { searches.new ≡ searches.old }
 {
     if is_marked(marks, node) {
-        let row = distances(alloc, net, weights, node as u32)?;
-        Ok(row)
+        row_from(alloc, net, searches, weights, node)
     } else {
         Ok(Vec::new(alloc))
     }
@@ -70,9 +97,10 @@ pub fn rows_under(
     requires marks { length marks.now ≡ node_count net.now }
     ensures { IfOk result (λ r. AreRowsFrom (node_count net.now) net.now weights.now marks.now r.items) }
 {
+    let mut searches = Searches::new(alloc, net, Direction::Forward)?;
     let mut rows = Vec::with_capacity(alloc, marks.len())?;
     for i in 0..marks.len() {
-        let row = row_if_marked(alloc, net, weights, marks, i)?;
+        let row = row_if_marked(alloc, net, &mut searches, weights, marks, i)?;
         rows.push(Items::new(row))?;
     }
     Ok(rows)
@@ -119,11 +147,29 @@ fn are_slack(net: &Network, row: &[Option<u64>], links: &[u32], old: &[u64], new
     true
 }
 
+/// The searches, which are made where there are none yet.
+fn taken_or_made(
+    alloc: Global,
+    net: &Network,
+    searches: &mut Option<Searches>,
+) -> Result<Searches, Memory>
+    requires network { IsTrue (is_well_formed net.now) }
+    requires along { IfSome searches.old (IsSearchGraph net.now Forward) }
+    ensures along { IfOk result (IsSearchGraph net.now Forward) }
+    ensures taken { searches.new ≡ None }
+{
+    match searches.take() {
+        Some(made) => Ok(made),
+        None => Searches::new(alloc, net, Direction::Forward),
+    }
+}
+
 /// The distances from the node by the new weights, which differ from the old ones on the changed
-/// links alone.
+/// links alone. The searches, if there are some yet, are along links in the network.
 fn next_row(
     alloc: Global,
     net: &Network,
+    searches: &mut Option<Searches>,
     rows: &[Items<Option<u64>>],
     node: usize,
     changed: &[u32],
@@ -140,14 +186,18 @@ fn next_row(
     requires old { length old.now ≡ link_count net.now }
     requires new { length new.now ≡ link_count net.now }
     requires small { All (λ w. w ≤ 2 ^ 28) new.now }
-    ensures { IfOk result (λ r. AreDistances net.now new.now node r.items) }
+    requires along { IfSome searches.old (IsSearchGraph net.now Forward) }
+    ensures distances { IfOk result (λ r. AreDistances net.now new.now node r.items) }
+    ensures along { IfSome searches.new (IsSearchGraph net.now Forward) }
 {
     let row = rows[node].as_slice();
     if are_slack(net, row, changed, old, new) {
         let kept = Vec::from_slice(alloc, row)?;
         return Ok(kept);
     }
-    let found = distances(alloc, net, new, node as u32)?;
+    let mut made = taken_or_made(alloc, net, searches)?;
+    let found = row_from(alloc, net, &mut made, new, node)?;
+    *searches = Some(made);
     Ok(found)
 }
 
@@ -155,6 +205,7 @@ fn next_row(
 fn next_row_if_marked(
     alloc: Global,
     net: &Network,
+    searches: &mut Option<Searches>,
     rows: &[Items<Option<u64>>],
     marks: &[bool],
     node: usize,
@@ -171,11 +222,13 @@ fn next_row_if_marked(
     requires old { length old.now ≡ link_count net.now }
     requires new { length new.now ≡ link_count net.now }
     requires small { All (λ w. w ≤ 2 ^ 28) new.now }
+    requires along { IfSome searches.old (IsSearchGraph net.now Forward) }
     ensures marked { IfOk result (λ r. is_marked marks.now node ≡ true → AreDistances net.now new.now node r.items) }
     ensures other { IfOk result (λ r. is_marked marks.now node ≡ false → r.items ≡ []) }
+    ensures along { IfSome searches.new (IsSearchGraph net.now Forward) }
 {
     if is_marked(marks, node) {
-        let next = next_row(alloc, net, rows, node, changed, old, new)?;
+        let next = next_row(alloc, net, searches, rows, node, changed, old, new)?;
         Ok(next)
     } else {
         Ok(Vec::new(alloc))
@@ -204,9 +257,10 @@ pub fn rows_after(
     requires small { All (λ w. w ≤ 2 ^ 28) new.now }
     ensures { IfOk result (λ r. AreRowsFrom (node_count net.now) net.now new.now marks.now r.items) }
 {
+    let mut searches = None;
     let mut next = Vec::with_capacity(alloc, marks.len())?;
     for i in 0..marks.len() {
-        let row = next_row_if_marked(alloc, net, rows, marks, i, changed, old, new)?;
+        let row = next_row_if_marked(alloc, net, &mut searches, rows, marks, i, changed, old, new)?;
         next.push(Items::new(row))?;
     }
     Ok(next)

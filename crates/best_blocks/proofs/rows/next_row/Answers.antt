@@ -5,8 +5,8 @@ use Rattle.best_blocks.specs.Rows.{row_at}
 use Rattle.best_blocks.proofs.RowsFrom.{row_stays}
 use Rattle.best_blocks.proofs.rows.next_row.Goals as goal
 
-pub returns-then-are_slack : goal.returns-then-are_slack
-returns-then-are_slack c =
+pub returns-then-are_slack-clause-distances : goal.returns-then-are_slack-clause-distances
+returns-then-are_slack-clause-distances c =
     let net = c.args.net.now in
     let old = c.args.old.now in
     let new = c.args.new.now in

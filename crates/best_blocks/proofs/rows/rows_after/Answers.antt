@@ -9,8 +9,10 @@ loop-i-preserved c =
     let net = c.args.net.now in
     let new = c.args.new.now in
     let marks = c.args.marks.now in
-    let i = c.loop-i.i in
-    subst (λ (rows : List (List (Option ℕ))). AreRowsFrom (i + 1) net new marks rows) (sym c.in_ok-push.ensures.items)
-    (row_pushed i net new marks c.loop-i.next.items c.new.result c.loop-i.invariant
-    (λ marked. subst (AreDistances net new i) (sym c.new.ensures) (c.in_ok-row.ensures.marked marked))
-    (λ unmarked. c.new.ensures ∙ c.in_ok-row.ensures.other unmarked))
+    let i = c.loop-i.i in (
+      c.in_ok-row.ensures.along,
+      subst (λ (rows : List (List (Option ℕ))). AreRowsFrom (i + 1) net new marks rows) (sym c.in_ok-push.ensures.items)
+          (row_pushed i net new marks c.loop-i.next.items c.new.result c.loop-i.invariant.1
+          (λ marked. subst (AreDistances net new i) (sym c.new.ensures) (c.in_ok-row.ensures.marked marked))
+          (λ unmarked. c.new.ensures ∙ c.in_ok-row.ensures.other unmarked)),
+    )

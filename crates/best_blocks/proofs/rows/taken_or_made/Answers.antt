@@ -1,0 +1,5 @@
+use Rattle.shortest_path.proofs.Sound.{sound}
+use Rattle.best_blocks.proofs.rows.taken_or_made.Goals as goal
+
+pub new-requires : goal.new-requires
+new-requires c = sound c.args.net.now c.requires.network
