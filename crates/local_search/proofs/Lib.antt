@@ -6,3 +6,5 @@ pub mod Peaks
 pub mod Taking
 pub mod Searching
 pub mod Settled
+pub mod Entering
+pub mod Holders

@@ -1,14 +1,17 @@
 -- Which moves need not be tried, and what the tried ones say.
 use Rattle.std.proofs.Common.{◌≡◌, inl, inr, ℕ, ◌*◌, ◌<◌, ◌≤◌, Bool, true, false, List, slice_index, arith, refl, ap, min, if◌then◌else◌}
 use Rattle.std.proofs.lemmas.Bool.{cases_lt}
+use Rattle.std.proofs.lemmas.List.Folds.{list_any_at}
 use Rattle.te_model.specs.declared.network.Network.{Network}
 use Rattle.te_model.specs.declared.route.PathShare.{PathShare}
+use Rattle.te_model.specs.declared.route.PairRoutes.{PairRoutes}
 use Rattle.te_model.specs.Network.{capacity_of, link_count}
-use Rattle.te_model.specs.Path.{has_number}
+use Rattle.te_model.specs.Path.{has_number, routes_at}
 use Rattle.te_model.proofs.Conditionals.{if_false}
-use Rattle.routing.specs.Merge.{links_at}
+use Rattle.routing.specs.Merge.{links_at, no_path, path_at}
 use Rattle.local_search.specs.Loads.{AreWithin, AreWithinOn, HasAbove, load_after}
-use Rattle.local_search.specs.Search.{Fits}
+use Rattle.local_search.specs.Pairs.{holds}
+use Rattle.local_search.specs.Search.{Fits, FitsAt}
 
 -- a move off a path that does not hold the link takes nothing off it
 not_relieved : (load : ℕ) (from to : List ℕ) (amount e : ℕ) → has_number from e ≡ false → load ≤ load_after load from to amount e
@@ -27,6 +30,19 @@ fits_not net loads times demand from candidates j size link fits inside above no
       above,
       not_relieved (slice_index loads link) from.links (links_at candidates j) (demand * min size from.weight) link none,
     )
+
+-- which are paths of a pair that holds it
+pub fits_holds : (net : Network) (loads : List ℕ) (times : ℕ) (demand : List ℕ) (routes candidates : List PairRoutes) (p k j size link : ℕ) →
+    FitsAt net loads times demand routes candidates p k j size → link < link_count net → times * capacity_of net link < slice_index loads link →
+    holds routes p link ≡ true
+fits_holds net loads times demand routes candidates p k j size link fits inside above = go (has_number (links_at paths k) link) refl
+  where
+    paths : List PathShare
+    paths = (routes_at routes p).paths
+
+    go : (b : Bool) → has_number (links_at paths k) link ≡ b → holds routes p link ≡ true
+    go true is = list_any_at (λ s. has_number s.links link) paths k no_path fits.path is
+    go false none = absurd (fits_not net loads times (slice_index demand p) (path_at paths k) (routes_at candidates p).paths j size link fits.fits inside above none)
 
 -- nor does a move to the path itself
 pub fits_other : (net : Network) (loads : List ℕ) (times demand : ℕ) (from : PathShare) (candidates : List PathShare) (j size link : ℕ) →

@@ -2,3 +2,4 @@ pub mod Moves
 pub mod Loads
 pub mod Search
 pub mod Shifting
+pub mod Pairs

@@ -2,13 +2,16 @@
 //! lowers the greatest utilisation by a stated share.
 //!
 //! - `settle`: a routing that is stable over the candidates of each pair.
+//! - `paths_after`: the paths of a pair after one move.
 #![tactic(auto)]
 
 mod greatest;
 mod loads;
+mod pairs;
 mod search;
 mod settling;
 mod shifting;
 mod step;
 
 pub use settling::settle;
+pub use shifting::paths_after;

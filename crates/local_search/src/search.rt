@@ -5,6 +5,7 @@ ghost use Rattle.routing.specs.Routes.{AreDemands};
 ghost use Rattle.local_search.specs.Loads.{AreWithin, AreWithinOn, HasAbove, load_after};
 ghost use Rattle.routing.specs.Merge.{path_at};
 ghost use Rattle.local_search.specs.Moves.{sizes};
+ghost use Rattle.local_search.specs.Pairs.{HasHolders};
 ghost use Rattle.local_search.specs.Search.{Fits, FitsAt, loads_moved};
 
 use crate::loads::load_after;
@@ -197,7 +198,8 @@ fn fitting_path(
     None
 }
 
-/// The first move that brings every link within the aim.
+/// The first move that brings every link within the aim. `holders` has each pair of which a path holds
+/// the link of the aim: no move of another pair takes anything off that link.
 pub fn fitting_move(
     net: &Network,
     matrix: &Matrix,
@@ -205,6 +207,7 @@ pub fn fitting_move(
     aim: &Aim,
     routes: &[PairRoutes],
     candidates: &[PairRoutes],
+    holders: &[u32],
 ) -> Option<Move>
     requires network { IsTrue (is_well_formed net.now) }
     requires count { length loads.now ≡ link_count net.now }
@@ -215,10 +218,12 @@ pub fn fitting_move(
     requires over { aim.now.times * capacity_of net.now aim.now.link < slice_index loads.now aim.now.link }
     requires pairs { length candidates.now ≡ length routes.now }
     requires demands { AreDemands (length routes.now) matrix.now.demand }
+    requires holders { HasHolders routes.now aim.now.link holders.now }
     ensures some { IfSome result (λ m. FitsAt net.now loads.now aim.now.times matrix.now.demand routes.now candidates.now m.pair m.from m.target.candidate m.target.size) }
     ensures none { IfNone result ((p k j size : ℕ) → FitsAt net.now loads.now aim.now.times matrix.now.demand routes.now candidates.now p k j size → ⊥) }
 {
-    for pair in 0..routes.len() {
+    for holder in holders {
+        let pair = *holder as usize;
         let demand = matrix.demand.as_slice()[pair];
         let paths = routes[pair].paths.as_slice();
         let others = candidates[pair].paths.as_slice();

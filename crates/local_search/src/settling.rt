@@ -3,15 +3,17 @@ ghost use Rattle.std.specs.Prelude.{◌≡◌, ◌↔◌, ◌<◌, ◌≤◌, �
 ghost use Rattle.te_model.specs.declared.network.Network.{Network};
 ghost use Rattle.te_model.specs.declared.route.Pair.{Pair};
 ghost use Rattle.te_model.specs.declared.route.PairRoutes.{PairRoutes};
-ghost use Rattle.te_model.specs.Network.{is_well_formed};
+ghost use Rattle.te_model.specs.Network.{is_well_formed, link_count};
 ghost use Rattle.te_model.specs.Path.{routes_at};
 ghost use Rattle.routing.specs.Merge.{links_at};
 ghost use Rattle.routing.specs.Routes.{AreDemands, AreLoads, HasFewPaths, IsRoutingOf};
 ghost use Rattle.routing.specs.Split.{are_splits};
 ghost use Rattle.routing.specs.Utilisation.{parts};
 ghost use Rattle.local_search.specs.Moves.{CanMove, HaveFewTogether, Improves, IsMoved, IsStable, UsesOnly};
+ghost use Rattle.local_search.specs.Pairs.{HaveHolders};
 
 use crate::greatest::peak_of;
+use crate::pairs::PairsOnLinks;
 use crate::search::{fitting_move, links_above};
 use crate::shifting::{carry_move, take_move};
 use crate::step::{Aim, Move};
@@ -29,13 +31,16 @@ fn greatest_improvement(parts: u128) -> u128
 }
 
 /// A move that lowers the greatest utilisation by a 1024th of it at least, and `None` exactly where
-/// there is none. `loads` has the load of each link. `Memory` comes where memory is wanting.
+/// there is none. `loads` has the load of each link, and `holders` the pairs of which a path holds it.
+///
+/// `Memory` comes where memory is wanting.
 fn next_move(
     alloc: Global,
     net: &Network,
     matrix: &Matrix,
     routes: &[PairRoutes],
     candidates: &[PairRoutes],
+    holders: &PairsOnLinks,
     loads: &[u128],
 ) -> Result<Option<Move>, Memory>
     requires network { IsTrue (is_well_formed net.now) }
@@ -43,6 +48,7 @@ fn next_move(
     requires few { length routes.now < 2 ^ 32 }
     requires pairs { length candidates.now ≡ length routes.now }
     requires demands { AreDemands (length routes.now) matrix.now.demand }
+    requires holders { HaveHolders (link_count net.now) routes.now holders.now }
     requires loads { AreLoads net.now matrix.now.demand routes.now loads.now }
     ensures place { IfOk result (λ o. IfSome o (λ m. m.target.candidate < length (routes_at candidates.now m.pair).paths)) }
     ensures some { IfOk result (λ o. IfSome o (λ m. CanMove routes.now candidates.now m.pair m.from (links_at (routes_at candidates.now m.pair).paths m.target.candidate) m.target.size)) }
@@ -60,7 +66,8 @@ fn next_move(
         times,
         above: Items::new(above),
     };
-    Ok(fitting_move(net, matrix, loads, &aim, routes, candidates))
+    let pairs = holders.on(peak.link);
+    Ok(fitting_move(net, matrix, loads, &aim, routes, candidates, pairs))
 }
 
 /// The routing after moves of weight between the paths of single pairs, until no move helps any
@@ -91,9 +98,10 @@ pub fn settle(
     ensures few { (limit : ℕ) → HaveFewTogether limit routing.routes candidates.now.routes → IfOk result (λ r. HasFewPaths limit r.routes) }
 {
     let mut loads = routing.loads(alloc, net, matrix)?;
-    let mut routes = routing.routes.into_vec();
     let others = candidates.routes.as_slice();
-    while let Some(step) = next_move(alloc, net, matrix, &routes, others, &loads)? {
+    let holders = PairsOnLinks::new(alloc, net, routing.routes.as_slice(), others)?;
+    let mut routes = routing.routes.into_vec();
+    while let Some(step) = next_move(alloc, net, matrix, &routes, others, &holders, &loads)? {
         carry_move(matrix, &routes, others, &mut loads, step);
         take_move(alloc, &mut routes, others, step)?;
     }

@@ -29,10 +29,10 @@ fn take_off(paths: &mut Vec<PathShare>, from: usize, units: u64)
     }
 }
 
-/// The paths after a move of this size, or of the whole weight of the path where it is less.
+/// The paths after a move of this size from the path at the place, or of the whole weight of the path where it is less.
 ///
 /// `Memory` comes where memory is wanting.
-fn paths_after(
+pub fn paths_after(
     alloc: Global,
     mut paths: Vec<PathShare>,
     from: usize,

@@ -3,6 +3,7 @@ use Rattle.std.proofs.lemmas.Option.{IfSome_then}
 use Rattle.routing.specs.Utilisation.{parts}
 use Rattle.local_search.specs.Loads.{HasAbove}
 use Rattle.local_search.specs.Moves.{Improves}
+use Rattle.local_search.specs.Pairs.{HasHolders}
 use Rattle.local_search.proofs.MovedLoads.{loads_small}
 use Rattle.local_search.proofs.Settled.{aim_above, fits_can, fits_lower, none_then, parts_of_loads, peak_small, stable_from_none}
 use Rattle.local_search.proofs.settling.next_move.Goals as goal
@@ -53,6 +54,14 @@ fitting_move-requires-clause-over c =
     let times = c.greatest_improvement-times.result in
     let less = (c.greatest_improvement-times.ensures times).1 (omega arith) in
     (aim_above c.args.net.now c.args.loads.now peak.link peak.parts times c.peak_of-peak.ensures less.0).1
+
+pub fitting_move-requires-clause-holders : goal.fitting_move-requires-clause-holders
+fitting_move-requires-clause-holders c =
+    let peak = c.peak_of-peak.result in
+    let times = c.greatest_improvement-times.result in
+    let less = (c.greatest_improvement-times.ensures times).1 (omega arith) in
+    let inside = (aim_above c.args.net.now c.args.loads.now peak.link peak.parts times c.peak_of-peak.ensures less.0).0 in
+    subst (HasHolders c.args.routes.now peak.link) (sym c.on-pairs.ensures) (c.requires.holders.each peak.link inside)
 
 pub returns-clause-some : goal.returns-clause-some
 returns-clause-some c =

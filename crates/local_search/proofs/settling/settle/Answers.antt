@@ -1,6 +1,7 @@
 use Rattle.std.proofs.Common.{◌≡◌, ℕ, ◌<◌, ◌^◌, true, List, Option, Some, None, All, length, slice_index, arith, refl, ap, sym, ◌∙◌, subst}
 use Rattle.std.specs.Prelude.{IfNone, IfSome}
 use Rattle.te_model.specs.declared.route.PairRoutes.{PairRoutes}
+use Rattle.te_model.specs.Network.{link_count}
 use Rattle.te_model.specs.Path.{routes_at}
 use Rattle.routing.specs.Merge.{links_at, path_at}
 use Rattle.routing.specs.Routes.{AreDemands, HasFewPaths}
@@ -10,7 +11,9 @@ use Rattle.te_model.proofs.Lists.{written_whole}
 use Rattle.routing.proofs.Splits.{splits_of}
 use Rattle.local_search.specs.declared.step.Move.{Move}
 use Rattle.local_search.specs.Moves.{CanMove, Improves, IsMoved, IsStable, UsesOnly}
+use Rattle.local_search.specs.Pairs.{ArePairs, HaveHolders}
 use Rattle.local_search.specs.Search.{loads_moved}
+use Rattle.local_search.proofs.Holders.{holders_stay}
 use Rattle.local_search.proofs.MovedLoads.{loads_small}
 use Rattle.local_search.proofs.MovedRoutings.{same_count}
 use Rattle.local_search.proofs.Settled.{settled_few, settled_more}
@@ -20,6 +23,22 @@ pub next_move-requires-clause-splits : goal.next_move-requires-clause-splits
 next_move-requires-clause-splits c =
     subst (λ (l : List PairRoutes). are_splits l ≡ true) (sym c.deref.ensures.value)
     (splits_of c.args.net.now c.loop-routes.routes.items c.loop-routes.invariant.routing)
+
+pub next_move-requires-clause-holders : goal.next_move-requires-clause-holders
+next_move-requires-clause-holders c =
+    let (pairs, own, theirs) = c.requires.routings in
+    let n = link_count c.args.net.now in
+    let before = c.args.routing.routes in
+    let candidates = c.args.candidates.now.routes in
+    let routes = c.loop-routes.routes.items in
+    let table = c.in_ok-holders.holders in
+    let so = c.loop-routes.invariant in
+    let are =
+    subst (λ (l : List PairRoutes). ArePairs n before l table) c.as_slice-others.ensures
+    (subst (λ (l : List PairRoutes). ArePairs n l c.as_slice-others.result.now table) c.as_slice.ensures c.in_ok-holders.ensures)
+    in
+    subst (λ (l : List PairRoutes). HaveHolders n l table) (sym c.deref.ensures.value)
+    (holders_stay n before candidates routes table are so.only (same_count routes before so.pairs) (same_count candidates before (theirs.in_order ∙ sym own.in_order)))
 
 pub carry_move-requires-clause-demands : goal.carry_move-requires-clause-demands
 carry_move-requires-clause-demands c =
@@ -117,7 +136,7 @@ loop-routes-preserved c =
 
 pub invariant_of-result : goal.invariant_of-result
 invariant_of-result c = record {
-  splits = subst (λ (l : List PairRoutes). are_splits l ≡ true) (sym c.new.ensures)
+  splits = subst (λ (l : List PairRoutes). are_splits l ≡ true) (sym c.new-2.ensures)
       (splits_of c.args.net.now c.loop-routes.routes.items c.loop-routes.invariant.routing);
 }
 
@@ -128,15 +147,15 @@ of_none (Some x) never holds = absurd (never x refl)
 
 pub returns-clause-stable : goal.returns-clause-stable
 returns-clause-stable c =
-    subst (IsStable c.args.net.now c.args.matrix.now.demand c.args.candidates.now.routes) (c.deref.ensures.value ∙ sym c.new.ensures)
+    subst (IsStable c.args.net.now c.args.matrix.now.demand c.args.candidates.now.routes) (c.deref.ensures.value ∙ sym c.new-2.ensures)
     (subst (λ (l : List PairRoutes). IsStable c.args.net.now c.args.matrix.now.demand l c.deref.result.now) c.as_slice-others.ensures (of_none c.in_ok-step.field-0 c.in_default.not-Some c.in_ok-step.ensures.none))
 
 pub returns-clause-only : goal.returns-clause-only
 returns-clause-only c =
-    subst (UsesOnly c.args.routing.routes c.args.candidates.now.routes) (sym c.new.ensures) c.loop-routes.invariant.only
+    subst (UsesOnly c.args.routing.routes c.args.candidates.now.routes) (sym c.new-2.ensures) c.loop-routes.invariant.only
 
 pub returns-clause-few : goal.returns-clause-few
 returns-clause-few c = λ limit together.
     let so = c.loop-routes.invariant in
-    subst (HasFewPaths limit) (sym c.new.ensures)
+    subst (HasFewPaths limit) (sym c.new-2.ensures)
     (settled_few c.args.net.now c.args.routing.routes c.args.candidates.now.routes c.loop-routes.routes.items limit together so.routing so.pairs so.only)
