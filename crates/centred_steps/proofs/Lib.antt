@@ -1,0 +1,2 @@
+pub mod LastLinks
+pub mod Products

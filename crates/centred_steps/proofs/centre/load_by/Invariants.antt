@@ -1,0 +1,5 @@
+use Rattle.std.proofs.Common.{◌*◌, ◌^◌, ◌≤◌}
+use Rattle.centred_steps.proofs.centre.load_by.Given as goal
+
+abbrev pub invariant-loop-h : goal.invariant-loop-h
+invariant-loop-h l = l.total ≤ l.h * 2 ^ 93

@@ -1,0 +1,20 @@
+-- The loads of links in a sweep, and the usage in their middle.
+use Rattle.std.specs.Prelude.{◌≡◌, ℕ, ◌^◌, ◌≤◌, List, length, slice_index}
+use Rattle.te_model.specs.declared.network.Network.{Network}
+use Rattle.te_model.specs.Network.{link_count}
+use Rattle.centred_steps.specs.declared.centre.Centre.{Centre}
+
+-- no load is above 2^66
+abbrev pub AreSmall : List ℕ → Type 0
+AreSmall loads = (h : ℕ) → slice_index loads h ≤ 2 ^ 66
+
+-- such a load for each link
+pub record AreLoads (net : Network) (loads : List ℕ) : Type 0 where
+  pub count : length loads ≡ link_count net
+  pub small : AreSmall loads
+
+-- numbers by which weights move
+pub record IsCentre (c : Centre) : Type 0 where
+  pub mean : c.mean ≤ 2 ^ 86
+  pub some : 1 ≤ c.deviation
+  pub deviation : c.deviation ≤ 2 ^ 86
