@@ -13,5 +13,9 @@ pub mod RoundMetrics
 pub mod Stepping
 pub mod Trying
 pub mod LinkLists
+pub mod Responses
+pub mod Responding
+pub mod Searched
+pub mod Seeking
 pub mod Certificates
 pub mod MadeBlocks

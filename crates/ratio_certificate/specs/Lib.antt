@@ -3,7 +3,9 @@ pub mod Made
 pub mod Making
 pub mod Places
 pub mod Polished
+pub mod Response
 pub mod Rising
 pub mod Rounds
+pub mod Searching
 pub mod Steps
 pub mod Weighting

@@ -2,14 +2,17 @@
 //!
 //! - `need`: how great a ratio a block needs.
 //! - `scale`: the best block of a link for given weights.
-//! - `make`: a certificate of a routing, of the best of sixteen rounds for each link, polished.
+//! - `make`: a certificate of a routing, of the best of sixteen rounds for each link, searched where it needs most, and polished.
 #![tactic(auto)]
 
 mod changes;
 mod making;
 mod polish;
 mod raising;
+mod response;
 mod rounds;
+mod search;
+mod seek;
 mod weighting;
 
 pub use best_blocks::{need, scale};

@@ -8,11 +8,12 @@ ghost use Rattle.best_blocks.specs.Sharing.{IsSharedLink};
 ghost use Rattle.ratio_certificate.specs.Made.{IsMade};
 ghost use Rattle.ratio_certificate.specs.Making.{AreBlocksOf, AreSharedLinks};
 ghost use Rattle.ratio_certificate.specs.Rising.{AreRounds};
-ghost use Rattle.ratio_certificate.specs.Steps.{AreWeightings};
+ghost use Rattle.ratio_certificate.specs.Steps.{AreWeightings, IsDone};
 ghost use Rattle.ratio_certificate.specs.Weighting.{IsWeighting};
 
 use crate::polish::{metric_by, polish};
 use crate::rounds::best_round;
+use crate::search::search;
 use crate::weighting::Weighting;
 use best_blocks::{SharedLink, best_block, greatest_need, shared_link};
 use routing::{Routing, Shares};
@@ -64,6 +65,28 @@ fn best_rounds(
         let weighting = best_round(alloc, net, routing, set, shared)?;
         list.push(weighting)?;
     }
+    Ok(list)
+}
+
+/// Weights that are searched for, and then polished, of the links and weights at the start.
+fn improve(
+    alloc: Global,
+    net: &Network,
+    routing: &Routing,
+    set: &DemandSet,
+    links: &[SharedLink],
+    start: Vec<Weighting>,
+) -> Result<Vec<Weighting>, Memory>
+    requires network { IsTrue (is_well_formed net.now) }
+    requires routing { IsRoutingWithin net.now routing.now.routes }
+    requires set { IsSetWithin (length routing.now.routes) set.now }
+    requires links { All (IsSharedLink net.now routing.now.routes set.now) links.now }
+    requires start { AreWeightings net.now routing.now.routes set.now links.now start.items start.items }
+    ensures list { IfOk result (λ l. AreWeightings net.now routing.now.routes set.now links.now start.items l.items) }
+    ensures done { IfOk result (λ l. IsDone net.now routing.now.routes set.now l.items) }
+{
+    let searched = search(alloc, net, routing, set, links, start)?;
+    let list = polish(alloc, net, routing, set, links, searched)?;
     Ok(list)
 }
 
@@ -129,8 +152,8 @@ fn blocks_of(
 }
 
 /// A certificate of the routing's oblivious ratio over the matrices of the set: for each link with a share the best block of
-/// its best round (multiplicative weights; Plotkin, Shmoys and Tardos, 1995), polished, and the greatest of their needs as the
-/// ratio (after Applegate and Cohen, 2003).
+/// its best round (multiplicative weights; Plotkin, Shmoys and Tardos, 1995), or of weights that were sought for the links whose
+/// blocks need most, polished, and the greatest of their needs as the ratio (after Applegate and Cohen, 2003).
 ///
 /// `Memory` comes where memory is wanting.
 pub fn make(
@@ -149,7 +172,7 @@ pub fn make(
     let shares = Shares::new(alloc, net, routing)?;
     let links = shared_links(alloc, net, routing, &set, &shares)?;
     let start = best_rounds(alloc, net, routing, &set, &links)?;
-    let list = polish(alloc, net, routing, &set, &links, start)?;
+    let list = improve(alloc, net, routing, &set, &links, start)?;
     let blocks = blocks_of(alloc, net, routing, &set, &links, &list)?;
     let ratio = greatest_need(net, &blocks) as u64;
     let network = copy_network(alloc, net)?;

@@ -23,7 +23,7 @@ const FINE_WEIGHT: u64 = 1 << 20;
 const FINE_B: u64 = 1 << 35;
 
 /// The first place of the greatest need, or `None` where there is none.
-fn worst(list: &[Weighting]) -> Option<usize>
+pub fn worst(list: &[Weighting]) -> Option<usize>
     ensures some { IfSome result (IsWorst (length list.now) (λ j. (weighting_at list.now j).need)) }
     ensures none { IfNone result (length list.now ≡ 0) }
 {

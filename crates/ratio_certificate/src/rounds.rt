@@ -20,7 +20,7 @@ const STARTING_WEIGHT: u64 = 1 << 20;
 const ROUNDS: usize = 16;
 
 /// The metric of the starting weights, which are those of round 0.
-fn first_metric(
+pub fn first_metric(
     alloc: Global,
     net: &Network,
     routing: &Routing,

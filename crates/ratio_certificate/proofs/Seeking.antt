@@ -1,0 +1,44 @@
+-- Where a search for weights of a link stands at its start and after a sweep.
+use Rattle.std.proofs.Common.{◌≡◌, ℕ, ◌^◌, ◌<◌, ◌≤◌, true, List, length, arith, slice_index, subst}
+use Rattle.std.specs.Prelude.{All}
+use Rattle.std.proofs.lemmas.List.Elements.{All-from_get_or}
+use Rattle.te_model.specs.declared.network.Network.{Network}
+use Rattle.te_model.specs.declared.route.PairRoutes.{PairRoutes}
+use Rattle.te_model.specs.declared.demand.DemandSet.{DemandSet}
+use Rattle.te_model.specs.Network.{is_well_formed, link_count}
+use Rattle.best_blocks.specs.declared.metric.Metric.{Metric}
+use Rattle.best_blocks.specs.declared.sharing.SharedLink.{SharedLink}
+use Rattle.best_blocks.specs.Conditions.{IsRoutingWithin}
+use Rattle.best_blocks.specs.Metric.{IsMetric}
+use Rattle.centred_steps.specs.Weights.{AreWeightsUpTo}
+use Rattle.ratio_certificate.specs.declared.weighting.Weighting.{Weighting}
+use Rattle.ratio_certificate.specs.Response.{IsSmallScale}
+use Rattle.ratio_certificate.specs.Rising.{IsRoundMetric}
+use Rattle.ratio_certificate.specs.Weighting.{AreWeights, IsWeighting}
+use Rattle.ratio_certificate.proofs.Weighed.{scale_within}
+
+-- weights that a step may move are weights of a link
+pub step_weights : (net : Network) (weights : List ℕ) → length weights ≡ link_count net → AreWeightsUpTo (2 ^ 27) weights → AreWeights net weights
+step_weights net weights count are = record {
+  count = count;
+  some = λ h below. are.some h (omega (arith, below, count));
+  small = λ h below. let small = are.small h (omega (arith, below, count)) in omega (arith, small);
+}
+
+-- the weights of round 0 may be moved by a step
+pub first_weights : (net : Network) (routes : List PairRoutes) (l : SharedLink) (m : Metric) → IsRoundMetric net routes l 0 m → AreWeightsUpTo (2 ^ 27) m.weights
+first_weights net routes l m is = record {
+  some = λ h below. let low = is.low h (omega (arith, below, is.metric.count)) in omega (arith, low);
+  small = λ h below. let high = is.high h (omega (arith, below, is.metric.count)) in omega (arith, high);
+}
+
+-- the numbers of the scale of weights of a link are within those of blocks
+pub small_scale : (net : Network) (routes : List PairRoutes) (wanted : DemandSet) (w : Weighting) → is_well_formed net ≡ true → IsRoutingWithin net routes →
+    IsWeighting net routes wanted w → (w.a ≤ 2 ^ 36) × (w.b ≤ 2 ^ 36)
+small_scale net routes wanted w formed within is =
+    let bounds = scale_within net routes wanted w.link 1 w.a w.b w.weights formed within (omega arith) is.weights_are is.weights_are.some is.scale_is in
+    (omega (arith, bounds.a_small), bounds.b_small)
+
+-- weights that a step has moved are small
+pub moved_small : (weights : List ℕ) → AreWeightsUpTo (2 ^ 27) weights → All (λ w. w ≤ 2 ^ 28) weights
+moved_small weights are = All-from_get_or (λ w. w ≤ 2 ^ 28) weights 0 (λ h below. let small = are.small h below in omega (arith, small))

@@ -1,0 +1,23 @@
+use Rattle.std.proofs.Common.{◌≡◌, ◌<◌, true, List, length, arith, ap, sym, subst, ◌∙◌}
+use Rattle.std.proofs.lemmas.List.{get_or_read, length-set}
+use Rattle.best_blocks.specs.declared.sharing.SharedLink.{SharedLink}
+use Rattle.ratio_certificate.specs.declared.weighting.Weighting.{Weighting}
+use Rattle.ratio_certificate.specs.Places.{no_shared, shared_at}
+use Rattle.ratio_certificate.proofs.Searched.{lesser_taken}
+use Rattle.ratio_certificate.proofs.search.search.Goals as goal
+
+pub loop-preserved : goal.loop-preserved
+loop-preserved c =
+    let links = c.args.links.now in
+    let list = c.loop.list.items in
+    let so_far = c.loop.invariant.0 in
+    let k = c.in-Some.k in
+    let found = c.in_ok-found-in-Some.found in
+    let inside : k < length list = subst (λ (xs : List Weighting). k < length xs) c.deref.ensures.value c.in-Some.ensures.some.within in
+    let within : k < length links = omega (arith, inside, so_far.count) in
+    let at : c.index-links-k.result ≡ shared_at links k = get_or_read links k c.index-links-k.result within c.index-links-k.is no_shared in
+    let link_is = c.in_ok-found-in-Some.ensures.link ∙ ap (λ (l : SharedLink). l.link) at ∙ sym (so_far.links_are k within) in (
+      lesser_taken c.args.net.now c.args.routing.now.routes c.args.set.now links c.args.start.items list c.take_lesser.new.list.items k found inside so_far link_is
+          c.in_ok-found-in-Some.ensures.weighting c.take_lesser.ensures.lesser c.take_lesser.ensures.same,
+      length-set c.loop.searched.items k true ∙ c.loop.invariant.1,
+    )

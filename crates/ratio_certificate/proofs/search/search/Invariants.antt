@@ -1,0 +1,8 @@
+use Rattle.std.proofs.Common.{◌≡◌, length}
+use Rattle.ratio_certificate.specs.Steps.{AreWeightings}
+use Rattle.ratio_certificate.proofs.search.search.Given as goal
+
+abbrev pub invariant-loop : goal.invariant-loop
+invariant-loop l =
+    AreWeightings l.net l.routing.routes l.set l.links l.fn.start.items l.list.items
+    × (length l.searched.items ≡ length l.links)

@@ -1,0 +1,27 @@
+use Rattle.std.proofs.Common.{◌≡◌}
+use Rattle.ratio_certificate.specs.Weighting.{IsWeighting}
+use Rattle.ratio_certificate.proofs.RoundMetrics.{lesser_is}
+use Rattle.ratio_certificate.proofs.Seeking.{small_scale, step_weights}
+use Rattle.ratio_certificate.proofs.seek.advance.Goals as goal
+
+pub weighting_of-requires-clause-weights : goal.weighting_of-requires-clause-weights
+weighting_of-requires-clause-weights c =
+    step_weights c.args.net.now c.in_ok-metric.metric.weights c.in_ok-metric.ensures.metric.count c.in_ok-metric.ensures.weights
+
+pub returns : goal.returns
+returns c =
+    let net = c.args.net.now in
+    let routes = c.args.routing.now.routes in
+    let set = c.args.set.now in
+    let found = c.in_ok-found.found in
+    let best = c.args.search.best in
+    let lesser = c.lesser-best.result in
+    let keeps = c.lesser-best.ensures.first in
+    let takes = c.lesser-best.ensures.second in
+    record {
+      metric = c.in_ok-metric.ensures.metric;
+      weights = c.in_ok-metric.ensures.weights;
+      scale = small_scale net routes set found c.requires.network c.requires.routing c.in_ok-found.ensures.weighting;
+      link = lesser_is (λ w. w.link ≡ c.args.shared.now.link) best found lesser keeps takes c.requires.search.link c.in_ok-found.ensures.link;
+      best = lesser_is (IsWeighting net routes set) best found lesser keeps takes c.requires.search.best c.in_ok-found.ensures.weighting;
+    }

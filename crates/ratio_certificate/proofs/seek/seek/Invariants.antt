@@ -1,0 +1,12 @@
+use Rattle.std.proofs.Common.{◌≤◌}
+use Rattle.centred_steps.specs.Loads.{AreLoads}
+use Rattle.centred_steps.specs.Ways.{AreLastLinks}
+use Rattle.ratio_certificate.specs.Searching.{IsSearch}
+use Rattle.ratio_certificate.proofs.seek.seek.Given as goal
+
+abbrev pub invariant-loop-i : goal.invariant-loop-i
+invariant-loop-i l =
+    IsSearch l.net l.routing.routes l.set l.shared l.search
+    × AreLoads l.net l.loads.items
+    × AreLastLinks l.net l.ways.lasts.items
+    × (1 ≤ l.parts) × (l.parts ≤ 128)

@@ -1,0 +1,27 @@
+-- The numbers of a response to weights of a link, and the rows that it reads.
+use Rattle.std.specs.Prelude.{◌≡◌, ℕ, ◌^◌, ◌<◌, ◌≤◌, length, ⊤}
+use Rattle.te_model.specs.declared.network.Network.{Network}
+use Rattle.te_model.specs.declared.demand.DemandSet.{DemandSet}
+use Rattle.te_model.specs.declared.demand.DemandSet.TheVariants.{All as AllMatrices, Margin, Box}
+use Rattle.te_model.specs.Network.{node_count}
+use Rattle.best_blocks.specs.declared.metric.Metric.{Metric}
+use Rattle.best_blocks.specs.declared.scaling.Scale.{Scale}
+use Rattle.best_blocks.specs.Rows.{row_at}
+
+-- the metric has a row from node v to every node
+abbrev pub HasRow : Network → Metric → ℕ → Type 0
+HasRow net m v = (v < length m.rows) × (length (row_at m.rows v) ≡ node_count net)
+
+-- the numbers of a scale are within those of blocks
+abbrev pub IsSmallScale : Scale → Type 0
+IsSmallScale scale = (scale.a ≤ 2 ^ 36) × (scale.b ≤ 2 ^ 36)
+
+-- twice the parts of a step
+abbrev pub IsNearness : ℕ → Type 0
+IsNearness near = (1 ≤ near) × (near ≤ 256)
+
+-- a set of the matrices between bounds
+abbrev pub HasBounds : DemandSet → Type 0
+HasBounds AllMatrices = ⊥
+HasBounds (Margin num den base) = ⊤
+HasBounds (Box lower upper) = ⊤
