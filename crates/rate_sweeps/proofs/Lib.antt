@@ -1,0 +1,8 @@
+pub mod Among
+pub mod Lengths
+pub mod Mixing
+pub mod Passed
+pub mod PathLinks
+pub mod Shifted
+pub mod Squares
+pub mod Turning

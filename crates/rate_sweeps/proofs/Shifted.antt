@@ -1,0 +1,99 @@
+-- Weight that goes from one path of a pair to another.
+use Rattle.std.proofs.Common.{inl, inr, ◌≡◌, ◌⊎◌, ℕ, ◌≤◌, true, List, [], ◌∷◌, ◌++◌, length, arith, refl, ap, sym, ◌∙◌, subst, min}
+use Rattle.std.specs.Prelude.{All, IsTrue}
+use Rattle.std.proofs.lemmas.List.{get_or_append_left, get_or_push, length-append}
+use Rattle.std.proofs.lemmas.List.Elements.{All-from_get_or, All-get_or}
+use Rattle.te_model.specs.declared.network.Network.{Network}
+use Rattle.te_model.specs.declared.route.Pair.{Pair}
+use Rattle.te_model.specs.declared.route.PairRoutes.{PairRoutes}
+use Rattle.te_model.specs.declared.route.PathShare.{PathShare}
+use Rattle.te_model.specs.Path.{is_path}
+use Rattle.te_model.specs.PathRouting.{IsPathSplit}
+use Rattle.te_model.specs.Validity.{paths_ascend}
+use Rattle.routing.specs.Merge.{HasLinks, links_at, no_path, path_at}
+use Rattle.routing.proofs.FewPaths.{few_among}
+use Rattle.local_search.specs.Moves.{IsShift}
+use Rattle.local_search.proofs.Shifts.{shift_only, shift_total}
+use Rattle.rate_sweeps.specs.Shifts.{IsShifted, IsTarget}
+
+-- a pair that is left as it is
+pub unshifted : (limit : ℕ) (r : PairRoutes) (offered : List ℕ) → IsTrue (paths_ascend r.paths) → All (λ s. 1 ≤ s.weight) r.paths → IsShifted limit r offered r
+unshifted limit r offered ascending positive =
+    record { pair = refl; ascending = ascending; positive = positive; whole = refl; only = λ links has. inl has; few = λ few. few }
+
+-- the paths after a shift to a target are those of before and the offered one
+pub target_only : (limit : ℕ) (paths new : List PathShare) (offered to : List ℕ) → IsTarget limit paths offered to →
+    ((links : List ℕ) → HasLinks new links → HasLinks paths links ⊎ (links ≡ to)) → (links : List ℕ) → HasLinks new links → HasLinks paths links ⊎ (links ≡ offered)
+target_only limit paths new offered to target only links has = elim (only links has) [
+  | inl old ↦ inl old
+  | inr is ↦ elim target [
+    | inl offer ↦ inr (is ∙ offer.1)
+    | inr own ↦ inl (subst (HasLinks paths) (sym is) own.1)
+  ]
+]
+
+has_front : (xs ys : List PathShare) (links : List ℕ) → HasLinks xs links → HasLinks (xs ++ ys) links
+has_front xs ys links (k, below, at) =
+    (k, omega (arith, below, length-append xs ys), ap (λ (s : PathShare). s.links) (get_or_append_left xs ys no_path k below) ∙ at)
+
+has_last : (xs : List PathShare) (x : PathShare) (links : List ℕ) → x.links ≡ links → HasLinks (xs ++ x ∷ []) links
+has_last xs x links is =
+    (length xs, omega (arith, length-append xs (x ∷ [])), ap (λ (s : PathShare). s.links) (get_or_push xs x no_path (length xs) refl) ∙ is)
+
+-- no pair gets more paths than it may have
+pub shift_few : (limit : ℕ) (old new : List PathShare) (offered to : List ℕ) → IsTrue (paths_ascend new) → IsTarget limit old offered to →
+    ((links : List ℕ) → HasLinks new links → HasLinks old links ⊎ (links ≡ to)) → length old ≤ limit → length new ≤ limit
+shift_few limit old new offered to ascending target only few = elim target [
+  | inl offer ↦
+      let more : PathShare = record { links = to; weight = 0 } in
+      let among = few_among new (old ++ more ∷ []) ascending (λ links has. elim (only links has) [
+        | inl own ↦ has_front old (more ∷ []) links own
+        | inr is ↦ has_last old more links (sym is)
+      ]) in
+      omega (arith, among, length-append old (more ∷ []), offer.0)
+  | inr own ↦
+      let among = few_among new old ascending (λ links has. elim (only links has) [ inl had ↦ had | inr is ↦ subst (HasLinks old) (sym is) own.1 ]) in
+      omega (arith, among, few)
+]
+
+-- a pair whose paths have shifted to a target
+pub shifted : (limit : ℕ) (old new : PairRoutes) (from to offered : List ℕ) (units : ℕ) → new.pair ≡ old.pair → IsTarget limit old.paths offered to →
+    IsShift old.paths from to units new.paths → IsShifted limit old offered new
+shifted limit old new from to offered units pair target shift =
+    let only = λ (links : List ℕ) (has : HasLinks new.paths links). shift_only old.paths from to units new.paths links shift has in
+    record {
+      pair = pair;
+      ascending = shift.ascending;
+      positive = shift.positive;
+      whole = shift_total old.paths from to units new.paths shift;
+      only = target_only limit old.paths new.paths offered to target only;
+      few = shift_few limit old.paths new.paths offered to shift.ascending target only;
+    }
+
+-- the same where the paths are taken out of the pair first
+pub shifted_after : (limit : ℕ) (old new : PairRoutes) (paths made : List PathShare) (from size : ℕ) (to target offered : List ℕ) → new.pair ≡ old.pair →
+    IsTarget limit old.paths offered target → paths ≡ old.paths → to ≡ target → new.paths ≡ made →
+    IsShift paths (links_at paths from) to (min size (path_at paths from).weight) made → IsShifted limit old offered new
+shifted_after limit old new paths made from size to target offered pair is taken same after shift =
+    let units = min size (path_at paths from).weight in
+    shifted limit old new (links_at paths from) target offered units pair is
+    (subst (λ (l : List PathShare). IsShift l (links_at paths from) target units new.paths) taken
+    (subst (λ (l : List ℕ). IsShift paths (links_at paths from) l units new.paths) same
+    (subst (IsShift paths (links_at paths from) to units) (sym after) shift)))
+
+-- a pair that is shifted keeps a split over paths of the network
+pub shifted_split : (net : Network) (limit : ℕ) (old new : PairRoutes) (offered : List ℕ) → IsPathSplit net old →
+    is_path net old.pair.src old.pair.dst offered ≡ true → IsShifted limit old offered new → IsPathSplit net new
+shifted_split net limit old new offered split way is = record {
+  paths = All-from_get_or (λ s. IsTrue (is_path net new.pair.src new.pair.dst s.links)) new.paths no_path (λ k below.
+      subst (λ (q : Pair). is_path net q.src q.dst (links_at new.paths k) ≡ true) (sym is.pair)
+      (sound (links_at new.paths k) (is.only (links_at new.paths k) (k, below, refl))));
+  distinct = is.ascending;
+  weights = is.positive;
+  whole = is.whole ∙ split.whole;
+}
+  where
+    sound : (links : List ℕ) → HasLinks old.paths links ⊎ (links ≡ offered) → is_path net old.pair.src old.pair.dst links ≡ true
+    sound links (inl (k, below, at)) = subst (λ (l : List ℕ). is_path net old.pair.src old.pair.dst l ≡ true) at
+        (All-get_or (λ s. IsTrue (is_path net old.pair.src old.pair.dst s.links)) old.paths k no_path below split.paths)
+    sound links (inr e) = subst (λ (l : List ℕ). is_path net old.pair.src old.pair.dst l ≡ true) (sym e) way

@@ -1,0 +1,61 @@
+use Rattle.std.proofs.Common.{◌≡◌, ◌<◌, List, ◌∷◌, [], ◌++◌, length, map, arith, ap, sym, ◌∙◌, subst, rules}
+use Rattle.std.proofs.lemmas.List.{get_or_default, length-map, length_push}
+use Rattle.std.proofs.lemmas.List.Elements.{All-get_or}
+use Rattle.te_model.specs.declared.route.PairRoutes.{PairRoutes}
+use Rattle.te_model.specs.declared.route.Path.{Path}
+use Rattle.te_model.specs.declared.route.PathShare.{PathShare}
+use Rattle.te_model.specs.Network.{link_count}
+use Rattle.te_model.specs.Path.{no_routes, routes_at}
+use Rattle.te_model.specs.PathRouting.{IsPathSplit}
+use Rattle.routing.specs.Merge.{HasLinks, links_at, no_path}
+use Rattle.rate_sweeps.specs.Sweeps.{HaveLinks, links_in}
+use Rattle.rate_sweeps.proofs.Among.{among_more, ways_among}
+use Rattle.rate_sweeps.proofs.PathLinks.{split_on_links}
+use Rattle.rate_sweeps.proofs.paths.cheapest_paths.Goals as goal
+
+pub cheapest-place-requires-clause-links : goal.cheapest-place-requires-clause-links
+cheapest-place-requires-clause-links c =
+    let net = c.args.net.now in
+    let routes = c.args.routing.now.routes in
+    let p = c.loop-p.p in
+    let below : p < length routes = omega (arith, c.loop-p-test.true, ap (λ (l : List PairRoutes). length l) c.as_slice-routes.ensures) in
+    let own : c.as_slice-paths.result.now ≡ (routes_at routes p).paths =
+    c.as_slice-paths.ensures
+    ∙ (ap (λ (r : PairRoutes). r.paths) (get_or_default c.as_slice-routes.result.now p c.index-routes-p.result no_routes c.loop-p-test.true)
+    ∙ ap (λ (l : List PairRoutes). (routes_at l p).paths) c.as_slice-routes.ensures)
+    in
+    let split = All-get_or (IsPathSplit net) routes p no_routes below c.requires.routing in
+    subst (λ m. HaveLinks m c.as_slice-paths.result.now) (sym c.requires.lengths)
+    (subst (HaveLinks (link_count net)) (sym own) (split_on_links net (routes_at routes p) split))
+
+pub loop-p-preserved : goal.loop-p-preserved
+loop-p-preserved c =
+    let routes = c.args.routing.now.routes in
+    let p = c.loop-p.p in
+    let paths = c.as_slice-paths.result.now in
+    let place = c.cheapest-place.result in
+    let own : paths ≡ (routes_at routes p).paths =
+    c.as_slice-paths.ensures
+    ∙ (ap (λ (r : PairRoutes). r.paths) (get_or_default c.as_slice-routes.result.now p c.index-routes-p.result no_routes c.loop-p-test.true)
+    ∙ ap (λ (l : List PairRoutes). (routes_at l p).paths) c.as_slice-routes.ensures)
+    in
+    let links : links_at paths place ≡ c.new.result =
+    sym (c.new.ensures
+    ∙ (c.in_ok-links.ensures.items
+    ∙ (c.as_slice.ensures ∙ ap (λ (s : PathShare). s.links) (get_or_default paths place c.index-paths-place.result no_path c.cheapest-place.ensures))))
+    in
+    let has : HasLinks (routes_at routes p).paths c.new.result = subst (λ (l : List PathShare). HasLinks l c.new.result) own (place, c.cheapest-place.ensures, links) in
+    let path : Path = record { links = c.new.result } in
+    let list = c.loop-p.list.items in
+    let pushed : c.push.new.self.items ≡ list ++ path ∷ [] = search rules in
+    rw pushed (omega (arith, length_push list path, c.loop-p.invariant.0), among_more routes list path p c.loop-p.invariant.0 c.loop-p.invariant.1 has)
+
+pub returns-clause-ways : goal.returns-clause-ways
+returns-clause-ways c =
+    let routes = c.args.routing.now.routes in
+    let list = c.loop-p.list.items in
+    let every : c.loop-p.p ≡ length routes =
+    omega (arith, c.loop-p-test.false, c.loop-p.auto.p-end, ap (λ (l : List PairRoutes). length l) c.as_slice-routes.ensures)
+    in
+    ways_among c.args.net.now routes (map links_in list) c.requires.routing (length-map list links_in ∙ c.loop-p.invariant.0 ∙ every)
+    (λ p below. c.loop-p.invariant.1 p (omega (arith, below, every)))

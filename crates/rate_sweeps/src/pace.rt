@@ -1,0 +1,73 @@
+//! How a descent goes on: with ever smaller shares and ever sharper lengths.
+ghost use Rattle.std.specs.Prelude.{◌≡◌, ◌↔◌, ◌^◌, ◌<◌, ◌≤◌, IsTrue};
+ghost use Rattle.rate_sweeps.specs.Descents.{IsPace};
+
+/// How many turns a descent has at most.
+pub const TURNS: usize = 400;
+
+/// How many turns without a gain come before the shares become smaller.
+const IDLE_TURNS: u32 = 10;
+
+/// How often usages are squared at the start.
+const FIRST_TIMES: u32 = 6;
+
+/// How often usages are squared at most.
+const MAX_TIMES: u32 = 9;
+
+/// In how many parts weights are taken at the start.
+const FIRST_PARTS: u64 = 8;
+
+/// The descent ends where weights would be taken in more parts than this.
+const LAST_PARTS: u64 = 2048;
+
+/// How a descent goes on.
+#[derive(Clone, Copy, Debug, PartialEq, Eq)]
+pub struct Pace {
+    /// A turn takes one of so many parts of a weight.
+    pub parts: u64,
+    /// How often usages are squared.
+    pub times: u32,
+    /// How many turns brought no gain.
+    pub idle: u32,
+    /// The greatest utilisation at the last gain, in millionths of the capacity, rounded up.
+    pub least: u128,
+}
+
+/// The pace of a routing of this greatest utilisation.
+pub fn first_pace(most: u128) -> Pace
+    ensures { IsPace result }
+{
+    Pace {
+        parts: FIRST_PARTS,
+        times: FIRST_TIMES,
+        idle: 0,
+        least: most,
+    }
+}
+
+/// Whether the descent is at its end: in more parts than that no weight is taken.
+pub fn is_over(pace: Pace) -> bool
+    ensures { IsTrue result ↔ (LAST_PARTS < pace.parts) }
+{
+    pace.parts > LAST_PARTS
+}
+
+/// The pace after a turn to this greatest utilisation. A gain is a fall by one of 2000 parts; where none comes for long, the
+/// shares become smaller.
+pub fn next_pace(pace: Pace, most: u128) -> Pace
+    requires { IsPace pace }
+    ensures { IsPace result }
+{
+    let mut next = pace;
+    if most < pace.least - pace.least / 2000 {
+        next.least = most;
+        next.idle = 0;
+    } else if pace.idle < IDLE_TURNS {
+        next.idle = pace.idle + 1;
+    } else {
+        next.idle = 0;
+        next.parts = 2 * pace.parts.min(LAST_PARTS);
+        next.times = (pace.times + 1).min(MAX_TIMES);
+    }
+    next
+}
