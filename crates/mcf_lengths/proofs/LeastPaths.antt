@@ -1,5 +1,5 @@
 -- The least paths of the pairs, one after the other.
-use Rattle.std.proofs.Common.{◌≡◌, inl, inr, ℕ, ◌+◌, ◌<◌, ◌≤◌, Bool, true, List, [], ◌∷◌, ◌++◌, Option, Some, All, length, get_or, map, replicate, arith, refl, sym, ◌∙◌, subst}
+use Rattle.std.proofs.Common.{◌≡◌, inl, inr, ℕ, ◌+◌, ◌<◌, ◌≤◌, true, List, [], ◌∷◌, ◌++◌, Option, Some, All, length, get_or, map, arith, refl, sym, ◌∙◌, subst}
 use Rattle.std.specs.Prelude.{IsTrue}
 use Rattle.std.proofs.lemmas.Bool.{cases_lt}
 use Rattle.std.proofs.lemmas.List.{get_or-map, get_or_append_left, length-append, length-map}
@@ -12,11 +12,13 @@ use Rattle.te_model.specs.Network.{link_count}
 use Rattle.te_model.specs.Path.{is_distinct, is_path}
 use Rattle.te_model.proofs.SimplePaths.{path_links, path_links_once}
 use Rattle.shortest_path.specs.Least.{IsLeastWalk}
+use Rattle.shortest_path.specs.Links.{every_link}
 use Rattle.shortest_path.specs.Paths.{IsLeastPath}
 use Rattle.shortest_path.proofs.LeastSums.{all_open, least_path_of_walk}
-use Rattle.shortest_path.proofs.Walks.{AllOpen}
 use Rattle.scheme.specs.Reach.{pair_at}
+use Rattle.mcf_lengths.specs.declared.paths.LeastWays.{LeastWays}
 use Rattle.mcf_lengths.specs.Rounds.{AreLeastPaths, links_in}
+use Rattle.mcf_lengths.specs.Ways.{AreLeastWays}
 
 -- the least paths of the first p pairs
 pub record PathsSoFar (net : Network) (lengths : List ℕ) (pairs : List Pair) (p : ℕ) (paths : List (List ℕ)) : Type 0 where
@@ -70,9 +72,9 @@ pub least_distinct : (net : Network) (lengths : List ℕ) (pairs : List Pair) (p
 least_distinct net lengths pairs paths are = All-from_get_or (λ (p : Path). IsTrue (is_distinct p.links)) paths no_path (λ q below.
     path_links_once net (pair_at pairs q).src (pair_at pairs q).dst (get_or paths q no_path).links (least_sound net lengths pairs paths are q below))
 
--- the least walk over all links is the least path
-pub least_of_walk : (net : Network) (lengths : List ℕ) (every : List Bool) (s t : ℕ) (p : Option (List ℕ)) → every ≡ replicate (link_count net) true →
-    length lengths ≡ link_count net → All (λ l. 1 ≤ l) lengths → IsLeastWalk net lengths every s t p → IsLeastPath net lengths s t p
-least_of_walk net lengths every s t p are count positive least =
-    let open_all : AllOpen net every = subst (λ m. AllOpen net m) (sym are) (all_open net) in
-    least_path_of_walk net lengths every s t p open_all (λ h below. All-get_or (λ l. 1 ≤ l) lengths h 0 (omega (arith, count, below)) positive) least
+-- the least walk along least ways is the least path
+pub least_of_walk : (net : Network) (lengths : List ℕ) (s t : ℕ) (ways : LeastWays) (p : Option (List ℕ)) → AreLeastWays net lengths t ways →
+    IsLeastWalk net lengths (every_link net) s t p → IsLeastPath net lengths s t p
+least_of_walk net lengths s t ways p are least =
+    least_path_of_walk net lengths (every_link net) s t p (all_open net)
+    (λ h below. All-get_or (λ l. 1 ≤ l) lengths h 0 (omega (arith, are.count, below)) are.positive) least

@@ -1,4 +1,5 @@
 pub mod Rounds
-pub mod Sums
+pub mod Ways
 pub mod Flow
+pub mod Sweeps
 pub mod Samples

@@ -2,6 +2,7 @@
 ghost use Rattle.std.specs.Prelude.{◌≡◌, IfOk};
 
 use crate::rounds::rounds_routing;
+use crate::sweeps::sweep;
 use dual_bounds::bracket;
 use k_paths::Ksp;
 use local_search::settle;
@@ -14,8 +15,8 @@ use te_model::{Bracket, Items, Matrix, Memory, Network, Pairs};
 const CANDIDATES: u32 = 4;
 
 /// Multicommodity flow: the routing of a matrix starts from the even mix of the least paths by lengths that grow with the loads
-/// (Garg and Könemann, 1998), and weight is then moved to the four least paths by cost until no single move helps by a stated share
-/// (`local_search::settle`).
+/// (Garg and Könemann, 1998), or from a better mix of sweeps, and weight is then moved to the four least paths by cost until no
+/// single move helps by a stated share (`local_search::settle`).
 #[derive(Clone, Copy, Debug, PartialEq, Eq)]
 pub struct Mcf;
 
@@ -67,7 +68,10 @@ impl Scheme for Mcf {
         plan: &McfPlan,
         matrix: &Matrix,
     ) -> Result<(Routing, Bracket), Memory> {
-        let (start, lengths) = rounds_routing(alloc, net, &plan.pairs, matrix)?;
+        let (rounds, offered) = rounds_routing(alloc, net, &plan.pairs, matrix)?;
+        let (start, swept) = sweep(alloc, net, &plan.pairs, matrix, rounds)?;
+        let mut lengths = offered;
+        lengths.push(swept)?;
         let routing = settle(alloc, net, matrix, start, &plan.candidates)?;
         let note = bracket(alloc, net, &routing, matrix, &lengths)?;
         Ok((routing, note))

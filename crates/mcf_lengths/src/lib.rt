@@ -11,6 +11,7 @@ mod paths;
 mod round;
 mod rounds;
 mod split;
+mod sweeps;
 
 pub use flow::{Mcf, McfPlan};
 pub use law::rounds_are_28;

@@ -1,13 +1,15 @@
 //! The least path of each pair by the lengths of a round.
-ghost use Rattle.std.specs.Prelude.{◌≡◌, ◌<◌, ◌≤◌, ◌^◌, Some, true, All, IfOk, IsTrue, length, map, replicate};
+ghost use Rattle.std.specs.Prelude.{◌≡◌, ◌<◌, ◌≤◌, ◌^◌, ℕ, List, Some, All, IfOk, IsTrue, length, map};
 ghost use Rattle.te_model.specs.Network.{is_well_formed, link_count, node_count};
-ghost use Rattle.shortest_path.specs.Least.{AreLeastSums};
+ghost use Rattle.shortest_path.specs.declared.rows.Direction.TheVariants.{Backward};
+ghost use Rattle.shortest_path.specs.Links.{IsSound};
 ghost use Rattle.shortest_path.specs.Paths.{HasPath, IsLeastPath};
+ghost use Rattle.shortest_path.specs.Rows.{IsSearchGraph};
 ghost use Rattle.scheme.specs.Reach.{AllReached, ArePairsOf, IsPairOf};
 ghost use Rattle.mcf_lengths.specs.Rounds.{AreLeastPaths};
-ghost use Rattle.mcf_lengths.specs.Sums.{AreSumsToward, MarksDestinations};
+ghost use Rattle.mcf_lengths.specs.Ways.{AreLeastWays, AreWaysToward, MarksDestinations};
 
-use shortest_path::{follow, toward};
+use shortest_path::{Direction, Searches, first_links, walk_along};
 use std::alloc::Global;
 use te_model::{Items, Memory, Network, Pair, Pairs, Path};
 
@@ -24,72 +26,99 @@ pub fn destinations(alloc: Global, net: &Network, pairs: &Pairs) -> Result<Vec<b
     Ok(marks)
 }
 
-/// The least sums of lengths from each node to the node, where they are wanted.
-fn sums_where(
+/// The least ways to a node.
+#[derive(Drop)]
+pub struct LeastWays {
+    /// The least sum of lengths from each node, or `None` where no way leads from it.
+    pub sums: Items<Option<u64>>,
+    /// The first link of the least way from each node that has one.
+    pub firsts: Items<Option<u32>>,
+}
+
+/// The least ways to the node by the lengths, where they are wanted. The searches are against links in the network.
+fn ways_where(
     alloc: Global,
     net: &Network,
+    searches: &mut Searches,
     lengths: &[u64],
-    every: &[bool],
     node: u32,
     wanted: bool,
-) -> Result<Vec<Option<u64>>, Memory>
-    requires network { IsTrue (is_well_formed net.now) }
+) -> Result<LeastWays, Memory>
+    requires sound { IsSound net.now }
+    requires against { IsSearchGraph net.now Backward searches.old }
     requires lengths { length lengths.now ≡ link_count net.now }
     requires limit { All (λ l. l ≤ 2 ^ 28) lengths.now }
-    requires every { every.now ≡ replicate (link_count net.now) true }
-    requires node { node < node_count net.now }
-    ensures { IfOk result (λ s. IsTrue wanted → AreLeastSums net.now lengths.now every.now node s.items) }
-{
-    if wanted {
-        toward(alloc, net, lengths, every, node)
-    } else {
-        Ok(Vec::new(alloc))
-    }
-}
-
-/// The least sums toward each node that is wanted, in the order of the nodes.
-fn sums_toward(
-    alloc: Global,
-    net: &Network,
-    lengths: &[u64],
-    every: &[bool],
-    wanted: &[bool],
-) -> Result<Vec<Items<Option<u64>>>, Memory>
-    requires network { IsTrue (is_well_formed net.now) }
-    requires lengths { length lengths.now ≡ link_count net.now }
-    requires limit { All (λ l. l ≤ 2 ^ 28) lengths.now }
-    requires every { every.now ≡ replicate (link_count net.now) true }
-    requires wanted { length wanted.now ≡ node_count net.now }
-    ensures { IfOk result (λ s. AreSumsToward net.now lengths.now every.now wanted.now s.items) }
-{
-    let mut rows = Vec::with_capacity(alloc, wanted.len())?;
-    for node in 0..wanted.len() {
-        let sums = sums_where(alloc, net, lengths, every, node as u32, wanted[node])?;
-        rows.push(Items::new(sums))?;
-    }
-    Ok(rows)
-}
-
-/// The least path of the pair, by the least sums toward its destination.
-fn path_by(
-    alloc: Global,
-    net: &Network,
-    lengths: &[u64],
-    every: &[bool],
-    sums: &[Option<u64>],
-    pair: Pair,
-) -> Result<Path, Memory>
-    requires network { IsTrue (is_well_formed net.now) }
-    requires lengths { length lengths.now ≡ link_count net.now }
     requires positive { All (λ l. 1 ≤ l) lengths.now }
-    requires every { every.now ≡ replicate (link_count net.now) true }
-    requires sums { AreLeastSums net.now lengths.now every.now pair.dst sums.now }
+    requires node { node < node_count net.now }
+    ensures ways { IfOk result (λ w. IsTrue wanted → AreLeastWays net.now lengths.now node w) }
+    ensures same { searches.new ≡ searches.old }
+{
+    if !wanted {
+        return Ok(LeastWays {
+            sums: Items::new(Vec::new(alloc)),
+            firsts: Items::new(Vec::new(alloc)),
+        });
+    }
+    let every = vec![in alloc; true; net.links.as_slice().len()]?;
+    let mut sums: Vec<Option<u64>> = vec![in alloc; None; net.names.as_slice().len()]?;
+    searches.toward(net, lengths, &every, node, &mut sums);
+    let firsts = first_links(alloc, net, lengths, &every, &sums)?;
+    Ok(LeastWays {
+        sums: Items::new(sums),
+        firsts: Items::new(firsts),
+    })
+}
+
+/// The least ways to each node that is wanted, in the order of the nodes.
+fn ways_toward(
+    alloc: Global,
+    net: &Network,
+    lengths: &[u64],
+    wanted: &[bool],
+) -> Result<Vec<LeastWays>, Memory>
+    requires sound { IsSound net.now }
+    requires lengths { length lengths.now ≡ link_count net.now }
+    requires limit { All (λ l. l ≤ 2 ^ 28) lengths.now }
+    requires positive { All (λ l. 1 ≤ l) lengths.now }
+    requires wanted { length wanted.now ≡ node_count net.now }
+    ensures { IfOk result (λ w. AreWaysToward net.now lengths.now wanted.now w.items) }
+{
+    let mut searches = Searches::new(alloc, net, Direction::Backward)?;
+    let mut ways = Vec::with_capacity(alloc, wanted.len())?;
+    for node in 0..wanted.len() {
+        let to = ways_where(
+            alloc,
+            net,
+            &mut searches,
+            lengths,
+            node as u32,
+            wanted[node],
+        )?;
+        ways.push(to)?;
+    }
+    Ok(ways)
+}
+
+/// The least path of the pair, by the least ways to its destination.
+fn path_by(alloc: Global, net: &Network, ways: &LeastWays, pair: Pair) -> Result<Path, Memory>
+    requires sound { IsSound net.now }
+    requires ways { (lengths : List ℕ) × AreLeastWays net.now lengths pair.dst ways.now }
     requires pair { IsPairOf net.now pair }
     requires reached { HasPath net.now pair.src pair.dst }
-    ensures { IfOk result (λ p. IsLeastPath net.now lengths.now pair.src pair.dst (Some p.links)) }
+    ensures { (lengths : List ℕ) → AreLeastWays net.now lengths pair.dst ways.now → IfOk result (λ p. IsLeastPath net.now lengths pair.src pair.dst (Some p.links)) }
 {
-    match follow(alloc, net, lengths, every, sums, pair.src, pair.dst)? {
-        Some(path) => Ok(path),
+    let walk = walk_along(
+        alloc,
+        net,
+        ways.sums.as_slice(),
+        ways.firsts.as_slice(),
+        pair.src,
+        pair.dst,
+    )?;
+    match walk {
+        Some(links) => Ok(Path {
+            links: Items::new(links),
+        }),
         // Some path leads from the source to the destination.
         None => Ok(Path {
             links: Items::new(Vec::new(alloc)),
@@ -98,7 +127,7 @@ fn path_by(
 }
 
 /// The least path of each pair by (sum of lengths, list of link numbers), in the order of the pairs.
-/// The sums toward a destination are made once for all pairs that have it.
+/// The ways to a destination are made once for all pairs that have it.
 ///
 /// `lengths` has one number of 1 to 2^28 for each link, and `wanted` marks the destinations of the
 /// pairs. `Memory` comes where memory is wanting.
@@ -118,14 +147,12 @@ pub fn least_paths(
     requires positive { All (λ l. 1 ≤ l) lengths.now }
     ensures { IfOk result (λ p. AreLeastPaths net.now lengths.now pairs.now.list (map (λ q. q.links) p.items)) }
 {
-    let every = vec![in alloc; true; net.links.as_slice().len()]?;
-    let rows = sums_toward(alloc, net, lengths, &every, wanted)?;
+    let ways = ways_toward(alloc, net, lengths, wanted)?;
     let list = pairs.list.as_slice();
     let mut paths = Vec::with_capacity(alloc, list.len())?;
     for p in 0..list.len() {
         let pair = list[p];
-        let sums = rows[pair.dst as usize].as_slice();
-        paths.push(path_by(alloc, net, lengths, &every, sums, pair)?)?;
+        paths.push(path_by(alloc, net, &ways[pair.dst as usize], pair)?)?;
     }
     Ok(paths)
 }

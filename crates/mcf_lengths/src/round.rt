@@ -3,7 +3,7 @@ ghost use Rattle.std.specs.Prelude.{◌≡◌, ◌≤◌, All, IfOk, IsTrue, len
 ghost use Rattle.te_model.specs.Network.{is_well_formed, link_count};
 ghost use Rattle.scheme.specs.Reach.{AllReached, ArePairsOf};
 ghost use Rattle.mcf_lengths.specs.Rounds.{IsFlowRound};
-ghost use Rattle.mcf_lengths.specs.Sums.{MarksDestinations};
+ghost use Rattle.mcf_lengths.specs.Ways.{MarksDestinations};
 
 use crate::paths::least_paths;
 use multiplicative_lengths::lengths_of;

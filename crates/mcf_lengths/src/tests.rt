@@ -135,7 +135,7 @@ fn two_parallel_links_are_filled_evenly(rt: HostRuntime) -> Result<(), Fail> {
         Ok(plan) => match Mcf.route(alloc, &net, &plan, &matrix) {
             Ok((routing, note)) => {
                 assert_eq!(rt; routing.routes.as_slice().len(), 1);
-                assert!(rt; 1_000_000 <= note.parts && note.parts <= 1_010_800);
+                assert!(rt; 1_000_000 <= note.parts && note.parts <= 1_000_200);
                 assert!(rt; note.low() == Some(1_000_000));
             }
             Err(_) => assert!(rt; false),

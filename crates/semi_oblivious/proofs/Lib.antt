@@ -1,1 +1,1 @@
-mod Adapting
+mod Sweeping

@@ -1,1 +1,2 @@
 pub mod Semi
+pub mod Sweeps

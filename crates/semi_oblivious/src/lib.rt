@@ -6,5 +6,6 @@
 
 mod semi;
 mod stress;
+mod sweeps;
 
 pub use semi::{Semi, SemiPlan};

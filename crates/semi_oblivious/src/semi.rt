@@ -2,6 +2,7 @@
 ghost use Rattle.std.specs.Prelude.{◌≡◌, ◌≤◌};
 
 use crate::stress::stress_lengths;
+use crate::sweeps::sweep;
 use dual_bounds::bracket_on_paths;
 use local_search::settle;
 use path_budget::trim;
@@ -61,9 +62,10 @@ impl<S: Oblivious + Drop> Scheme for Semi<S> {
         plan: &SemiPlan<S::Plan>,
         matrix: &Matrix,
     ) -> Result<(Routing, Bracket), Memory> {
-        let start = plan.fixed.copy(alloc)?;
+        let (start, swept) = sweep(alloc, net, &plan.fixed, matrix)?;
         let routing = settle(alloc, net, matrix, start, &plan.fixed)?;
-        let lengths = stress_lengths(alloc, net, &routing, matrix)?;
+        let mut lengths = stress_lengths(alloc, net, &routing, matrix)?;
+        lengths.push(swept)?;
         let note = bracket_on_paths(alloc, net, &plan.fixed, &routing, matrix, &lengths)?;
         Ok((routing, note))
     }

@@ -1,14 +1,24 @@
-use Rattle.std.proofs.Common.{List, sym, subst}
+use Rattle.std.proofs.Common.{List, arith, sym, subst}
 use Rattle.te_model.specs.declared.route.Pair.{Pair}
 use Rattle.routing.specs.Routes.{AreDemands, IsRoutingOf}
 use Rattle.routing.proofs.InOrder.{routes_count}
-use Rattle.scheme.specs.Reach.{AllReached}
-use Rattle.mcf_lengths.specs.declared.round.TheConstants.{ROUNDS}
+use Rattle.scheme.specs.Reach.{AllReached, ArePairsOf}
+use Rattle.mcf_lengths.specs.Rounds.{IsRoundsRouting}
 use Rattle.mcf_lengths.proofs.Balancing.{few_together, pairs_join_nodes}
 use Rattle.mcf_lengths.proofs.flow.McfScheme.route.Goals as goal
 
 pub rounds_routing-requires-clause-reached : goal.rounds_routing-requires-clause-reached
 rounds_routing-requires-clause-reached c =
+    let is = c.requires.plan.1 in
+    subst (λ (l : List Pair). AllReached c.args.net.now l) (sym is.own) is.reached
+
+pub sweep-requires-clause-pairs : goal.sweep-requires-clause-pairs
+sweep-requires-clause-pairs c =
+    let is = c.requires.plan.1 in
+    subst (λ (l : List Pair). ArePairsOf c.args.net.now l) (sym is.own) is.ends
+
+pub sweep-requires-clause-reached : goal.sweep-requires-clause-reached
+sweep-requires-clause-reached c =
     let is = c.requires.plan.1 in
     subst (λ (l : List Pair). AllReached c.args.net.now l) (sym is.own) is.reached
 
@@ -41,4 +51,18 @@ returns-clause-few c =
     let is = c.requires.plan.1 in
     let start = subst (λ (l : List Pair). IsRoutingOf net l c.in_ok-start.start.routes) is.own c.in_ok-start.ensures.routing in
     c.in_ok-routing.ensures.few 32
-    (few_together net pairs ROUNDS 4 c.in_ok-start.start.routes c.args.plan.now.candidates.routes start c.in_ok-start.ensures.few is.candidates)
+    (few_together net pairs 28 4 c.in_ok-start.start.routes c.args.plan.now.candidates.routes start c.in_ok-start.ensures.few is.candidates)
+
+pub returns-clause-related : goal.returns-clause-related
+returns-clause-related c = λ pairs is.
+    let net = c.args.net.now in
+    let demand = c.args.matrix.now.demand in
+    let rounds = c.in_ok-rounds.rounds.routes in
+    record {
+      stable = c.in_ok-routing.ensures.stable;
+      start = rounds;
+      start_is = subst (λ (l : List Pair). IsRoundsRouting net l demand rounds) is.own c.in_ok-rounds.ensures.rounds;
+      no_greater = omega (arith, c.in_ok-routing.ensures.parts, c.in_ok-start.ensures.no_greater);
+      bracket = c.in_ok-note.ensures.sound;
+      lower = c.in_ok-note.ensures.lower;
+    }

@@ -1,24 +1,34 @@
-use Rattle.std.proofs.Common.{◌≤◌, List, arith, sym, subst, ◌∙◌}
-use Rattle.te_model.specs.declared.route.PairRoutes.{PairRoutes}
-use Rattle.routing.specs.Routes.{AreDemands, IsRoutingOf}
-use Rattle.routing.specs.Utilisation.{parts}
-use Rattle.local_search.specs.Moves.{HaveFewTogether, UsesOnly}
+use Rattle.std.proofs.Common.{arith, sym, subst, ◌∙◌}
+use Rattle.routing.specs.Routes.{AreDemands}
 use Rattle.routing.proofs.InOrder.{routes_count}
-use Rattle.semi_oblivious.proofs.Adapting.{few_together, keeps_to}
+use Rattle.local_search.proofs.MovedRoutings.{same_count}
+use Rattle.semi_oblivious.proofs.Sweeping.{few_kept, over_routing, settled_keep}
 use Rattle.semi_oblivious.proofs.semi.SemiScheme.route.Goals as goal
+
+pub sweep-requires-clause-fixed : goal.sweep-requires-clause-fixed
+sweep-requires-clause-fixed g c = c.requires.plan.1.1.routing.splits
+
+pub sweep-requires-clause-pairs : goal.sweep-requires-clause-pairs
+sweep-requires-clause-pairs g c =
+    let fixed = c.requires.plan.1.1 in
+    omega (arith, routes_count c.requires.plan.0 c.args.plan.now.fixed.routes fixed.routing.in_order, fixed.ends.few)
+
+pub sweep-requires-clause-demands : goal.sweep-requires-clause-demands
+sweep-requires-clause-demands g c =
+    let count = routes_count c.requires.plan.0 c.args.plan.now.fixed.routes c.requires.plan.1.1.routing.in_order in
+    subst (λ n. AreDemands n c.args.matrix.now.demand) (sym count) c.requires.plan.2
 
 pub settle-requires-clause-routings : goal.settle-requires-clause-routings
 settle-requires-clause-routings g c =
-    let pairs = c.requires.plan.0 in
     let fixed = c.requires.plan.1.1.routing in
-    (pairs, subst (λ (r : List PairRoutes). IsRoutingOf c.args.net.now pairs r) (sym c.in_ok-start.ensures) fixed, fixed)
+    (c.requires.plan.0, over_routing c.args.net.now c.requires.plan.0 _ c.args.plan.now.fixed.routes c.in_ok-start.start.routes fixed c.in_ok-start.ensures.routing, fixed)
 
 pub stress_lengths-requires-clause-pairs : goal.stress_lengths-requires-clause-pairs
 stress_lengths-requires-clause-pairs g c =
     let net = c.args.net.now in
     let pairs = c.requires.plan.0 in
     let fixed = c.requires.plan.1.1 in
-    let start = subst (λ (r : List PairRoutes). IsRoutingOf net pairs r) (sym c.in_ok-start.ensures) fixed.routing in
+    let start = over_routing net pairs _ c.args.plan.now.fixed.routes c.in_ok-start.start.routes fixed.routing c.in_ok-start.ensures.routing in
     let count = routes_count pairs c.in_ok-routing.routing.routes (c.in_ok-routing.ensures.routing pairs start).in_order in
     omega (arith, count, fixed.ends.few)
 
@@ -27,7 +37,7 @@ stress_lengths-requires-clause-demands g c =
     let net = c.args.net.now in
     let pairs = c.requires.plan.0 in
     let fixed = c.requires.plan.1.1 in
-    let start = subst (λ (r : List PairRoutes). IsRoutingOf net pairs r) (sym c.in_ok-start.ensures) fixed.routing in
+    let start = over_routing net pairs _ c.args.plan.now.fixed.routes c.in_ok-start.start.routes fixed.routing c.in_ok-start.ensures.routing in
     let count = routes_count pairs c.in_ok-routing.routing.routes (c.in_ok-routing.ensures.routing pairs start).in_order in
     subst (λ n. AreDemands n c.args.matrix.now.demand) (sym count) c.requires.plan.2
 
@@ -39,21 +49,22 @@ bracket_on_paths-requires-clause-count g c =
     let net = c.args.net.now in
     let pairs = c.requires.plan.0 in
     let fixed = c.requires.plan.1.1 in
-    let start = subst (λ (r : List PairRoutes). IsRoutingOf net pairs r) (sym c.in_ok-start.ensures) fixed.routing in
+    let start = over_routing net pairs _ c.args.plan.now.fixed.routes c.in_ok-start.start.routes fixed.routing c.in_ok-start.ensures.routing in
     let count = routes_count pairs c.in_ok-routing.routing.routes (c.in_ok-routing.ensures.routing pairs start).in_order in
     count ∙ sym (routes_count pairs c.args.plan.now.fixed.routes fixed.routing.in_order)
 
 pub returns-clause-routing : goal.returns-clause-routing
 returns-clause-routing g c = λ pairs is.
-    c.in_ok-routing.ensures.routing pairs (subst (λ (r : List PairRoutes). IsRoutingOf c.args.net.now pairs r) (sym c.in_ok-start.ensures) is.1.routing)
+    c.in_ok-routing.ensures.routing pairs
+    (over_routing c.args.net.now pairs _ c.args.plan.now.fixed.routes c.in_ok-start.start.routes is.1.routing c.in_ok-start.ensures.routing)
 
 pub returns-clause-few : goal.returns-clause-few
 returns-clause-few g c =
     let fixed = c.args.plan.now.fixed.routes in
     let budget = c.args.self.now.budget in
-    let together = few_together budget fixed c.requires.plan.1.1.few in
-    let few = c.in_ok-routing.ensures.few budget
-    (subst (λ (r : List PairRoutes). HaveFewTogether budget r fixed) (sym c.in_ok-start.ensures) together) in
+    let over = c.in_ok-start.ensures.routing in
+    let count = same_count c.in_ok-start.start.routes fixed over.pairs in
+    let few = c.in_ok-routing.ensures.few budget (few_kept budget fixed c.in_ok-start.start.routes count c.requires.plan.1.1.few over.keeps) in
     λ k d below. omega (arith, few k d below, c.args.self.now.few)
 
 pub returns-clause-related : goal.returns-clause-related
@@ -62,9 +73,9 @@ returns-clause-related g c = λ pairs is.
     let fixed = c.args.plan.now.fixed.routes in
     let routes = c.in_ok-routing.routing.routes in
     record {
-      fixed_paths = keeps_to fixed routes (subst (λ (r : List PairRoutes). UsesOnly r fixed routes) c.in_ok-start.ensures c.in_ok-routing.ensures.only);
+      fixed_paths = settled_keep fixed c.in_ok-start.start.routes routes c.in_ok-start.ensures.routing.keeps c.in_ok-routing.ensures.only;
       stable = c.in_ok-routing.ensures.stable;
-      no_greater = subst (λ (r : List PairRoutes). parts net routes c.args.matrix.now.demand ≤ parts net r c.args.matrix.now.demand) c.in_ok-start.ensures c.in_ok-routing.ensures.parts;
+      no_greater = omega (arith, c.in_ok-routing.ensures.parts, c.in_ok-start.ensures.routing.no_greater);
       bracket = c.in_ok-note.ensures.sound;
       lower = c.in_ok-note.ensures.lower;
     }

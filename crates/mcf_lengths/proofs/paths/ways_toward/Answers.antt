@@ -1,0 +1,23 @@
+use Rattle.std.proofs.Common.{◌≡◌, ◌+◌, ◌++◌, ◌∷◌, [], arith, sym, subst, rules}
+use Rattle.shortest_path.specs.declared.rows.Direction.TheVariants.{Backward}
+use Rattle.shortest_path.specs.Rows.{IsSearchGraph}
+use Rattle.mcf_lengths.proofs.Marking.{WaysSoFar, ways_done, ways_more}
+use Rattle.mcf_lengths.proofs.paths.ways_toward.Goals as goal
+
+pub loop-node-preserved : goal.loop-node-preserved
+loop-node-preserved c =
+    let net = c.args.net.now in
+    let lengths = c.args.lengths.now in
+    let wanted = c.args.wanted.now in
+    let v = c.loop-node.node in
+    let ways = c.loop-node.ways.items in
+    let to = c.in_ok-to.to in
+    let pushed : c.push.new.self.items ≡ ways ++ to ∷ [] = search rules in (
+      subst (IsSearchGraph net Backward) (sym c.in_ok-to.ensures.same) c.loop-node.invariant.0,
+      subst (WaysSoFar net lengths wanted (v + 1)) (sym pushed) (ways_more net lengths wanted v ways to c.loop-node.invariant.1 c.in_ok-to.ensures.ways),
+    )
+
+pub returns : goal.returns
+returns c =
+    ways_done c.args.net.now c.args.lengths.now c.args.wanted.now c.loop-node.node c.loop-node.ways.items c.loop-node.invariant.1
+    (omega (arith, c.loop-node-test.false, c.loop-node.auto.node-end, c.requires.wanted))
