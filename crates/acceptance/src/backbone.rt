@@ -4,44 +4,13 @@ use rand::RngExt;
 use rand_chacha::ChaCha8Rng;
 use rand_core::SeedableRng;
 use routing::Routing;
+use sample_networks::BACKBONE;
 use std::alloc::Global;
 use std::process::Abort;
 use std::test::Fail;
 use te_model::Network;
 use te_ports::MemSink;
 use traffic_matrix::{gravity, print};
-
-/// The fibres, each as two links.
-const NETWORK: &str = "source,target,capacity,cost
-sea,sfo,100000,9
-sfo,sea,100000,9
-sea,den,100000,20
-den,sea,100000,20
-sfo,lax,100000,4
-lax,sfo,100000,4
-sfo,den,100000,16
-den,sfo,100000,16
-lax,hou,100000,19
-hou,lax,100000,19
-den,kan,100000,7
-kan,den,100000,7
-kan,hou,100000,9
-hou,kan,100000,9
-kan,ind,100000,6
-ind,kan,100000,6
-hou,atl,100000,12
-atl,hou,100000,12
-ind,chi,100000,3
-chi,ind,100000,3
-ind,atl,25000,7
-atl,ind,25000,7
-chi,nyc,100000,10
-nyc,chi,100000,10
-atl,was,100000,8
-was,atl,100000,8
-nyc,was,100000,3
-was,nyc,100000,3
-";
 
 const PLAN: &str =
     "{\"topology\":\"net.csv\",\"matrices\":\"tm.csv\",\"schemes\":[\"spf\",\"ecmp\",\"ksp\",\"mcf\",\"racke\",\"smore\"],\"publish\":\"racke\",\"k\":4,\"budget\":4,\"trees\":8,\"seed\":7}";
@@ -58,7 +27,7 @@ fn on_backbone<'a>(
 ) -> Result<MemSink, Fail> {
     let files = [
         ("plan.json", plan.as_bytes()),
-        ("net.csv", NETWORK.as_bytes()),
+        ("net.csv", BACKBONE.as_bytes()),
         ("tm.csv", matrices),
     ];
     written_over(rt, alloc, &[command, "plan.json"], &files)
@@ -66,7 +35,7 @@ fn on_backbone<'a>(
 
 /// The matrices that are published for: those of the gravity model of seed 7, in 24 steps.
 fn gravity_matrices(alloc: Global) -> Result<Vec<u8>, Fail> {
-    let network = topology::read(alloc, NETWORK.as_bytes())?;
+    let network = topology::read(alloc, BACKBONE.as_bytes())?;
     let series = gravity(alloc, &network, 7, 24)?;
     Ok(print(alloc, &network, &series)?)
 }
@@ -86,7 +55,7 @@ fn backbone_is_published_and_compared(rt: HostRuntime) -> Result<(), Fail> {
     Ok(())
 }
 
-/// What a plan on the backbone publishes, and the ratio that the starting weights alone give it.
+/// What a plan on the backbone publishes, and a ratio that it may not reach.
 const PUBLISHED: &[(&str, u64)] = &[
     ("\"publish\":\"racke\",\"trees\":8,\"seed\":7", 26_500_000),
     ("\"publish\":\"ecmp\"", 106_000_000),
@@ -159,7 +128,7 @@ fn drawn_matrices_keep_the_ratio(rt: HostRuntime) -> Result<(), Fail> {
     let gravity = gravity_matrices(alloc)?;
     let file = on_backbone(&rt, alloc, "publish", PLAN, &gravity)?;
     let (routing, ratio) = routing_in(alloc, file.bytes())?;
-    let network = topology::read(alloc, NETWORK.as_bytes())?;
+    let network = topology::read(alloc, BACKBONE.as_bytes())?;
     let drawn = drawn_matrices(alloc, &network)?;
     let report = on_backbone(&rt, alloc, "run", BEST, drawn.as_bytes())?;
     let best = parts_in(&rt, alloc, report.bytes())?;

@@ -1,5 +1,7 @@
 //! The command `publish`.
-use crate::call::{Call, Out, leaves, publishes, says};
+use crate::call::{Call, Out, leaves, publishes, says, written_over};
+use std::alloc::Global;
+use std::process::Abort;
 use std::test::Fail;
 
 const SPF: &str = "{\"topology\":\"t\",\"matrices\":\"m\",\"publish\":\"spf\"}";
@@ -40,26 +42,18 @@ const CERTIFICATES: &[(&[&str], &[&str], &[&str], &str)] = &[
         &[DEMAND],
         "\n0 1 2\n500000 1 0\n500000 1 1\nset all\nratio 2000000\n",
     ),
-    // The trees of the default scheme have one path for each pair. The starting weights alone give 2000000.
+    // The trees of the default scheme have one path for each pair.
     (
         &["{\"topology\":\"t\",\"matrices\":\"m\"}"],
-        &["source,target,capacity,cost\na,b,10,1\nb,a,10,1\n"],
-        &["step,source,target,demand\n0,a,b,1\n0,b,a,1\n"],
-        "\n0 1 1\n1000000 1 0\n1 0 1\n1000000 1 1\nset all\nratio 1",
+        &[BOTH_WAYS],
+        &[EXCHANGE],
+        "\n0 1 1\n1000000 1 0\n1 0 1\n1000000 1 1\nset all\nratio ",
     ),
-    // The starting weights alone give 2000000.
     (
         &["{\"topology\":\"t\",\"matrices\":\"m\",\"publish\":\"spf\",\"margin\":[1,1]}"],
         &[TRIANGLE],
-        &["step,source,target,demand\n0,a,c,10\n0,b,c,10\n1,a,c,7\n"],
-        "\nset margin 1 1\nbase 10 10\nratio 1",
-    ),
-    // The starting weights alone give 4000000.
-    (
-        &[SPF],
-        &[TRIANGLE],
-        &["step,source,target,demand\n0,a,c,10\n0,b,c,10\n"],
-        "\nset all\nratio 2",
+        &[TO_C],
+        "\nset margin 1 1\nbase 10 10\nratio ",
     ),
     // Nothing is asked for at step 0, so b is as great as it may be.
     (
@@ -77,6 +71,64 @@ fn certificates_are_published(rt: HostRuntime) -> Result<(), Fail> {
         let files = [("p", plan), ("t", topology), ("m", matrices)];
         let call = publishes(&["publish", "p"], &files, 3, text);
         leaves(&rt, rt.alloc(), &call)?;
+    }
+    Ok(())
+}
+
+/// Links between two nodes, one each way.
+const BOTH_WAYS: &str = "source,target,capacity,cost\na,b,10,1\nb,a,10,1\n";
+
+/// Demands from a and from b to c, of which the first is less at step 1.
+const TO_C: &str = "step,source,target,demand\n0,a,c,10\n0,b,c,10\n1,a,c,7\n";
+
+/// Demands from a to b and back.
+const EXCHANGE: &str = "step,source,target,demand\n0,a,b,1\n0,b,a,1\n";
+
+/// A plan, a topology and matrices, the ratio of the routing, and the greatest ratio that its certificate may have.
+const RATIOS: &[(&str, &str, &str, u64, u64)] = &[
+    // The starting weights give 4000000, and rounds and polish alone 2057555.
+    (SPF, TRIANGLE, TO_C, 2_000_000, 2_000_200),
+    // The starting weights give 2000000, and rounds and polish alone 1064778.
+    (
+        "{\"topology\":\"t\",\"matrices\":\"m\",\"publish\":\"spf\",\"margin\":[1,1]}",
+        TRIANGLE,
+        TO_C,
+        1_000_000,
+        1_000_100,
+    ),
+    // The trees of the default scheme have one path for each pair.
+    (
+        "{\"topology\":\"t\",\"matrices\":\"m\"}",
+        BOTH_WAYS,
+        EXCHANGE,
+        1_000_000,
+        1_000_100,
+    ),
+];
+
+/// The ratio of what a plan publishes.
+fn published_ratio(
+    rt: &impl Abort,
+    alloc: Global,
+    plan: &'static str,
+    topology: &'static str,
+    matrices: &'static str,
+) -> Result<u64, Fail> {
+    let files = [
+        ("p", plan.as_bytes()),
+        ("t", topology.as_bytes()),
+        ("m", matrices.as_bytes()),
+    ];
+    let file = written_over(rt, alloc, &["publish", "p"], &files)?;
+    Ok(cert_text::read(alloc, file.bytes())?.head.ratio)
+}
+
+#[test]
+fn ratios_are_near_those_of_the_routings(rt: HostRuntime) -> Result<(), Fail> {
+    for row in RATIOS {
+        let (plan, topology, matrices, least, most) = *row;
+        let ratio = published_ratio(&rt, rt.alloc(), plan, topology, matrices)?;
+        assert!(rt; least <= ratio && ratio <= most);
     }
     Ok(())
 }

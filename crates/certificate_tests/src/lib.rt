@@ -6,6 +6,4 @@ mod block_reader_tests;
 #[cfg(test)]
 mod cert_text_tests;
 #[cfg(test)]
-mod polished_tests;
-#[cfg(test)]
 mod ratio_certificate_tests;

@@ -10,7 +10,7 @@ use std::test::Fail;
 use te_model::{Block, Certificate, DemandSet, Memory, Network, Row};
 
 /// The nodes a, b and c, with links from a and from b to c, and both ways between a and b.
-pub fn three_nodes(alloc: Global) -> Result<Network, AllocError>
+fn three_nodes(alloc: Global) -> Result<Network, AllocError>
     ensures { IfOk result (λ n. n ≡ three_nodes) }
 {
     let ends = [(0, 2, 10, 1), (1, 2, 10, 1), (0, 1, 10, 1), (1, 0, 10, 1)];
@@ -29,7 +29,7 @@ fn straight_routes(alloc: Global) -> Result<Routing, AllocError>
 }
 
 /// The matrices in which both demands are equal, or all.
-pub fn demands(alloc: Global, equal: bool) -> Result<DemandSet, AllocError>
+fn demands(alloc: Global, equal: bool) -> Result<DemandSet, AllocError>
     ensures set { IfOk result (IsSetWithin 2) }
     ensures first { IfOk result IsNoBox }
 {
@@ -55,7 +55,7 @@ fn bounded(alloc: Global) -> Result<DemandSet, AllocError>
 }
 
 /// The best block of a link with a share for the weights, and its need.
-pub fn best_on(
+fn best_on(
     alloc: Global,
     set: &DemandSet,
     link: u32,
@@ -172,7 +172,7 @@ fn needs_of_weights(rt: HostRuntime) {
 }
 
 /// The certificate of the straight routes over the set.
-pub fn made(alloc: Global, set: DemandSet) -> Result<Certificate, Memory>
+fn made(alloc: Global, set: DemandSet) -> Result<Certificate, Memory>
     requires set { IsSetWithin 2 set }
     requires first { IsNoBox set }
 {

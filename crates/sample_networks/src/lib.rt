@@ -1,8 +1,10 @@
-//! Small networks, and pairs, paths and demands on them: what the tests of several libraries begin with.
+//! Small networks and the backbone, and pairs, paths and demands: what several crates of tests begin with.
 #![tactic(auto)]
 
+pub mod backbone;
 pub mod literals;
 pub mod networks;
 
+pub use backbone::BACKBONE;
 pub use literals::{WeightedPath, matrix, network, pairs, weighted_paths, weighted_routes};
 pub use networks::{four_nodes, one_way, parallel_links, three_ways, two_nodes};

@@ -2,6 +2,8 @@
 #![tactic(auto)]
 
 #[cfg(test)]
+mod centred_steps_tests;
+#[cfg(test)]
 mod dual_bounds_tests;
 #[cfg(test)]
 mod local_search_tests;

@@ -19,7 +19,7 @@ fn rates_follow_the_matrix(rt: HostRuntime) -> Result<(), Fail> {
                 let paths = plan.fixed.routes.as_slice()[0].paths.as_slice().len();
                 assert_eq!(rt; paths, 2);
                 assert_eq!(rt; routing.routes.as_slice().len(), 1);
-                assert!(rt; 1_000_000 <= note.parts && note.parts <= 1_010_800);
+                assert!(rt; 1_000_000 <= note.parts && note.parts <= 1_000_200);
                 assert!(rt; note.low() == Some(1_000_000));
             }
             Err(_) => assert!(rt; false),

@@ -1,1 +1,2 @@
 pub mod FlowSimLaws
+pub mod PolishedLaws

@@ -1,4 +1,4 @@
-//! Tests of the simulation, the experiment and the generator. There is nothing else here.
+//! Tests of the simulation, the experiment and the generator, and of what is polished in a certificate. There is nothing else here.
 #![tactic(auto)]
 
 #[cfg(test)]
@@ -7,6 +7,8 @@ mod experiment_tests;
 mod flow_sim_tests;
 #[cfg(test)]
 mod generation_tests;
+#[cfg(test)]
+mod polished_tests;
 #[cfg(test)]
 mod random_network_tests;
 #[cfg(test)]

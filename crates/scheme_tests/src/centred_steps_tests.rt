@@ -1,0 +1,78 @@
+ghost use Rattle.std.specs.Prelude.{◌≡◌, ◌^◌, ◌≤◌, IfOk};
+ghost use Rattle.te_model.specs.ThreeNodes.{three_nodes};
+
+use centred_steps::*;
+use sample_networks::{network, parallel_links};
+use std::alloc::{AllocError, Global};
+use std::test::Fail;
+use te_model::Network;
+
+/// The weights of the parallel links of capacities 10 and 30 after a step, where the first has a load of 40.
+fn stepped(alloc: Global, first: u64, second: u64, parts: u64) -> Result<(u64, u64), AllocError>
+    requires first { (1 ≤ first) × (first ≤ 2 ^ 27) }
+    requires second { (1 ≤ second) × (second ≤ 2 ^ 27) }
+    requires parts { (1 ≤ parts) × (parts ≤ 128) }
+{
+    let net = parallel_links(alloc)?;
+    let mut weights = [first, second];
+    let loads = [40, 0];
+    step(&net, &mut weights, &loads, parts);
+    Ok((weights[0], weights[1]))
+}
+
+#[test]
+fn weights_move_from_the_mean(rt: HostRuntime) -> Result<(), Fail> {
+    let alloc = rt.alloc();
+    // The usages are 4 and 0, and their mean is 1. So the first weight doubles, and the second loses a third. Then both double.
+    assert_eq!(rt;
+        stepped(alloc, 1_048_576, 1_048_576, 1)?,
+        (4_194_304, 1_398_102)
+    );
+    // In one of two parts, the first weight gains its half, and the second loses a sixth.
+    assert_eq!(rt;
+        stepped(alloc, 1_048_576, 1_048_576, 2)?,
+        (3_145_728, 1_747_628)
+    );
+    Ok(())
+}
+
+#[test]
+fn weights_stay_within_their_limits(rt: HostRuntime) -> Result<(), Fail> {
+    let alloc = rt.alloc();
+    assert_eq!(rt; stepped(alloc, 1, 1, 1)?, (4, 2));
+    assert_eq!(rt;
+        stepped(alloc, 134_217_728, 134_217_728, 1)?,
+        (134_217_728, 44_739_243)
+    );
+    Ok(())
+}
+
+/// The nodes a, b and c, with links from a and from b to c, and both ways between a and b.
+fn three_nodes(alloc: Global) -> Result<Network, AllocError>
+    ensures { IfOk result (λ n. n ≡ three_nodes) }
+{
+    let ends = [(0, 2, 10, 1), (1, 2, 10, 1), (0, 1, 10, 1), (1, 0, 10, 1)];
+    network(alloc, &["a", "b", "c"], &ends)
+}
+
+#[test]
+fn loads_lie_on_the_least_way(rt: HostRuntime) -> Result<(), Fail> {
+    let alloc = rt.alloc();
+    let net = three_nodes(alloc)?;
+    let mut lasts = [None, None, None];
+    last_links(
+        &net,
+        &[4, 1, 1, 1],
+        &[Some(0), Some(1), Some(2)],
+        &mut lasts,
+    );
+    assert!(rt; lasts == [None, Some(2), Some(1)]);
+    assert_eq!(rt; narrowest_on(&net, &lasts, 2), 10);
+    let mut loads = [0, 0, 0, 0];
+    add_along(&net, &lasts, 2, 5, &mut loads);
+    assert!(rt; loads == [0, 5, 5, 0]);
+    assert!(rt; has_load(&loads));
+    clear_loads(&mut loads);
+    assert!(rt; !has_load(&loads));
+    Ok(())
+}

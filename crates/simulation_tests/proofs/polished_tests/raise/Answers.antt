@@ -1,0 +1,16 @@
+use Rattle.std.proofs.Common.{◌^◌, ◌<◌, ◌≤◌, List, arith, length, slice_index, subst, sym}
+use Rattle.std.proofs.lemmas.List.Elements.{All-get_or}
+use Rattle.std.specs.Prelude.{slice_index_or}
+use Rattle.te_model.specs.declared.network.Link.{Link}
+use Rattle.te_model.specs.Network.{link_count, no_link}
+use Rattle.te_model.proofs.WellFormed.{capacities_positive, capacities_small}
+use Rattle.simulation_tests.proofs.polished_tests.raise.Goals as goal
+
+pub raised-requires-clause-capacity : goal.raised-requires-clause-capacity
+raised-requires-clause-capacity c =
+    let net = c.args.network.now in
+    let h = slice_index c.args.path.now c.loop-link.link-index in
+    let below : c.loop-link.link-index < length c.args.path.now = omega arith in
+    let inside : h < link_count net = All-get_or (λ h. h < link_count net) c.args.path.now c.loop-link.link-index 0 below c.requires.path in
+    subst (λ (links : List Link). (1 ≤ (slice_index_or links h no_link).capacity) × ((slice_index_or links h no_link).capacity ≤ 2 ^ 32)) (sym c.as_slice-links.ensures)
+    (capacities_positive net c.requires.network h inside, capacities_small net c.requires.network h)
