@@ -5,6 +5,7 @@
 //! | `trees COUNT [time]` | how many paths all pairs have over a mix of 1 to 16 trees |
 //! | `paths SOURCES [time]` | how many paths, up to four a pair, the pairs of the first 1 to 64 nodes have |
 //! | `steps SOURCES [time]` | what is offered, delivered and lost in a step by these pairs |
+//! | `searches TARGETS [time]` | how many links the least walks from all nodes to the first 1 to 64 have, sought alone and together |
 //! | `matrices TOPOLOGY MATRICES` | how many steps and pairs the series of two files has |
 //! | `each TOPOLOGY MATRICES` | a small case of each |
 //!
@@ -16,12 +17,14 @@ mod matrices;
 mod network;
 mod pairs;
 mod paths;
+mod searches;
 mod steps;
 mod trees;
 
 use crate::matrices::line_of_series;
 use crate::network::NODES;
 use crate::paths::measure_paths;
+use crate::searches::measure_searches;
 use crate::steps::measure_steps;
 use crate::trees::measure_trees;
 use std::process::ExitCode;
@@ -42,6 +45,7 @@ fn measure_network(
         "trees" => Some(measure_trees(rt, number.clamp(1, TREES), is_timed)),
         "paths" => Some(measure_paths(rt, number.min(NODES), is_timed)),
         "steps" => Some(measure_steps(rt, number.min(NODES), is_timed)),
+        "searches" => Some(measure_searches(rt, number.min(NODES), is_timed)),
         _ => None,
     }
 }
@@ -49,6 +53,7 @@ fn measure_network(
 fn measure_each(rt: &HostRuntime) -> io::Result<()> {
     measure_trees(rt, 1, false)?;
     measure_paths(rt, 1, false)?;
+    measure_searches(rt, 1, false)?;
     measure_steps(rt, 8, false)
 }
 
