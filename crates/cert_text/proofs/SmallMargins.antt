@@ -12,7 +12,7 @@ use Rattle.te_model.specs.Shape.{is_shaped_set}
 use Rattle.te_model.specs.Validity.{IsValid, has_margin_numbers, has_pair_bounds}
 use Rattle.te_model.proofs.Valid.{rules_hold}
 use Rattle.te_model.proofs.ValidParts.{valid_parts}
-use Rattle.cert_text.specs.SmallMargin.{HasSmallMargin}
+use Rattle.te_model.specs.SmallMargin.{HasSmallMargin}
 
 small_set : (limits : Limits) (pairs : ℕ) (set : DemandSet) → is_shaped_set limits pairs set ≡ true → has_margin_numbers set ≡ true →
     ((p : ℕ) → p < pairs → has_pair_bounds set p ≡ true) → HasSmallMargin set

@@ -7,4 +7,3 @@ pub mod Answer
 pub mod Outcome
 pub mod Kept
 pub mod Pieces
-pub mod SmallMargin

@@ -1,4 +1,4 @@
-use Rattle.std.proofs.Common.{◌≡◌, ◌<◌, ◌∙◌, Option, None, Some, length, take, slice_index_or, sym, ap, add-one}
+use Rattle.std.proofs.Common.{◌≡◌, ◌<◌, ◌∙◌, None, Some, length, take, slice_index_or, sym, ap, add-one}
 use Rattle.std.proofs.lemmas.List.{get_or_default}
 use Rattle.te_model.specs.declared.certificate.Block.{Block}
 use Rattle.te_model.specs.Certificate.{empty_block}
