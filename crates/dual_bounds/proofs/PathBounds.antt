@@ -11,7 +11,6 @@ use Rattle.te_model.specs.declared.route.PathShare.{PathShare}
 use Rattle.te_model.specs.declared.route.PairRoutes.{PairRoutes}
 use Rattle.te_model.specs.declared.certificate.Row.{Row}
 use Rattle.te_model.specs.declared.bracket.Bracket.{Bracket}
-use Rattle.te_model.specs.declared.units.TheConstants.{SHARE_UNIT}
 use Rattle.te_model.specs.Counting.{sum_below}
 use Rattle.te_model.specs.LowerBound.{IsLowerBoundOnPaths}
 use Rattle.te_model.specs.Network.{is_well_formed, node_count, link_count, tail_of, head_of, capacity_of}
@@ -54,14 +53,6 @@ pub split_few : (net : Network) (r : PairRoutes) → is_well_formed net ≡ true
 split_few net r formed split =
     All-weaker (λ s. IsTrue (is_path net r.pair.src r.pair.dst s.links)) (λ s. AreFewLinks (link_count net) s.links)
     (λ s path. path_few net r.pair.src r.pair.dst s.links formed path) r.paths split.paths
-
--- a path split has a path
-pub split_some : (net : Network) (r : PairRoutes) → IsPathSplit net r → 0 < length r.paths
-split_some net r split = go r.paths split.whole
-  where
-    go : (paths : List PathShare) → sum_by (λ s. s.weight) paths ≡ SHARE_UNIT → 0 < length paths
-    go [] whole = let none : 0 ≡ 1000000 = whole in absurd (omega (arith, none))
-    go (s ∷ ss) whole = omega arith
 
 -- the least of the sums so far and that of one more path
 pub shortest_more : (lengths : List ℕ) (paths : List PathShare) (i least next : ℕ) (s : PathShare) → i < length paths → s ≡ get_or paths i s →

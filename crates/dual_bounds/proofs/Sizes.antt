@@ -3,13 +3,12 @@ use Rattle.std.proofs.Common.{◌≡◌, ℕ, zero, suc, ◌+◌, ◌*◌, ◌/�
 use Rattle.std.specs.Prelude.{max, replicate}
 use Rattle.std.proofs.Math.Nat.{mul-le-mul_left, le_of_mul-le-mul_left, div-mul-le_self}
 use Rattle.std.proofs.lemmas.Bool.{cases_lt}
-use Rattle.std.proofs.lemmas.Bool.Decides.{nat_tests}
 use Rattle.std.proofs.lemmas.Nat.{mul-le}
 use Rattle.std.proofs.lemmas.List.{get_or-replicate}
 use Rattle.std.proofs.lemmas.List.Elements.{All-get_or}
 use Rattle.te_model.specs.declared.network.Network.{Network}
 use Rattle.te_model.specs.Counting.{sum_below}
-use Rattle.te_model.specs.Network.{is_well_formed, node_count, link_count, capacity_of}
+use Rattle.te_model.specs.Network.{is_well_formed, link_count, capacity_of}
 use Rattle.te_model.proofs.Sums.{sum_below-bound, sum_below-same, sum_below-zero}
 use Rattle.routing.specs.Routes.{AreDemands}
 use Rattle.shortest_path.specs.Paths.{sum_along}

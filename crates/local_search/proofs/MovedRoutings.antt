@@ -3,7 +3,6 @@ use Rattle.std.proofs.Common.{inl, inr, ◌⊎◌, ◌≡◌, ℕ, ◌<◌, true
 use Rattle.std.specs.Prelude.{IsTrue}
 use Rattle.std.proofs.Math.ListN.{get_or-map}
 use Rattle.std.proofs.lemmas.Bool.{cases_eq}
-use Rattle.std.proofs.lemmas.List.{length-map}
 use Rattle.std.proofs.lemmas.List.Elements.{All-get_or, All-from_get_or}
 use Rattle.te_model.specs.declared.network.Network.{Network}
 use Rattle.te_model.specs.declared.route.Pair.{Pair}
@@ -11,6 +10,7 @@ use Rattle.te_model.specs.declared.route.PairRoutes.{PairRoutes}
 use Rattle.te_model.specs.Path.{is_path, no_routes, routes_at}
 use Rattle.te_model.specs.PathRouting.{IsPathRouting, IsPathSplit}
 use Rattle.routing.specs.Merge.{HasLinks, links_at, no_path}
+use Rattle.routing.proofs.InOrder.{same_count}
 use Rattle.local_search.specs.Moves.{CanMove, IsMoved, UsesOnly}
 use Rattle.local_search.proofs.Shifts.{shift_only, shift_total}
 
@@ -19,10 +19,6 @@ pub same_pair : (xs ys : List PairRoutes) (p : ℕ) → map (λ r. r.pair) xs �
 same_pair xs ys p same =
     sym (get_or-map (λ (r : PairRoutes). r.pair) xs p no_routes)
     ∙ (ap (λ (l : List Pair). get_or l p no_routes.pair) same ∙ get_or-map (λ (r : PairRoutes). r.pair) ys p no_routes)
-
-pub same_count : (xs ys : List PairRoutes) → map (λ r. r.pair) xs ≡ map (λ r. r.pair) ys → length xs ≡ length ys
-same_count xs ys same =
-    sym (length-map xs (λ (r : PairRoutes). r.pair)) ∙ (ap length same ∙ length-map ys (λ (r : PairRoutes). r.pair))
 
 -- a path of a split is a path of the network
 path_of : (net : Network) (routes : List PairRoutes) (p : ℕ) (pair : Pair) (links : List ℕ) → IsPathRouting net routes → p < length routes →

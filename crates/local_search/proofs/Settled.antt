@@ -17,7 +17,8 @@ use Rattle.local_search.specs.Moves.{CanMove, HaveFewTogether, Improves, IsMoved
 use Rattle.local_search.specs.Search.{FitsAt, loads_moved}
 use Rattle.routing.proofs.FewPaths.{few_among}
 use Rattle.local_search.proofs.MovedLoads.{moved_load}
-use Rattle.local_search.proofs.MovedRoutings.{moved_only, moved_routing, same_count}
+use Rattle.routing.proofs.InOrder.{same_count}
+use Rattle.local_search.proofs.MovedRoutings.{moved_only, moved_routing}
 use Rattle.local_search.proofs.Searching.{fits_other}
 use Rattle.te_model.proofs.WellFormed.{capacities_positive}
 use Rattle.local_search.proofs.Within.{parts_from_peak, parts_from_within, within_from_parts}

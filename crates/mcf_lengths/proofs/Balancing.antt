@@ -1,6 +1,6 @@
 -- What the routing of the rounds and the candidates have together, and where the pairs of a routing end.
 use Rattle.std.proofs.Common.{inl, inr, ℕ, suc, ◌+◌, ◌<◌, List, [], ◌∷◌, ◌++◌, length, get_or, arith, ap, sym, ◌∙◌, subst}
-use Rattle.std.proofs.lemmas.List.{get_or-map, get_or_append_left, length-append}
+use Rattle.std.proofs.lemmas.List.{get_or-map, length-append}
 use Rattle.te_model.specs.declared.network.Network.{Network}
 use Rattle.te_model.specs.declared.route.Pair.{Pair}
 use Rattle.te_model.specs.declared.route.PathShare.{PathShare}
@@ -8,18 +8,15 @@ use Rattle.te_model.specs.declared.route.PairRoutes.{PairRoutes}
 use Rattle.te_model.specs.Laws.{PairsJoinNodes}
 use Rattle.te_model.specs.Network.{node_count}
 use Rattle.te_model.specs.Path.{no_routes, routes_at}
-use Rattle.routing.specs.Merge.{HasLinks, no_path}
+use Rattle.routing.specs.Merge.{HasLinks}
 use Rattle.routing.specs.Routes.{HasFewPaths, IsRoutingOf}
 use Rattle.scheme.specs.Fixed.{IsRoutingBy}
 use Rattle.scheme.specs.Reach.{ArePairsOf}
 use Rattle.routing.proofs.EvenSplits.{even_few}
 use Rattle.routing.proofs.InOrder.{routes_count}
+use Rattle.routing.proofs.OwnPaths.{has_front}
 use Rattle.k_paths.specs.Even.{IsEvenSplit}
 use Rattle.local_search.specs.Moves.{HaveFewTogether}
-
-has_front : (xs ys : List PathShare) (links : List ℕ) → HasLinks xs links → HasLinks (xs ++ ys) links
-has_front xs ys links (k, below, at) =
-    (k, omega (arith, below, length-append xs ys), ap (λ (s : PathShare). s.links) (get_or_append_left xs ys no_path k below) ∙ at)
 
 has_back : (xs ys : List PathShare) (links : List ℕ) → HasLinks ys links → HasLinks (xs ++ ys) links
 has_back [] ys links has = has

@@ -17,7 +17,8 @@ use Rattle.shortest_path.specs.Paths.{IsLeastPath}
 use Rattle.shortest_path.proofs.LeastSums.{all_open, least_path_of_walk}
 use Rattle.scheme.specs.Reach.{pair_at}
 use Rattle.mcf_lengths.specs.declared.paths.LeastWays.{LeastWays}
-use Rattle.mcf_lengths.specs.Rounds.{AreLeastPaths, links_in}
+use Rattle.rate_sweeps.specs.Sweeps.{links_in}
+use Rattle.mcf_lengths.specs.Rounds.{AreLeastPaths}
 use Rattle.mcf_lengths.specs.Ways.{AreLeastWays}
 
 -- the least paths of the first p pairs

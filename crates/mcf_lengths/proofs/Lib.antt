@@ -4,4 +4,4 @@ mod Lengthening
 mod Splitting
 mod SampleLaws
 mod Balancing
-pub mod Sweeping
+mod Sweeping

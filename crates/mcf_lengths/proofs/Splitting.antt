@@ -14,7 +14,8 @@ use Rattle.routing.specs.Even.{IsEvenMix}
 use Rattle.routing.proofs.EvenSplits.{even_few, even_split}
 use Rattle.mcf_lengths.specs.declared.round.FlowRound.{FlowRound}
 use Rattle.mcf_lengths.specs.declared.round.TheConstants.{ROUNDS}
-use Rattle.mcf_lengths.specs.Rounds.{AreLeastPaths, AreRoundPaths, IsRoundsSplit, links_in, no_flow_round, paths_in, paths_of_pair, flow_round_at}
+use Rattle.rate_sweeps.specs.Sweeps.{links_in}
+use Rattle.mcf_lengths.specs.Rounds.{AreLeastPaths, AreRoundPaths, IsRoundsSplit, no_flow_round, paths_in, paths_of_pair, flow_round_at}
 
 -- the paths of pair p are its least paths in the rounds
 pair_paths : (net : Network) (pairs : List Pair) (rounds : List FlowRound) (p : ℕ) → All (λ r. AreLeastPaths net r.lengths pairs (paths_in r)) rounds → p < length pairs →

@@ -4,7 +4,6 @@ use Rattle.std.specs.Prelude.{◌≡◌, ℕ, zero, suc, ◌*◌, ◌<◌, ◌�
 use Rattle.te_model.specs.declared.network.Network.{Network}
 use Rattle.te_model.specs.declared.route.Pair.{Pair}
 use Rattle.te_model.specs.declared.route.PairRoutes.{PairRoutes}
-use Rattle.te_model.specs.declared.route.Path.{Path}
 use Rattle.te_model.specs.declared.route.PathShare.{PathShare}
 use Rattle.te_model.specs.Network.{link_count}
 use Rattle.shortest_path.specs.Paths.{IsLeastPath}
@@ -13,6 +12,7 @@ use Rattle.scheme.specs.Reach.{pair_at}
 use Rattle.routing.specs.Even.{IsEvenMix}
 use Rattle.multiplicative_lengths.specs.Growth.{greatest_usage, lengths_of, multipliers_after}
 use Rattle.multiplicative_lengths.specs.Loads.{loads_of}
+use Rattle.rate_sweeps.specs.Sweeps.{links_in}
 use Rattle.mcf_lengths.specs.declared.round.FlowRound.{FlowRound}
 use Rattle.mcf_lengths.specs.declared.round.TheConstants.{ROUNDS}
 
@@ -22,10 +22,6 @@ no_flow_round = record { lengths = []; paths = [] }
 
 abbrev pub flow_round_at : List FlowRound → ℕ → FlowRound
 flow_round_at rounds j = slice_index_or rounds j no_flow_round
-
--- the links of a path
-abbrev pub links_in : Path → List ℕ
-links_in path = path.links
 
 -- the path of each pair in the round
 abbrev pub paths_in : FlowRound → List (List ℕ)

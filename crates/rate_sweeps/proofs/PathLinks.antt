@@ -1,16 +1,14 @@
 -- The links of paths of the network, and that a pair has a path.
-use Rattle.std.proofs.Common.{ℕ, ◌<◌, List, [], ◌∷◌, length, get_or, arith, All}
-use Rattle.std.specs.Prelude.{◌≡◌, IsTrue}
+use Rattle.std.proofs.Common.{ℕ, ◌<◌, List, [], get_or, arith, All}
+use Rattle.std.specs.Prelude.{IsTrue}
 use Rattle.std.proofs.lemmas.List.Elements.{All-from_get_or, All-weaker}
 use Rattle.te_model.specs.declared.network.Network.{Network}
 use Rattle.te_model.specs.declared.route.PairRoutes.{PairRoutes}
 use Rattle.te_model.specs.declared.route.PathShare.{PathShare}
-use Rattle.te_model.specs.declared.units.TheConstants.{SHARE_UNIT}
 use Rattle.te_model.specs.Network.{link_count}
 use Rattle.te_model.specs.Path.{is_path, routes_at}
 use Rattle.te_model.specs.PathRouting.{IsPathSplit}
 use Rattle.te_model.proofs.Chains.{path_links}
-use Rattle.routing.specs.Split.{total_weight}
 use Rattle.rate_sweeps.specs.Sweeps.{AreOnLinks, AreWays, HaveLinks}
 
 -- paths of pairs run over links of the network
@@ -23,11 +21,3 @@ pub split_on_links : (net : Network) (r : PairRoutes) → IsPathSplit net r → 
 split_on_links net r split =
     All-weaker (λ (s : PathShare). IsTrue (is_path net r.pair.src r.pair.dst s.links)) (λ (s : PathShare). All (λ h. h < link_count net) s.links)
     (λ s is. path_links net r.pair.src r.pair.dst s.links is) r.paths split.paths
-
--- a split has a path
-pub split_some : (net : Network) (r : PairRoutes) → IsPathSplit net r → 0 < length r.paths
-split_some net r split = go r.paths split.whole
-  where
-    go : (paths : List PathShare) → total_weight paths ≡ SHARE_UNIT → 0 < length paths
-    go [] whole = let none : 0 ≡ 1000000 = whole in absurd (omega (arith, none))
-    go (s ∷ ss) whole = omega arith

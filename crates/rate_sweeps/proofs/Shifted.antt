@@ -1,7 +1,7 @@
 -- Weight that goes from one path of a pair to another.
 use Rattle.std.proofs.Common.{inl, inr, ◌≡◌, ◌⊎◌, ℕ, ◌≤◌, true, List, [], ◌∷◌, ◌++◌, length, arith, refl, ap, sym, ◌∙◌, subst, min}
 use Rattle.std.specs.Prelude.{All, IsTrue}
-use Rattle.std.proofs.lemmas.List.{get_or_append_left, get_or_push, length-append}
+use Rattle.std.proofs.lemmas.List.{get_or_push, length-append}
 use Rattle.std.proofs.lemmas.List.Elements.{All-from_get_or, All-get_or}
 use Rattle.te_model.specs.declared.network.Network.{Network}
 use Rattle.te_model.specs.declared.route.Pair.{Pair}
@@ -12,6 +12,7 @@ use Rattle.te_model.specs.PathRouting.{IsPathSplit}
 use Rattle.te_model.specs.Validity.{paths_ascend}
 use Rattle.routing.specs.Merge.{HasLinks, links_at, no_path, path_at}
 use Rattle.routing.proofs.FewPaths.{few_among}
+use Rattle.routing.proofs.OwnPaths.{has_front}
 use Rattle.local_search.specs.Moves.{IsShift}
 use Rattle.local_search.proofs.Shifts.{shift_only, shift_total}
 use Rattle.rate_sweeps.specs.Shifts.{IsShifted, IsTarget}
@@ -31,10 +32,6 @@ target_only limit paths new offered to target only links has = elim (only links 
     | inr own ↦ inl (subst (HasLinks paths) (sym is) own.1)
   ]
 ]
-
-has_front : (xs ys : List PathShare) (links : List ℕ) → HasLinks xs links → HasLinks (xs ++ ys) links
-has_front xs ys links (k, below, at) =
-    (k, omega (arith, below, length-append xs ys), ap (λ (s : PathShare). s.links) (get_or_append_left xs ys no_path k below) ∙ at)
 
 has_last : (xs : List PathShare) (x : PathShare) (links : List ℕ) → x.links ≡ links → HasLinks (xs ++ x ∷ []) links
 has_last xs x links is =

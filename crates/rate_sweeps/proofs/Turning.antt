@@ -1,20 +1,19 @@
 -- Where a descent stands at its start and after a turn.
 use Rattle.std.proofs.Common.{inl, inr, ◌≡◌, ◌⊎◌, ℕ, ◌<◌, ◌≤◌, List, length, map, arith, refl, ap, sym, ◌∙◌, subst}
-use Rattle.std.proofs.lemmas.Bool.{cases_lt}
-use Rattle.std.proofs.lemmas.List.{get_or_past, length-map}
 use Rattle.std.proofs.lemmas.List.Elements.{All-get_or}
 use Rattle.te_model.specs.declared.network.Network.{Network}
 use Rattle.te_model.specs.declared.route.Pair.{Pair}
 use Rattle.te_model.specs.declared.route.PairRoutes.{PairRoutes}
 use Rattle.te_model.specs.Path.{no_routes, routes_at}
 use Rattle.te_model.specs.PathRouting.{IsPathRouting, IsPathSplit}
-use Rattle.routing.specs.Merge.{HasLinks, links_at}
+use Rattle.routing.specs.Merge.{links_at}
 use Rattle.routing.specs.Routes.{IsRoutingOf}
 use Rattle.routing.specs.Utilisation.{parts}
 use Rattle.rate_sweeps.specs.declared.descent.Descent.{Descent}
 use Rattle.rate_sweeps.specs.Descents.{BothKeep, IsDescent, IsPace}
 use Rattle.rate_sweeps.specs.Shifts.{UsesOnlyWays}
-use Rattle.rate_sweeps.proofs.PathLinks.{split_some}
+use Rattle.routing.proofs.OwnPaths.{has_inside}
+use Rattle.routing.proofs.Splits.{split_some}
 
 -- the best routing of a descent is one of the pairs, and so is that of the next turn
 pub best_routing : (net : Network) (pairs : List Pair) (demand : List ℕ) (start : List PairRoutes) (d : Descent) → IsRoutingOf net pairs start →
@@ -41,27 +40,13 @@ pub made_routing : (net : Network) (demand : List ℕ) (start made : List PairRo
     ((pairs : List Pair) → IsRoutingOf net pairs d.routing.routes → IsRoutingOf net pairs made) → IsRoutingOf net (map (λ r. r.pair) start) made
 made_routing net demand start made d is keeps = keeps (map (λ (r : PairRoutes). r.pair) start) (record { in_order = is.routing_pairs; splits = is.routing })
 
--- routings of the same pairs are of one length
-pub same_count : (xs ys : List PairRoutes) → map (λ r. r.pair) xs ≡ map (λ r. r.pair) ys → length xs ≡ length ys
-same_count xs ys same =
-    sym (length-map xs (λ (r : PairRoutes). r.pair)) ∙ (ap (λ (l : List Pair). length l) same ∙ length-map ys (λ (r : PairRoutes). r.pair))
-
--- a pair with a path is one of the pairs
-within : (routes : List PairRoutes) (p : ℕ) (links : List ℕ) → HasLinks (routes_at routes p).paths links → p < length routes
-within routes p links has = elim (cases_lt p (length routes)) [
-  | inl lt ↦ lt
-  | inr ge ↦
-      let (k, inside, at) = subst (λ (r : PairRoutes). HasLinks r.paths links) (get_or_past routes p no_routes ge) has in
-      absurd (omega (arith, inside))
-]
-
 -- a routing with paths of the first and offered ones has no more pairs than the first
 covered : (net : Network) (first middle : List PairRoutes) (offered : List (List ℕ)) → IsPathRouting net middle → UsesOnlyWays first offered middle →
     (p : ℕ) → p < length middle → p < length first
 covered net first middle offered splits only p below =
     let paths = (routes_at middle p).paths in
     let some = split_some net (routes_at middle p) (All-get_or (IsPathSplit net) middle p no_routes below splits) in
-    elim (only p (links_at paths 0) (0, some, refl)) [ inl own ↦ within first p (links_at paths 0) own | inr new ↦ new.0 ]
+    elim (only p (links_at paths 0) (0, some, refl)) [ inl own ↦ has_inside first p (links_at paths 0) own | inr new ↦ new.0 ]
 
 -- paths that come from paths of the middle and the offered ones come from those from which the middle's came, if the same are offered
 pub only_through : (net : Network) (first middle last : List PairRoutes) (offered : List (List ℕ)) → IsPathRouting net middle → UsesOnlyWays first offered middle →

@@ -10,6 +10,7 @@ pub mod Merged
 pub mod EvenSplits
 pub mod FewPaths
 pub mod InOrder
+pub mod OwnPaths
 pub mod LowestPaths
 pub mod Decomposing
 pub mod TakingOff

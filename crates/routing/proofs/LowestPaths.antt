@@ -1,16 +1,13 @@
 -- Paths that go on by the lowest link with flow.
-use Rattle.std.proofs.Common.{◌≡◌, inl, inr, ℕ, zero, suc, ◌<◌, ◌≤◌, Bool, true, false, not, List, [], ◌∷◌, ◌++◌, length, arith, refl, ap, sym, subst, ◌==◌, append_assoc}
+use Rattle.std.proofs.Common.{◌≡◌, inl, inr, ℕ, ◌<◌, ◌≤◌, Bool, true, false, not, List, [], ◌∷◌, ◌++◌, length, arith, refl, ap, sym, subst, ◌==◌, append_assoc}
 use Rattle.std.specs.Prelude.{if◌then◌else◌, nat_lt, ◌&&◌}
-use Rattle.std.proofs.lemmas.Bool.{and_from, eq-eqb, eqb-true, lt-ltb, false≢true, cases_lt, or_cases}
-use Rattle.std.proofs.lemmas.Bool.Decides.{nat_tests}
+use Rattle.std.proofs.lemmas.Bool.{and_from, eq-eqb, eqb-true, lt-ltb, false≢true, or_cases}
 use Rattle.std.proofs.lemmas.List.{length-append}
 use Rattle.te_model.specs.declared.network.Network.{Network}
-use Rattle.te_model.specs.Counting.{sum_below}
-use Rattle.te_model.specs.Network.{is_well_formed, node_count, link_count, tail_of, head_of}
+use Rattle.te_model.specs.Network.{node_count, link_count, tail_of, head_of}
 use Rattle.te_model.specs.Path.{has_number, is_distinct, chains, nodes_visited, is_path}
 use Rattle.te_model.specs.Flow.{IsFlow, outflow, inflow, amount_at}
 use Rattle.te_model.specs.Laws.{LinksJoinNodes}
-use Rattle.te_model.proofs.SoundLinks.{sound_links}
 use Rattle.te_model.proofs.Conditionals.{if_other, if_some, if_true}
 use Rattle.te_model.proofs.Sums.{sum_below-some, sum_below-term}
 use Rattle.routing.specs.Decomposition.{IsNumbering, IsAcyclicFlow, HasFlowOut, IsLowestLink, IsLowestPath}

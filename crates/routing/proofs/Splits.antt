@@ -1,5 +1,5 @@
 -- What the splits of a routing give.
-use Rattle.std.proofs.Common.{◌≡◌, ℕ, ◌<◌, ◌≤◌, Bool, true, false, ◌&&◌, List, length, arith, subst, if◌then◌else◌, All}
+use Rattle.std.proofs.Common.{◌≡◌, ℕ, ◌<◌, ◌≤◌, Bool, true, false, ◌&&◌, List, [], ◌∷◌, length, arith, subst, if◌then◌else◌, All}
 use Rattle.std.specs.Prelude.{nat_le, ◌==◌, IsTrue}
 use Rattle.std.specs.List.{list_all}
 use Rattle.std.proofs.lemmas.Bool.{and_parts, and_from, eqb-true, eq-eqb, le-leb, leb-true}
@@ -63,3 +63,11 @@ share_flow net routes p routing below =
     let split = All-get_or (IsPathSplit net) routes p no_routes below routing in
     let sound = all_to_tests (λ s. is_path net r.pair.src r.pair.dst s.links) (λ s. IsTrue (is_path net r.pair.src r.pair.dst s.links)) (λ s e. e) r.paths split.paths in
     subst (λ a. IsFlow net (share routes p) a r.pair.src r.pair.dst) split.whole (weights_flow net r.pair.src r.pair.dst r.paths sound)
+
+-- a path split has a path
+pub split_some : (net : Network) (r : PairRoutes) → IsPathSplit net r → 0 < length r.paths
+split_some net r split = go r.paths split.whole
+  where
+    go : (paths : List PathShare) → total_weight paths ≡ SHARE_UNIT → 0 < length paths
+    go [] whole = let none : 0 ≡ 1000000 = whole in absurd (omega (arith, none))
+    go (s ∷ ss) whole = omega arith

@@ -1,8 +1,7 @@
 -- Weights that are taken off the links of a path.
-use Rattle.std.proofs.Common.{◌≡◌, inl, inr, ℕ, zero, suc, ◌+◌, ◌<◌, ◌≤◌, Bool, true, false, not, ◌||◌, ◌-◌, ◌≢◌, min, List, [], ◌∷◌, length, take, slice_index, slice_set, get_or-set_same, get_or-set_other, arith, refl, ap, sym, ◌∙◌, subst, ◌==◌, All}
+use Rattle.std.proofs.Common.{◌≡◌, inl, inr, ℕ, suc, ◌+◌, ◌<◌, ◌≤◌, Bool, true, false, not, ◌-◌, ◌≢◌, min, List, [], ◌∷◌, length, take, slice_index, slice_set, get_or-set_same, get_or-set_other, arith, refl, ap, sym, ◌∙◌, subst, ◌==◌, All}
 use Rattle.std.specs.Prelude.{if◌then◌else◌}
-use Rattle.std.proofs.lemmas.Bool.{and_from, and_parts, cases_lt, eq-eqb, eqb-true, false≢true, or_cases, or_left, or_right}
-use Rattle.std.proofs.lemmas.List.Elements.{All-cons, All-nil}
+use Rattle.std.proofs.lemmas.Bool.{and_from, cases_lt, eq-eqb, eqb-true, false≢true, or_cases}
 use Rattle.te_model.specs.declared.network.Network.{Network}
 use Rattle.te_model.specs.Network.{link_count, tail_of, head_of}
 use Rattle.te_model.specs.Path.{has_number, is_distinct, amount_on}

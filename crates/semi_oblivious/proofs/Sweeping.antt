@@ -1,5 +1,5 @@
 -- Routings over the fixed paths by sweeps and descents.
-use Rattle.std.proofs.Common.{inl, inr, ◌≡◌, ◌⊎◌, ℕ, zero, suc, ◌+◌, ◌<◌, ◌≤◌, List, [], ◌∷◌, ◌++◌, length, map, get_or, arith, ap, refl, sym, ◌∙◌, subst, All}
+use Rattle.std.proofs.Common.{inl, inr, ◌≡◌, ◌⊎◌, ℕ, ◌+◌, ◌<◌, ◌≤◌, List, [], ◌∷◌, ◌++◌, length, map, get_or, arith, ap, refl, sym, ◌∙◌, subst, All}
 use Rattle.std.specs.Prelude.{IsTrue, slice_index_or}
 use Rattle.std.proofs.lemmas.List.{get_or-map, length-append}
 use Rattle.std.proofs.lemmas.List.Elements.{All-get_or, All-nil, All-push}
@@ -12,7 +12,9 @@ use Rattle.routing.specs.Merge.{HasLinks}
 use Rattle.routing.specs.Routes.{HasFewPaths, IsRoutingOf}
 use Rattle.routing.specs.Utilisation.{parts}
 use Rattle.local_search.specs.Moves.{HaveFewTogether, UsesOnly}
-use Rattle.local_search.proofs.MovedRoutings.{same_count, same_pair}
+use Rattle.routing.proofs.InOrder.{same_count}
+use Rattle.routing.proofs.OwnPaths.{has_inside}
+use Rattle.local_search.proofs.MovedRoutings.{same_pair}
 use Rattle.rate_sweeps.specs.declared.descent.Descent.{Descent}
 use Rattle.rate_sweeps.specs.declared.mix.Sweep.{Sweep}
 use Rattle.rate_sweeps.specs.Descents.{BothKeep, IsTurn}
@@ -57,12 +59,6 @@ ways_keep fixed before routes offered keeps count among only = λ p links has. e
   | inl old ↦ keeps p links old
   | inr new ↦ subst (HasLinks (routes_at fixed p).paths) new.1 (among p (omega (arith, new.0, count)))
 ]
-
--- a pair that has a path is one of the routing
-has_inside : (routes : List PairRoutes) (p : ℕ) (links : List ℕ) → HasLinks (routes_at routes p).paths links → p < length routes
-has_inside [] p links (k, below, at) = absurd (omega arith)
-has_inside (r ∷ rs) zero links has = omega arith
-has_inside (r ∷ rs) (suc p) links has = let inside = has_inside rs p links has in omega (arith, inside)
 
 -- the one that is taken of a routing over the fixed paths and one that sweeps over them make, where it is no worse than the first
 pub taken_over : (net : Network) (demand : List ℕ) (fixed best mixed taken : List PairRoutes) (sweeps : List Sweep) → IsOverFixed net demand fixed best →

@@ -15,7 +15,7 @@ use Rattle.local_search.specs.Pairs.{ArePairs, HaveHolders}
 use Rattle.local_search.specs.Search.{loads_moved}
 use Rattle.local_search.proofs.Holders.{holders_stay}
 use Rattle.local_search.proofs.MovedLoads.{loads_small}
-use Rattle.local_search.proofs.MovedRoutings.{same_count}
+use Rattle.routing.proofs.InOrder.{same_count}
 use Rattle.local_search.proofs.Settled.{settled_few, settled_more}
 use Rattle.local_search.proofs.settling.settle.Goals as goal
 

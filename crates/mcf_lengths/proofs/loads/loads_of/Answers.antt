@@ -5,7 +5,7 @@ use Rattle.te_model.specs.declared.network.Link.{Link}
 use Rattle.te_model.specs.Path.{amount_on}
 use Rattle.te_model.proofs.Lists.{written_whole}
 use Rattle.multiplicative_lengths.proofs.Loading.{loads_done, loads_more, loads_none}
-use Rattle.mcf_lengths.specs.Rounds.{links_in}
+use Rattle.rate_sweeps.specs.Sweeps.{links_in}
 use Rattle.mcf_lengths.proofs.LeastPaths.{no_path}
 use Rattle.mcf_lengths.proofs.loads.loads_of.Goals as goal
 

@@ -1,6 +1,6 @@
 use Rattle.std.proofs.Common.{◌^◌, map, slice_index}
 use Rattle.multiplicative_lengths.proofs.Loading.{LoadsSoFar}
-use Rattle.mcf_lengths.specs.Rounds.{links_in}
+use Rattle.rate_sweeps.specs.Sweeps.{links_in}
 use Rattle.mcf_lengths.proofs.loads.loads_of.Given as goal
 
 abbrev pub invariant-loop-p : goal.invariant-loop-p

@@ -4,7 +4,7 @@ use Rattle.te_model.specs.declared.route.Pair.{Pair}
 use Rattle.shortest_path.specs.Paths.{HasPath, IsLeastPath}
 use Rattle.shortest_path.proofs.Sound.{sound}
 use Rattle.scheme.specs.Reach.{no_pair, pair_at}
-use Rattle.mcf_lengths.specs.Rounds.{links_in}
+use Rattle.rate_sweeps.specs.Sweeps.{links_in}
 use Rattle.mcf_lengths.proofs.LeastPaths.{PathsSoFar, paths_more}
 use Rattle.mcf_lengths.proofs.Marking.{ways_read}
 use Rattle.mcf_lengths.proofs.paths.least_paths.Goals as goal

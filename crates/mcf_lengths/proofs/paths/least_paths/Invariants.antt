@@ -1,5 +1,5 @@
 use Rattle.std.proofs.Common.{map}
-use Rattle.mcf_lengths.specs.Rounds.{links_in}
+use Rattle.rate_sweeps.specs.Sweeps.{links_in}
 use Rattle.mcf_lengths.proofs.LeastPaths.{PathsSoFar}
 use Rattle.mcf_lengths.proofs.paths.least_paths.Given as goal
 

@@ -1,4 +1,4 @@
-use Rattle.std.proofs.Common.{◌≡◌, ℕ, List, Some, None, Vec, Global, sym, subst}
+use Rattle.std.proofs.Common.{ℕ, List, Some, None, Vec, Global, sym, subst}
 use Rattle.std.specs.Prelude.{MatchOption, Option}
 use Rattle.shortest_path.specs.Least.{IsLeastWalk, LeadsTo}
 use Rattle.shortest_path.specs.Links.{every_link}

@@ -7,7 +7,8 @@ use Rattle.multiplicative_lengths.specs.Loads.{loads_of}
 use Rattle.multiplicative_lengths.proofs.Loading.{length-loads_of}
 use Rattle.multiplicative_lengths.proofs.Multiplying.{grown_small}
 use Rattle.mcf_lengths.specs.declared.round.FlowRound.{FlowRound}
-use Rattle.mcf_lengths.specs.Rounds.{IsFlowRound, links_in, loads_in}
+use Rattle.rate_sweeps.specs.Sweeps.{links_in}
+use Rattle.mcf_lengths.specs.Rounds.{IsFlowRound, loads_in}
 use Rattle.mcf_lengths.proofs.LeastPaths.{least_distinct, least_links}
 use Rattle.mcf_lengths.proofs.Lengthening.{FlowSoFar, flow_done, flow_more, flow_none}
 use Rattle.mcf_lengths.proofs.rounds.make_rounds.Goals as goal

@@ -1,5 +1,6 @@
 use Rattle.std.proofs.Common.{◌≡◌, map, take}
-use Rattle.mcf_lengths.specs.Rounds.{links_in, paths_of_pair}
+use Rattle.rate_sweeps.specs.Sweeps.{links_in}
+use Rattle.mcf_lengths.specs.Rounds.{paths_of_pair}
 use Rattle.mcf_lengths.proofs.split.paths_of_pair.Given as goal
 
 abbrev pub invariant-loop-round : goal.invariant-loop-round

@@ -1,4 +1,4 @@
-use Rattle.std.proofs.Common.{◌≤◌, List, All, arith, sym, ◌∙◌, subst}
+use Rattle.std.proofs.Common.{List, All, arith, sym, ◌∙◌, subst}
 use Rattle.routing.specs.Routes.{HasFewPaths, IsRoutingOf}
 use Rattle.routing.proofs.InOrder.{routes_count}
 use Rattle.rate_sweeps.specs.declared.mix.Sweep.{Sweep}

@@ -6,7 +6,8 @@ use Rattle.routing.specs.declared.routes.Routing.{Routing}
 use Rattle.rate_sweeps.specs.declared.descent.Descent.{Descent}
 use Rattle.rate_sweeps.specs.Shifts.{UsesOnlyWays}
 use Rattle.rate_sweeps.specs.Sweeps.{links_in}
-use Rattle.rate_sweeps.proofs.Turning.{both_turned, made_routing, only_through, same_count, turned}
+use Rattle.routing.proofs.InOrder.{same_count}
+use Rattle.rate_sweeps.proofs.Turning.{both_turned, made_routing, only_through, turned}
 use Rattle.rate_sweeps.proofs.descent.take_turn.Goals as goal
 use Rattle.rate_sweeps.proofs.descent.take_turn.Goals.{In_ok-routing, Joined-pace-old, then-most-least+in_ok-best, else-most-least, then-pace-old+in_ok-routing-2, else-pace-old}
 

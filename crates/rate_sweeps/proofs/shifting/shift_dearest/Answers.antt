@@ -9,7 +9,8 @@ use Rattle.te_model.proofs.Chains.{path_links}
 use Rattle.routing.proofs.Splits.{splits_of}
 use Rattle.rate_sweeps.specs.Shifts.{IsShifted}
 use Rattle.rate_sweeps.specs.Sweeps.{HaveLinks, links_in}
-use Rattle.rate_sweeps.proofs.PathLinks.{split_on_links, split_some}
+use Rattle.routing.proofs.Splits.{split_some}
+use Rattle.rate_sweeps.proofs.PathLinks.{split_on_links}
 use Rattle.rate_sweeps.proofs.Passed.{ShiftedSoFar, left_split, passed_few, passed_only, passed_pairs, passed_same, passed_shifted, passed_splits}
 use Rattle.rate_sweeps.proofs.shifting.shift_dearest.Goals as goal
 use Rattle.rate_sweeps.proofs.shifting.shift_dearest.Goals.{After-index-offered-p, After-new, then-demand-p-gt0+in_ok-shift_pair, else-demand-p-gt0}

@@ -1,7 +1,7 @@
 use Rattle.std.proofs.Common.{arith, sym, subst, ◌∙◌}
 use Rattle.routing.specs.Routes.{AreDemands}
 use Rattle.routing.proofs.InOrder.{routes_count}
-use Rattle.local_search.proofs.MovedRoutings.{same_count}
+use Rattle.routing.proofs.InOrder.{same_count}
 use Rattle.semi_oblivious.proofs.Sweeping.{few_kept, over_routing, settled_keep}
 use Rattle.semi_oblivious.proofs.semi.SemiScheme.route.Goals as goal
 
