@@ -31,9 +31,3 @@ abbrev pub IsSetWithin : ℕ → DemandSet → Type 0
 IsSetWithin pairs All = ⊤
 IsSetWithin pairs (Margin num den base) = IsTrue (has_margin_numbers (Margin num den base)) × AreDemands pairs base.demand
 IsSetWithin pairs (Box lower upper) = AreBounds pairs lower.demand upper.demand
-
--- a set of the first format, which has no boxes
-abbrev pub IsNoBox : DemandSet → Type 0
-IsNoBox All = ⊤
-IsNoBox (Margin num den base) = ⊤
-IsNoBox (Box lower upper) = ⊥

@@ -19,13 +19,14 @@ use Rattle.te_model.specs.Inequalities.{keeps_bounds, pays_weights, weigh, Block
 use Rattle.te_model.specs.Validity.{AscendByLink, IsValid, IsValidBlock}
 use Rattle.te_model.proofs.Sums.{sum_below-zero}
 use Rattle.te_model.proofs.ValidParts.{valid_parts}
-use Rattle.te_model.proofs.WellFormed.{well_formed_parts}
-use Rattle.best_blocks.specs.Conditions.{IsNoBox, IsRoutingWithin, IsSetWithin}
+use Rattle.te_model.proofs.WellFormed.{few_nodes}
+use Rattle.best_blocks.specs.Conditions.{IsRoutingWithin, IsSetWithin}
 use Rattle.best_blocks.specs.Need.{HasNumbers, IsGreatestNeed}
 use Rattle.best_blocks.specs.Sharing.{HasShare}
 use Rattle.best_blocks.proofs.BlockValid.{best_valid}
 use Rattle.best_blocks.proofs.Holding.{best_holds}
-use Rattle.ratio_certificate.specs.Made.{HasBlock, IsMade, IsOwnBest, IsWithinStart}
+use Rattle.ratio_certificate.specs.Form.{IsFormatFor}
+use Rattle.ratio_certificate.specs.Made.{HasBlock, IsMadeIn, IsOwnBest, IsWithinStart}
 use Rattle.ratio_certificate.specs.Polished.{IsPolished}
 use Rattle.ratio_certificate.specs.Weighting.{AreWeights}
 use Rattle.ratio_certificate.proofs.HeadValid.{made_head}
@@ -78,36 +79,33 @@ empty_holds h e none = record {
     no_bounds (Box lower upper) = nothing _ _ (length h.routes)
 
 -- made blocks are valid
-pub blocks_valid : (h : Head) (blocks : List Block) → h.format ≡ 1 → is_well_formed h.network ≡ true → IsRoutingWithin h.network h.routes →
+pub blocks_valid : (h : Head) (blocks : List Block) → node_count h.network ≤ (limits_of h.format).nodes → is_well_formed h.network ≡ true → IsRoutingWithin h.network h.routes →
     AreMadeBlocks h.network h.routes h.set blocks → All (IsValidBlock h) blocks
-blocks_valid h blocks first formed within are k d below =
+blocks_valid h blocks fits formed within are k d below =
     let net = h.network in
     let b = get_or blocks k d in
-    let fits : node_count net ≤ (limits_of h.format).nodes = subst (λ f. node_count net ≤ (limits_of f).nodes) (sym first) (well_formed_parts net formed).nodes in
     let weights = are.weights k d below in
     best_valid h b.link b.weights b formed within fits (are.below k d below) weights.count
     (All-from_get_or (λ w. w ≤ 2 ^ 28) b.weights 0 (λ i inside. weights.small i (omega (arith, inside, weights.count))))
     (are.best k d below).1
 
 abbrev head_of_set : Network → List PairRoutes → DemandSet → Head
-head_of_set net routes wanted = record { format = 1; network = net; routes = routes; set = wanted; ratio = 0 }
+head_of_set net routes wanted = record { format = 2; network = net; routes = routes; set = wanted; ratio = 0 }
 
 pub blocks_numbers : (net : Network) (routes : List PairRoutes) (wanted : DemandSet) (blocks : List Block) → is_well_formed net ≡ true →
     IsRoutingWithin net routes → AreMadeBlocks net routes wanted blocks → All (HasNumbers net) blocks
 blocks_numbers net routes wanted blocks formed within are k d below =
-    let valid = blocks_valid (head_of_set net routes wanted) blocks refl formed within are k d below in
+    let valid = blocks_valid (head_of_set net routes wanted) blocks (few_nodes net formed) formed within are k d below in
     record { numbers = valid.numbers; small = valid.small; weights = (are.weights k d below).count }
 
-pub certificate_valid : (c : Certificate) → c.head.format ≡ 1 → is_well_formed c.head.network ≡ true → 1 ≤ link_count c.head.network → IsRoutingWithin c.head.network c.head.routes →
-    IsSetWithin (length c.head.routes) c.head.set → IsNoBox c.head.set → AreMadeBlocks c.head.network c.head.routes c.head.set c.blocks →
+pub certificate_valid : (c : Certificate) → IsFormatFor c.head.network c.head.set c.head.format → is_well_formed c.head.network ≡ true → 1 ≤ link_count c.head.network → IsRoutingWithin c.head.network c.head.routes →
+    IsSetWithin (length c.head.routes) c.head.set → AreMadeBlocks c.head.network c.head.routes c.head.set c.blocks →
     c.head.ratio < 10 ^ 19 → IsValid c
-certificate_valid c first formed some within set no_box are small =
-    let net = c.head.network in
-    let few : link_count net ≤ (limits_of c.head.format).links = subst (λ f. link_count net ≤ (limits_of f).links) (sym first) (well_formed_parts net formed).links in
+certificate_valid c format formed some within set are small =
     (valid_parts c).1 (record {
-      head = made_head c.head first formed some within set no_box small;
-      count = omega (arith, are.few, few);
-      blocks = blocks_valid c.head c.blocks first formed within are;
+      head = made_head c.head format formed some within set small;
+      count = omega (arith, are.few, format.links);
+      blocks = blocks_valid c.head c.blocks format.nodes formed within are;
       ascending = are.ascending;
     })
 
@@ -129,28 +127,28 @@ certificate_holds c within are greatest e below =
           cc))
     ]
 
-abbrev pub certificate_of : Network → List PairRoutes → DemandSet → ℕ → List Block → Certificate
-certificate_of net routes wanted ratio blocks = record {
-  head = record { format = 1; network = net; routes = routes; set = wanted; ratio = ratio };
+abbrev pub certificate_of : ℕ → Network → List PairRoutes → DemandSet → ℕ → List Block → Certificate
+certificate_of format net routes wanted ratio blocks = record {
+  head = record { format = format; network = net; routes = routes; set = wanted; ratio = ratio };
   blocks = blocks;
 }
 
 -- a certificate of copies of a network and a routing
-pub made_certificate : (net : Network) (routes : List PairRoutes) (wanted : DemandSet) (blocks : List Block) (ratio : ℕ) (n : Network) (r : List PairRoutes) (bs : List Block) →
+pub made_certificate : (format : ℕ) (net : Network) (routes : List PairRoutes) (wanted : DemandSet) (blocks : List Block) (ratio : ℕ) (n : Network) (r : List PairRoutes) (bs : List Block) →
     n ≡ net → r ≡ routes → bs ≡ blocks → is_well_formed net ≡ true → 1 ≤ link_count net → IsRoutingWithin net routes → IsSetWithin (length routes) wanted →
-    IsNoBox wanted → AreMadeBlocks net routes wanted blocks → All (IsWithinStart net routes wanted) blocks → IsPolished net routes wanted blocks →
-    ratio < 10 ^ 19 → IsGreatestNeed net blocks ratio → IsMade net routes wanted (certificate_of n r wanted ratio bs)
-made_certificate net routes wanted blocks ratio n r bs is_n is_r is_bs formed some within set no_box are starting polished small greatest =
-    subst (λ (x : Network). IsMade net routes wanted (certificate_of x r wanted ratio bs)) (sym is_n)
-    (subst (λ (x : List PairRoutes). IsMade net routes wanted (certificate_of net x wanted ratio bs)) (sym is_r)
-    (subst (λ (x : List Block). IsMade net routes wanted (certificate_of net routes wanted ratio x)) (sym is_bs)
+    IsFormatFor net wanted format → AreMadeBlocks net routes wanted blocks → All (IsWithinStart net routes wanted) blocks → IsPolished net routes wanted blocks →
+    ratio < 10 ^ 19 → IsGreatestNeed net blocks ratio → IsMadeIn format net routes wanted (certificate_of format n r wanted ratio bs)
+made_certificate format net routes wanted blocks ratio n r bs is_n is_r is_bs formed some within set room are starting polished small greatest =
+    subst (λ (x : Network). IsMadeIn format net routes wanted (certificate_of format x r wanted ratio bs)) (sym is_n)
+    (subst (λ (x : List PairRoutes). IsMadeIn format net routes wanted (certificate_of format net x wanted ratio bs)) (sym is_r)
+    (subst (λ (x : List Block). IsMadeIn format net routes wanted (certificate_of format net routes wanted ratio x)) (sym is_bs)
     (record {
-      format = refl;
+      format_is = refl;
       network = refl;
       routes_are = refl;
       set_is = refl;
-      valid = certificate_valid (certificate_of net routes wanted ratio blocks) refl formed some within set no_box are small;
-      holds = certificate_holds (certificate_of net routes wanted ratio blocks) within are greatest;
+      valid = certificate_valid (certificate_of format net routes wanted ratio blocks) room formed some within set are small;
+      holds = certificate_holds (certificate_of format net routes wanted ratio blocks) within are greatest;
       best = are.best;
       starting = starting;
       polished = polished;

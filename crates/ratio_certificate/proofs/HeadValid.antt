@@ -1,5 +1,5 @@
 -- The head of a made certificate is valid.
-use Rattle.std.proofs.Common.{◌≡◌, ℕ, zero, suc, ◌+◌, ◌-◌, ◌*◌, ◌^◌, ◌<◌, ◌≤◌, ◌⊎◌, inl, inr, map, Bool, true, ◌&&◌, List, [], ◌∷◌, None, length, arith, refl, ap, sym, subst, get_or, nat_lt, ◌==◌, sum_by}
+use Rattle.std.proofs.Common.{◌≡◌, ℕ, zero, suc, ◌+◌, ◌-◌, ◌*◌, ◌^◌, ◌<◌, ◌≤◌, ◌⊎◌, inl, inr, map, Bool, true, ◌&&◌, List, [], ◌∷◌, None, length, arith, refl, ap, sym, subst, get_or, nat_lt, ◌==◌, sum_by, slice_index}
 use Rattle.std.specs.Prelude.{All, IsTrue}
 use Rattle.std.specs.List.{list_all}
 use Rattle.std.proofs.lemmas.Bool.{and_parts, and_from, or_cases, ltb-true, lt-ltb, le-leb, eqb-true, eq-eqb, ne_eqb}
@@ -14,7 +14,7 @@ use Rattle.te_model.specs.declared.route.PairRoutes.{PairRoutes}
 use Rattle.te_model.specs.declared.certificate.Head.{Head}
 use Rattle.te_model.specs.declared.demand.DemandSet.{DemandSet}
 use Rattle.te_model.specs.declared.demand.DemandSet.TheVariants.{All as AllMatrices, Margin, Box}
-use Rattle.te_model.specs.declared.limits.TheConstants.{FORMAT_1}
+use Rattle.te_model.specs.declared.limits.Limits.{Limits}
 use Rattle.te_model.specs.declared.units.TheConstants.{SHARE_UNIT}
 use Rattle.te_model.specs.Counting.{unless}
 use Rattle.te_model.specs.Formats.{limits_of}
@@ -25,7 +25,7 @@ use Rattle.te_model.proofs.Chains.{walk_links}
 use Rattle.te_model.proofs.FewPairs.{ascending_pairs_few}
 use Rattle.te_model.specs.Path.{chains, is_path, is_distinct, nodes_visited, routes_at, no_routes, source_of, destination_of}
 use Rattle.te_model.specs.PathRouting.{IsPathSplit}
-use Rattle.te_model.specs.Shape.{is_word, are_words, is_shaped_link, is_shaped_network, is_shaped_path, is_shaped_pair, is_shaped_set, is_shaped_head}
+use Rattle.te_model.specs.Shape.{is_word, are_words, is_row_of, is_shaped_link, is_shaped_network, is_shaped_path, is_shaped_pair, is_shaped_set}
 use Rattle.te_model.specs.Validity.{pair_below, fault_at, rule_fault, is_sound_pair, has_sound_paths, has_ascending_paths, has_whole_weight, with_first, has_margin_numbers, has_pair_bounds, IsValidHead}
 use Rattle.te_model.proofs.Searches.{first_below_none, all_below_at}
 use Rattle.te_model.proofs.SoundLinks.{sound_links}
@@ -33,15 +33,27 @@ use Rattle.te_model.proofs.Tests.{all_to_tests}
 use Rattle.te_model.proofs.PathRoutings.{path_routing}
 use Rattle.te_model.proofs.WellFormed.{links_join}
 use Rattle.best_blocks.proofs.Pushed.{all_tests}
-use Rattle.best_blocks.specs.Conditions.{IsNoBox, IsRoutingWithin, IsSetWithin}
+use Rattle.best_blocks.specs.Conditions.{IsRoutingWithin, IsSetWithin}
+use Rattle.ratio_certificate.specs.Form.{HasForm, IsFormatFor}
 use Rattle.te_model.proofs.WellFormed.{few_links, few_nodes, well_formed_parts}
 use Rattle.shortest_path.proofs.PathLengths.{path_short}
 
-shaped_network : (net : Network) → is_well_formed net ≡ true → 1 ≤ link_count net → is_shaped_network FORMAT_1 net ≡ true
-shaped_network net formed some =
+-- the limits of a format: a path visits each node at most once, and there are pairs of each two nodes
+pub record AreRoomy (limits : Limits) : Type 0 where
+  pub hops : limits.hops + 1 ≡ limits.nodes
+  pub pairs : limits.pairs ≡ limits.nodes * (limits.nodes - 1)
+  pub paths : limits.paths ≡ 32
+
+roomy : (format : ℕ) → (format ≡ 1) ⊎ (format ≡ 2) → AreRoomy (limits_of format)
+roomy format known = elim known [
+  | inl one ↦ subst (λ f. AreRoomy (limits_of f)) (sym one) (record { hops = refl; pairs = refl; paths = refl })
+  | inr two ↦ subst (λ f. AreRoomy (limits_of f)) (sym two) (record { hops = refl; pairs = refl; paths = refl })
+]
+
+shaped_network : (limits : Limits) (net : Network) → is_well_formed net ≡ true → 1 ≤ link_count net → node_count net ≤ limits.nodes →
+    link_count net ≤ limits.links → is_shaped_network limits net ≡ true
+shaped_network limits net formed some few few_links =
     let two = (well_formed_parts net formed).two_nodes in
-    let few = (well_formed_parts net formed).nodes in
-    let few_links = (well_formed_parts net formed).links in
     let links : list_all is_shaped_link net.links ≡ true =
     all_tests is_shaped_link net.links no_link (λ h below. let is = sound_links net formed h below in grind (arith, nat_tests))
     in
@@ -57,15 +69,14 @@ chain_some : (net : Network) (s t : ℕ) (links : List ℕ) → (s ≡ t → ⊥
 chain_some net s t [] apart chain = absurd (apart (eqb-true s t chain))
 chain_some net s t (h ∷ hs) apart chain = omega arith
 
-shaped_path : (net : Network) (s t : ℕ) (p : PathShare) → is_well_formed net ≡ true → s < node_count net → (s ≡ t → ⊥) → p.weight ≤ SHARE_UNIT →
-    is_path net s t p.links ≡ true → is_shaped_path FORMAT_1 p ≡ true
-shaped_path net s t p formed inside apart light path =
+shaped_path : (limits : Limits) (net : Network) (s t : ℕ) (p : PathShare) → AreRoomy limits → node_count net ≤ limits.nodes → is_well_formed net ≡ true →
+    s < node_count net → (s ≡ t → ⊥) → p.weight ≤ SHARE_UNIT → is_path net s t p.links ≡ true → is_shaped_path limits p ≡ true
+shaped_path limits net s t p room few formed inside apart light path =
     let both = and_parts (chains net s t p.links) (is_distinct (nodes_visited net s p.links)) path in
     let short = path_short net s t p.links (links_join net formed) inside path in
-    let few = (well_formed_parts net formed).nodes in
     let some = chain_some net s t p.links apart both.0 in
     let words = chain_links net s t p.links (few_links net formed) both.0 in
-    let hops : length p.links ≤ 63 = omega arith in
+    let hops : length p.links ≤ limits.hops = omega (arith, short, few, room.hops) in
     let weight : p.weight < 2 ^ 64 = omega arith in
     grind (arith, nat_tests)
 
@@ -76,18 +87,20 @@ some_paths : (paths : List PathShare) → sum_by (λ s. s.weight) paths ≡ SHAR
 some_paths [] whole = let none : 0 ≡ 1000000 = whole in absurd (omega (arith, none))
 some_paths (s ∷ ss) whole = omega arith
 
-shaped_pair : (net : Network) (routes : List PairRoutes) → is_well_formed net ≡ true → IsRoutingWithin net routes → (p : ℕ) → p < length routes →
-    is_shaped_pair FORMAT_1 (routes_at routes p) ≡ true
-shaped_pair net routes formed within p below =
+shaped_pair : (limits : Limits) (net : Network) (routes : List PairRoutes) → AreRoomy limits → node_count net ≤ limits.nodes → is_well_formed net ≡ true →
+    IsRoutingWithin net routes → (p : ℕ) → p < length routes → is_shaped_pair limits (routes_at routes p) ≡ true
+shaped_pair limits net routes room fits formed within p below =
     let r = routes_at routes p in
     let split = All-get_or (IsPathSplit net) routes p no_routes below within.splits in
     let ends = within.nodes p below in
     let few = few_nodes net formed in
     let some = some_paths r.paths split.whole in
-    let few_paths : length r.paths ≤ 32 = All-get_or (λ r. length r.paths ≤ 32) routes p no_routes below within.few_paths in
-    let paths : list_all (is_shaped_path FORMAT_1) r.paths ≡ true =
-    all_tests (is_shaped_path FORMAT_1) r.paths no_path_share (λ k inside.
-    shaped_path net r.pair.src r.pair.dst (get_or r.paths k no_path_share) formed ends.0 (within.apart p below)
+    let few_paths : length r.paths ≤ limits.paths =
+    omega (arith, All-get_or (λ r. length r.paths ≤ 32) routes p no_routes below within.few_paths, room.paths)
+    in
+    let paths : list_all (is_shaped_path limits) r.paths ≡ true =
+    all_tests (is_shaped_path limits) r.paths no_path_share (λ k inside.
+    shaped_path limits net r.pair.src r.pair.dst (get_or r.paths k no_path_share) room fits formed ends.0 (within.apart p below)
     (omega (arith, get_or-le-sum_by (λ s. s.weight) r.paths k no_path_share inside, split.whole))
     (All-get_or (λ s. IsTrue (is_path net r.pair.src r.pair.dst s.links)) r.paths k no_path_share inside split.paths))
     in
@@ -95,10 +108,26 @@ shaped_pair net routes formed within p below =
     let dst : r.pair.dst < 2 ^ 64 = omega (arith, ends.1, few) in
     grind (arith, nat_tests)
 
-shaped_set : (pairs : ℕ) (wanted : DemandSet) → IsSetWithin pairs wanted → IsNoBox wanted → is_shaped_set FORMAT_1 pairs wanted ≡ true
-shaped_set pairs AllMatrices within first = refl
-shaped_set pairs (Box lower upper) within first = absurd first
-shaped_set pairs (Margin num den base) within first =
+-- the limits of a format are of its number
+format_of_limits : (format : ℕ) → (format ≡ 1) ⊎ (format ≡ 2) → (limits_of format).format ≡ format
+format_of_limits format known = elim known [
+  | inl one ↦ subst (λ f. (limits_of f).format ≡ f) (sym one) refl
+  | inr two ↦ subst (λ f. (limits_of f).format ≡ f) (sym two) refl
+]
+
+-- bounds of at most 2^52, one for each pair
+shaped_bounds : (pairs : ℕ) (bounds : List ℕ) → length bounds ≡ pairs → ((p : ℕ) → p < pairs → slice_index bounds p ≤ 2 ^ 52) → is_row_of pairs bounds ≡ true
+shaped_bounds pairs bounds count small =
+    and_from _ _ (eq-eqb _ _ count) (all_tests is_word bounds 0 (λ k below. lt-ltb _ _ (omega (arith, small k (omega (arith, below, count))))))
+
+shaped_set : (limits : Limits) (pairs : ℕ) (wanted : DemandSet) → IsSetWithin pairs wanted → HasForm limits.format wanted → is_shaped_set limits pairs wanted ≡ true
+shaped_set limits pairs AllMatrices within form = refl
+shaped_set limits pairs (Box lower upper) within form =
+    let low = shaped_bounds pairs lower.demand within.lower_count (λ p below. let each = within.each p below in omega (arith, each.0, each.1)) in
+    let high = shaped_bounds pairs upper.demand within.upper_count (λ p below. (within.each p below).1) in
+    and_from _ _ (and_from _ _ (eq-eqb limits.format 2 form) low) high
+shaped_set limits pairs (Margin num den base) within form =
+    let first = eq-eqb limits.format 1 form in
     let numbers = within.0 in
     let count = within.1.count in
     let units = base.demand in
@@ -108,12 +137,14 @@ shaped_set pairs (Margin num den base) within first =
     grind (arith, nat_tests)
 
 -- pairs that ascend are at most as many as the pairs of two different nodes
-few_pairs : (net : Network) (routes : List PairRoutes) → is_well_formed net ≡ true → IsRoutingWithin net routes → length routes ≤ 4032
-few_pairs net routes formed within =
-    let few = (well_formed_parts net formed).nodes in
+few_pairs : (limits : Limits) (net : Network) (routes : List PairRoutes) → AreRoomy limits → node_count net ≤ limits.nodes → IsRoutingWithin net routes →
+    length routes ≤ limits.pairs
+few_pairs limits net routes room few within =
     let bound = ascending_pairs_few (node_count net) pairs each ascend in
-    let product : node_count net * (node_count net - 1) ≤ 64 * 63 = mul-le (node_count net) (node_count net - 1) 64 63 few (omega (arith, few)) in
-    omega (arith, bound, product, count)
+    let product : node_count net * (node_count net - 1) ≤ limits.nodes * (limits.nodes - 1) =
+    mul-le (node_count net) (node_count net - 1) limits.nodes (limits.nodes - 1) few (omega (arith, few))
+    in
+    omega (arith, bound, product, count, room.pairs)
   where
     pairs : List Pair
     pairs = map (λ r. r.pair) routes
@@ -175,18 +206,21 @@ pair_bounds pairs (Box lower upper) within p below = let each = within.each p be
 no_fault : (r n : ℕ) (test : ℕ → Bool) → ((k : ℕ) → k < n → test k ≡ true) → rule_fault r n test ≡ None
 no_fault r n test each = first_below_none n (λ k. unless (test k) (fault_at r k)) (λ k below. ap (λ b. unless b (fault_at r k)) (each k below))
 
--- a head of the first format whose ratio is within the limit
-pub made_head : (h : Head) → h.format ≡ 1 → is_well_formed h.network ≡ true → 1 ≤ link_count h.network → IsRoutingWithin h.network h.routes →
-    IsSetWithin (length h.routes) h.set → IsNoBox h.set → h.ratio < 10 ^ 19 → IsValidHead h
-made_head h format formed some within wanted no_box small =
+-- a head whose format has room for its network and sets of its form, and whose ratio is within the limit
+pub made_head : (h : Head) → IsFormatFor h.network h.set h.format → is_well_formed h.network ≡ true → 1 ≤ link_count h.network → IsRoutingWithin h.network h.routes →
+    IsSetWithin (length h.routes) h.set → h.ratio < 10 ^ 19 → IsValidHead h
+made_head h format formed some within wanted small =
     let net = h.network in
     let pairs = length h.routes in
-    let network = shaped_network net formed some in
-    let few = few_pairs net h.routes formed within in
-    let shaped_pairs : list_all (is_shaped_pair FORMAT_1) h.routes ≡ true =
-    all_tests (is_shaped_pair FORMAT_1) h.routes no_routes (shaped_pair net h.routes formed within)
+    let limits = limits_of h.format in
+    let room = roomy h.format format.known in
+    let number = format_of_limits h.format format.known in
+    let network = shaped_network limits net formed some format.nodes format.links in
+    let few = few_pairs limits net h.routes room format.nodes within in
+    let shaped_pairs : list_all (is_shaped_pair limits) h.routes ≡ true =
+    all_tests (is_shaped_pair limits) h.routes no_routes (shaped_pair limits net h.routes room format.nodes formed within)
     in
-    let set_is = shaped_set pairs h.set wanted no_box in
+    let set_is = shaped_set limits pairs h.set wanted (subst (λ f. HasForm f h.set) (sym number) format.form) in
     let ratio : is_word h.ratio ≡ true = lt-ltb _ _ (omega (arith, small)) in
     let paths = (path_routing h).1 within.splits in
     let new : (k : ℕ) → k < node_count net → is_new_name net k ≡ true = λ k below. all_below_at (node_count net) (is_new_name net) k (grind (arith, nat_tests)) below in
@@ -201,9 +235,8 @@ made_head h format formed some within wanted no_box small =
     let sixth = no_fault 6 pairs (has_whole_weight h) (λ p below. (paths p below).2) in
     let seventh = no_fault 7 (1 + pairs) (with_first (has_margin_numbers h.set) (has_pair_bounds h.set)) margin in
     record {
-      shaped = subst (λ f. is_shaped_head (limits_of f) h ≡ true) (sym format)
-          (and_from _ _ (and_from _ _ (and_from _ _ (and_from _ _ (and_from _ _ (eq-eqb h.format 1 format) network)
-          (and_from _ _ (le-leb 0 pairs (omega arith)) (le-leb pairs 4032 few))) shaped_pairs) set_is) ratio);
+      shaped = and_from _ _ (and_from _ _ (and_from _ _ (and_from _ _ (and_from _ _ (eq-eqb h.format limits.format (sym number)) network)
+          (and_from _ _ (le-leb 0 pairs (omega arith)) (le-leb pairs limits.pairs few))) shaped_pairs) set_is) ratio;
       no_fault = rw (first, second, third, fourth, fifth, sixth, seventh) (ap (λ b. unless b (fault_at 8 0)) (lt-ltb h.ratio (10 ^ 19) small));
     }
   where

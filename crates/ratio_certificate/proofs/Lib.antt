@@ -18,4 +18,5 @@ pub mod Responding
 pub mod Searched
 pub mod Seeking
 pub mod Certificates
+pub mod MadeForms
 pub mod MadeBlocks

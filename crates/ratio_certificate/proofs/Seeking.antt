@@ -1,5 +1,5 @@
 -- Where a search for weights of a link stands at its start and after a sweep.
-use Rattle.std.proofs.Common.{◌≡◌, ℕ, ◌^◌, ◌<◌, ◌≤◌, true, List, length, arith, slice_index, subst}
+use Rattle.std.proofs.Common.{◌≡◌, ℕ, ◌^◌, ◌≤◌, true, List, length, arith}
 use Rattle.std.specs.Prelude.{All}
 use Rattle.std.proofs.lemmas.List.Elements.{All-from_get_or}
 use Rattle.te_model.specs.declared.network.Network.{Network}
@@ -9,10 +9,8 @@ use Rattle.te_model.specs.Network.{is_well_formed, link_count}
 use Rattle.best_blocks.specs.declared.metric.Metric.{Metric}
 use Rattle.best_blocks.specs.declared.sharing.SharedLink.{SharedLink}
 use Rattle.best_blocks.specs.Conditions.{IsRoutingWithin}
-use Rattle.best_blocks.specs.Metric.{IsMetric}
 use Rattle.centred_steps.specs.Weights.{AreWeightsUpTo}
 use Rattle.ratio_certificate.specs.declared.weighting.Weighting.{Weighting}
-use Rattle.ratio_certificate.specs.Response.{IsSmallScale}
 use Rattle.ratio_certificate.specs.Rising.{IsRoundMetric}
 use Rattle.ratio_certificate.specs.Weighting.{AreWeights, IsWeighting}
 use Rattle.ratio_certificate.proofs.Weighed.{scale_within}

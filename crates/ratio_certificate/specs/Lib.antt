@@ -1,4 +1,5 @@
 pub mod Conditions
+pub mod Form
 pub mod Made
 pub mod Making
 pub mod Places

@@ -12,6 +12,7 @@ use Rattle.te_model.specs.Validity.{IsValid}
 use Rattle.best_blocks.specs.Best.{IsBestBlock}
 use Rattle.best_blocks.specs.Need.{need_of, IsGreatestNeed}
 use Rattle.best_blocks.specs.Sharing.{HasShare}
+use Rattle.ratio_certificate.specs.Form.{made_format, made_set}
 use Rattle.ratio_certificate.specs.Polished.{IsPolished}
 use Rattle.ratio_certificate.specs.Rounds.{starting_weights}
 
@@ -28,10 +29,10 @@ abbrev pub IsWithinStart : Network → List PairRoutes → DemandSet → Block �
 IsWithinStart net routes set block =
     (best : Block) → IsBestBlock net routes set block.link (starting_weights net) best → need_of net block ≤ need_of net best
 
--- a valid certificate of the first format, of the network, the routes and the set, whose inequalities hold: polished best
--- blocks for exactly the links with a share, and the least ratio that pays for them
-pub record IsMade (net : Network) (routes : List PairRoutes) (set : DemandSet) (c : Certificate) : Type 0 where
-  pub format : c.head.format ≡ 1
+-- a valid certificate of this format, of the network, the routes and the set, whose inequalities hold: polished best blocks
+-- for exactly the links with a share, and the least ratio that pays for them
+pub record IsMadeIn (format : ℕ) (net : Network) (routes : List PairRoutes) (set : DemandSet) (c : Certificate) : Type 0 where
+  pub format_is : c.head.format ≡ format
   pub network : c.head.network ≡ net
   pub routes_are : c.head.routes ≡ routes
   pub set_is : c.head.set ≡ set
@@ -42,3 +43,8 @@ pub record IsMade (net : Network) (routes : List PairRoutes) (set : DemandSet) (
   pub polished : IsPolished net routes set c.blocks
   pub blocks : (e : ℕ) → e < link_count net → HasShare routes e → HasBlock c.blocks e
   pub ratio : IsGreatestNeed net c.blocks c.head.ratio
+
+-- such a certificate of the first format where that has room for the network and sets of this form, and else of the second, in
+-- which a margin stands as its box
+abbrev pub IsMade : Network → List PairRoutes → DemandSet → Certificate → Type 0
+IsMade net routes set c = IsMadeIn (made_format net set) net routes (made_set net set) c

@@ -1,5 +1,5 @@
 -- Where a search for weights of a link stands.
-use Rattle.std.specs.Prelude.{◌≡◌, ◌^◌, ◌≤◌, List}
+use Rattle.std.specs.Prelude.{◌≡◌, ◌^◌, List}
 use Rattle.te_model.specs.declared.network.Network.{Network}
 use Rattle.te_model.specs.declared.route.PairRoutes.{PairRoutes}
 use Rattle.te_model.specs.declared.demand.DemandSet.{DemandSet}

@@ -6,6 +6,7 @@
 #![tactic(auto)]
 
 mod changes;
+mod form;
 mod making;
 mod polish;
 mod raising;

@@ -3,14 +3,16 @@ ghost use Rattle.std.specs.Prelude.{◌≡◌, ◌<◌, ◌≤◌, ℕ, All, IfO
 ghost use Rattle.te_model.specs.Network.{is_well_formed, link_count};
 ghost use Rattle.routing.specs.Shares.{AreShares};
 ghost use Rattle.best_blocks.specs.Best.{IsBestBlock};
-ghost use Rattle.best_blocks.specs.Conditions.{IsNoBox, IsRoutingWithin, IsSetWithin};
+ghost use Rattle.best_blocks.specs.Conditions.{IsRoutingWithin, IsSetWithin};
 ghost use Rattle.best_blocks.specs.Sharing.{IsSharedLink};
-ghost use Rattle.ratio_certificate.specs.Made.{IsMade};
+ghost use Rattle.ratio_certificate.specs.Form.{IsFormatFor};
+ghost use Rattle.ratio_certificate.specs.Made.{IsMade, IsMadeIn};
 ghost use Rattle.ratio_certificate.specs.Making.{AreBlocksOf, AreSharedLinks};
 ghost use Rattle.ratio_certificate.specs.Rising.{AreRounds};
 ghost use Rattle.ratio_certificate.specs.Steps.{AreWeightings, IsDone};
 ghost use Rattle.ratio_certificate.specs.Weighting.{IsWeighting};
 
+use crate::form::{made_format, set_in};
 use crate::polish::{metric_by, polish};
 use crate::rounds::best_round;
 use crate::search::search;
@@ -18,9 +20,7 @@ use crate::weighting::Weighting;
 use best_blocks::{SharedLink, best_block, greatest_need, shared_link};
 use routing::{Routing, Shares};
 use std::alloc::Global;
-use te_model::{
-    Block, Certificate, DemandSet, FORMAT_1, Head, Items, Memory, Network, copy_network,
-};
+use te_model::{Block, Certificate, DemandSet, Head, Items, Memory, Network, copy_network};
 
 /// The links on which there is a share, ascending.
 fn shared_links(
@@ -69,6 +69,7 @@ fn best_rounds(
 }
 
 /// Weights that are searched for, and then polished, of the links and weights at the start.
+#[tactic(auto, using(crate::proofs::Searched::own_weightings, crate::proofs::Searched::weightings_after))]
 fn improve(
     alloc: Global,
     net: &Network,
@@ -151,23 +152,20 @@ fn blocks_of(
     Ok(blocks)
 }
 
-/// A certificate of the routing's oblivious ratio over the matrices of the set: for each link with a share the best block of
-/// its best round (multiplicative weights; Plotkin, Shmoys and Tardos, 1995), or of weights that were sought for the links whose
-/// blocks need most, polished, and the greatest of their needs as the ratio (after Applegate and Cohen, 2003).
-///
-/// `Memory` comes where memory is wanting.
-pub fn make(
+/// A certificate of this format, which has room for the network, and sets of this form.
+fn certify(
     alloc: Global,
     net: &Network,
     routing: &Routing,
     set: DemandSet,
+    format: u32,
 ) -> Result<Certificate, Memory>
     requires network { IsTrue (is_well_formed net.now) }
     requires links { 1 ≤ link_count net.now }
     requires routing { IsRoutingWithin net.now routing.now.routes }
     requires set { IsSetWithin (length routing.now.routes) set }
-    requires first { IsNoBox set }
-    ensures { IfOk result (IsMade net.now routing.now.routes set) }
+    requires format { IsFormatFor net.now set format }
+    ensures { IfOk result (IsMadeIn format net.now routing.now.routes set) }
 {
     let shares = Shares::new(alloc, net, routing)?;
     let links = shared_links(alloc, net, routing, &set, &shares)?;
@@ -179,7 +177,7 @@ pub fn make(
     let routes = routing.copy(alloc)?.routes;
     Ok(Certificate {
         head: Head {
-            format: FORMAT_1.format,
+            format,
             network,
             routes,
             set,
@@ -187,4 +185,27 @@ pub fn make(
         },
         blocks: Items::new(blocks),
     })
+}
+
+/// A certificate of the routing's oblivious ratio over the matrices of the set: for each link with a share the best block of
+/// its best round (multiplicative weights; Plotkin, Shmoys and Tardos, 1995), or of weights that were sought for the links whose
+/// blocks need most, polished, and the greatest of their needs as the ratio (after Applegate and Cohen, 2003).
+///
+/// It is one of the first format where the network has at most 64 nodes and 512 links and the set is no box, and else of the
+/// second, in which a margin stands as its box. `Memory` comes where memory is wanting.
+pub fn make(
+    alloc: Global,
+    net: &Network,
+    routing: &Routing,
+    set: DemandSet,
+) -> Result<Certificate, Memory>
+    requires network { IsTrue (is_well_formed net.now) }
+    requires links { 1 ≤ link_count net.now }
+    requires routing { IsRoutingWithin net.now routing.now.routes }
+    requires set { IsSetWithin (length routing.now.routes) set }
+    ensures { IfOk result (IsMade net.now routing.now.routes set) }
+{
+    let format = made_format(net, &set);
+    let written = set_in(alloc, format, set)?;
+    certify(alloc, net, routing, written, format)
 }

@@ -1,61 +1,29 @@
-use Rattle.std.proofs.Common.{◌^◌, ◌<◌, List, arith, sym, subst}
-use Rattle.std.specs.Prelude.{All}
-use Rattle.te_model.specs.declared.certificate.Block.{Block}
-use Rattle.best_blocks.specs.Need.{HasNumbers, IsGreatestNeed}
-use Rattle.ratio_certificate.proofs.Certificates.{blocks_numbers, made_certificate}
-use Rattle.ratio_certificate.proofs.MadeBlocks.{blocks_polished, made_blocks, making_read, need_within, within_start}
+use Rattle.std.proofs.Common.{length, sym, subst}
+use Rattle.std.specs.Prelude.{IfOk}
+use Rattle.te_model.specs.declared.demand.DemandSet.{DemandSet}
+use Rattle.best_blocks.specs.Conditions.{IsSetWithin}
+use Rattle.ratio_certificate.specs.Form.{set_in, IsFormatFor}
+use Rattle.ratio_certificate.specs.Made.{IsMadeIn}
+use Rattle.ratio_certificate.proofs.MadeForms.{format_for, set_within, small_margin}
 use Rattle.ratio_certificate.proofs.making.make.Goals as goal
 
-pub greatest_need-ratio-requires-clause-numbers : goal.greatest_need-ratio-requires-clause-numbers
-greatest_need-ratio-requires-clause-numbers c =
-    let net = c.args.net.now in
-    let routes = c.args.routing.now.routes in
-    let set = c.args.set in
-    let links = c.in_ok-links.links.items in
-    let all = making_read net routes set links c.deref.result.now c.deref-2.result.now c.deref-3.result.now c.in_ok-start.start.items c.in_ok-list.list.items c.deref-4.result.now
-    c.in_ok-blocks.blocks.items c.deref.ensures.value c.deref-2.ensures.value c.deref-3.ensures.value c.deref-4.ensures.value c.in_ok-links.ensures c.in_ok-start.ensures
-    c.in_ok-list.ensures.list c.in_ok-list.ensures.done c.in_ok-blocks.ensures
-    in
-    subst (λ (bs : List Block). All (HasNumbers net) bs) (sym c.deref-5.ensures.value)
-    (blocks_numbers net routes set c.in_ok-blocks.blocks.items c.requires.network c.requires.routing
-    (made_blocks net routes set links c.in_ok-start.start.items c.in_ok-list.list.items c.in_ok-blocks.blocks.items all))
+pub set_in-requires : goal.set_in-requires
+set_in-requires c = small_margin (length c.args.routing.now.routes) c.args.set c.requires.set
 
-pub overflow_cast-ratio : goal.overflow_cast-ratio
-overflow_cast-ratio c =
+pub certify-requires-clause-set : goal.certify-requires-clause-set
+certify-requires-clause-set c =
+    subst (IsSetWithin (length c.args.routing.now.routes)) (sym c.in_ok-written.ensures)
+    (set_within (length c.args.routing.now.routes) c.made_format-format.result c.args.set c.requires.set)
+
+pub certify-requires-clause-format : goal.certify-requires-clause-format
+certify-requires-clause-format c =
     let net = c.args.net.now in
-    let routes = c.args.routing.now.routes in
-    let set = c.args.set in
-    let links = c.in_ok-links.links.items in
-    let start = c.in_ok-start.start.items in
-    let list = c.in_ok-list.list.items in
-    let blocks = c.in_ok-blocks.blocks.items in
-    let all = making_read net routes set links c.deref.result.now c.deref-2.result.now c.deref-3.result.now start list c.deref-4.result.now blocks
-    c.deref.ensures.value c.deref-2.ensures.value c.deref-3.ensures.value c.deref-4.ensures.value c.in_ok-links.ensures c.in_ok-start.ensures
-    c.in_ok-list.ensures.list c.in_ok-list.ensures.done c.in_ok-blocks.ensures
-    in
-    let numbers = blocks_numbers net routes set blocks c.requires.network c.requires.routing (made_blocks net routes set links start list blocks all) in
-    let greatest = subst (λ (bs : List Block). IsGreatestNeed net bs c.greatest_need-ratio.result) c.deref-5.ensures.value c.greatest_need-ratio.ensures in
-    let bound = need_within net routes set links start list blocks c.greatest_need-ratio.result c.requires.network numbers all greatest in
-    omega (arith, bound)
+    subst (λ (s : DemandSet). IsFormatFor net s c.made_format-format.result) (sym c.in_ok-written.ensures)
+    (subst (λ f. IsFormatFor net (set_in f c.args.set) f) (sym c.made_format-format.ensures) (format_for net c.args.set c.requires.network))
 
 pub returns : goal.returns
 returns c =
     let net = c.args.net.now in
     let routes = c.args.routing.now.routes in
-    let set = c.args.set in
-    let links = c.in_ok-links.links.items in
-    let start = c.in_ok-start.start.items in
-    let list = c.in_ok-list.list.items in
-    let blocks = c.in_ok-blocks.blocks.items in
-    let all = making_read net routes set links c.deref.result.now c.deref-2.result.now c.deref-3.result.now start list c.deref-4.result.now blocks
-    c.deref.ensures.value c.deref-2.ensures.value c.deref-3.ensures.value c.deref-4.ensures.value c.in_ok-links.ensures c.in_ok-start.ensures
-    c.in_ok-list.ensures.list c.in_ok-list.ensures.done c.in_ok-blocks.ensures
-    in
-    let made = made_blocks net routes set links start list blocks all in
-    let numbers = blocks_numbers net routes set blocks c.requires.network c.requires.routing made in
-    let greatest = subst (λ (bs : List Block). IsGreatestNeed net bs c.greatest_need-ratio.result) c.deref-5.ensures.value c.greatest_need-ratio.ensures in
-    let bound = need_within net routes set links start list blocks c.greatest_need-ratio.result c.requires.network numbers all greatest in
-    let polished = blocks_polished net routes set links start list blocks c.requires.network all in
-    let small : c.greatest_need-ratio.result < 10 ^ 19 = omega (arith, bound) in
-    made_certificate net routes set blocks c.greatest_need-ratio.result _ _ _ c.in_ok-network.ensures c.in_ok-routes.ensures c.new-2.ensures c.requires.network
-    c.requires.links c.requires.routing c.requires.set c.requires.first made (within_start net routes set blocks polished) polished small greatest
+    subst (λ f. IfOk c.certify.result (IsMadeIn f net routes (set_in f c.args.set))) c.made_format-format.ensures
+    (subst (λ (s : DemandSet). IfOk c.certify.result (IsMadeIn c.made_format-format.result net routes s)) c.in_ok-written.ensures c.certify.ensures)

@@ -1,6 +1,4 @@
-use Rattle.std.proofs.Common.{◌≡◌, ◌^◌, ◌≤◌, List, ℕ, length, arith, ap, sym, subst, ◌∙◌}
-use Rattle.std.specs.Prelude.{All}
-use Rattle.te_model.specs.Network.{link_count}
+use Rattle.std.proofs.Common.{◌≡◌, ◌^◌, List, ℕ, length, ap, sym, subst, ◌∙◌}
 use Rattle.te_model.proofs.Lists.{written_whole}
 use Rattle.centred_steps.specs.Weights.{AreWeightsUpTo}
 use Rattle.ratio_certificate.proofs.Seeking.{moved_small}
