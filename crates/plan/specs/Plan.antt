@@ -1,5 +1,5 @@
 -- What a plan says: one JSON object (RFC 8259) with known keys.
-use Rattle.std.specs.Prelude.{ℕ, ◌^◌, ◌-◌, ◌≤◌, ◌≡◌, ◌≢◌, List, [], ◌∷◌, length, Bool, true, ◌&&◌, Option, Some, None, IfSome, Result, Ok, Err, ◌==◌, if◌then◌else◌}
+use Rattle.std.specs.Prelude.{ℕ, ◌^◌, ◌-◌, ◌≤◌, ◌≡◌, ◌≢◌, List, [], ◌∷◌, length, Bool, true, false, ◌&&◌, Option, Some, None, IfSome, Result, Ok, Err, ◌==◌, if◌then◌else◌}
 use Rattle.std.specs.Str.Lossy.{utf8_valid_len}
 use Rattle.serde_json.specs.Data.{Data, Members, no_members, member}
 use Rattle.serde_json.specs.Find.{get, as_object}
@@ -16,7 +16,7 @@ use Rattle.plan.specs.declared.reader.Files.{Files}
 use Rattle.plan.specs.declared.reader.Choices.{Choices}
 use Rattle.plan.specs.declared.reader.Counts.{Counts}
 use Rattle.plan.specs.Words.{word, is_key, is_oblivious}
-use Rattle.plan.specs.Values.{given_or, text_of, number_of, margin_of, recovery_of, publish_of, schemes_of}
+use Rattle.plan.specs.Values.{given_or, text_of, number_of, margin_of, envelope_of, recovery_of, publish_of, schemes_of}
 
 abbrev pub and_then : {A B : Type 0} → Result A PlanFault → (A → Result B PlanFault) → Result B PlanFault
 and_then (Ok x) next = next x
@@ -76,8 +76,12 @@ counts_of d =
     and_then (count_at key.Seed 0 0 (2 ^ 64 - 1) d) (λ s.
     Ok (record { k = k; budget = b; trees = t; seed = s })))))
 
-abbrev pub experiment_of : Files → Choices → Counts → Experiment
-experiment_of f c n = record {
+-- whether the published set is the envelope of the matrices, beside this margin
+abbrev pub envelope_at : Option (ℕ × ℕ) → Data → Result Bool PlanFault
+envelope_at margin d = optional false (envelope_of margin) (get (word key.Envelope) d)
+
+abbrev pub experiment_of : Files → Choices → Counts → Bool → Experiment
+experiment_of f c n e = record {
   topology = f.topology;
   matrices = f.matrices;
   failures = f.failures;
@@ -89,6 +93,7 @@ experiment_of f c n = record {
   budget = n.budget;
   trees = n.trees;
   seed = n.seed;
+  envelope = e;
 }
 
 -- what an object with known keys says
@@ -98,7 +103,9 @@ plan_of_object d =
     and_then (required key.Matrices d) (λ matrices.
     and_then (files_of topology matrices d) (λ f.
     and_then (choices_of d) (λ c.
-    and_then (counts_of d) (λ n. Ok (experiment_of f c n))))))
+    and_then (counts_of d) (λ n.
+    and_then (envelope_at c.margin d) (λ e.
+    Ok (experiment_of f c n e)))))))
 
 abbrev pub known : Data → Members → Result Experiment PlanFault
 known d ms = if knows_all ms then plan_of_object d else Err fault.UnknownKey
@@ -110,7 +117,8 @@ plan_of_value d = given_or (fault.Kind key.Plan) (known d) (as_object d)
 abbrev pub plan_of : List ℕ → Result Experiment PlanFault
 plan_of bytes = given_or fault.NotJson plan_of_value (json_of bytes)
 
--- file names that are not empty, 1 to 16 schemes, a published scheme that is oblivious, and numbers in their ranges
+-- file names that are not empty, 1 to 16 schemes, a published scheme that is oblivious, numbers in their ranges, and no envelope beside
+-- a margin
 pub record InRange (x : Experiment) : Type 0 where
   pub topology : x.topology ≢ []
   pub matrices : x.matrices ≢ []
@@ -125,3 +133,4 @@ pub record InRange (x : Experiment) : Type 0 where
   pub budget_high : x.budget ≤ 32
   pub trees_low : 1 ≤ x.trees
   pub trees_high : x.trees ≤ 16
+  pub envelope : x.envelope ≡ true → x.margin ≡ None

@@ -1,7 +1,7 @@
 -- What the value of each key of a plan says, or the first of its faults: its kind, its range, its scheme name.
 use Rattle.std.specs.Prelude.{ℕ, suc, List, [], ◌∷◌, ◌++◌, Bool, true, ◌&&◌, ◌||◌, Option, Some, None, is_some, option_and_then, Result, Ok, Err, nat_le, nat_lt, ◌==◌, if◌then◌else◌}
 use Rattle.serde_json.specs.Data.{Data, Items, no_items, item}
-use Rattle.serde_json.specs.Find.{as_str, as_number, as_u64, as_array}
+use Rattle.serde_json.specs.Find.{as_str, as_bool, as_number, as_u64, as_array}
 use Rattle.plan.specs.declared.scheme_name.SchemeName.{SchemeName}
 use Rattle.plan.specs.declared.recovery.Recovery.{Recovery}
 use Rattle.plan.specs.declared.key.Key.{Key}
@@ -45,6 +45,14 @@ fraction_of ds = Err (fault.Kind key.Margin)
 -- a list of two whole numbers
 abbrev pub margin_of : Data → Result (ℕ × ℕ) PlanFault
 margin_of d = given_or (fault.Kind key.Margin) fraction_of (as_array d)
+
+-- an envelope, which is not asked for beside a margin
+abbrev pub alone : Option (ℕ × ℕ) → Bool → Result Bool PlanFault
+alone margin asked = if asked && is_some margin then Err (fault.Range key.Envelope) else Ok asked
+
+-- whether an envelope is asked for
+abbrev pub envelope_of : Option (ℕ × ℕ) → Data → Result Bool PlanFault
+envelope_of margin d = given_or (fault.Kind key.Envelope) (alone margin) (as_bool d)
 
 abbrev pub recovery_of : Data → Result Recovery PlanFault
 recovery_of d = given_or (fault.Kind key.Recovery) (λ text. given_or (fault.Range key.Recovery) Ok (recovery_named text)) (as_str d)

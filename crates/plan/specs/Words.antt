@@ -60,6 +60,7 @@ word key.K = codes "k"
 word key.Budget = codes "budget"
 word key.Trees = codes "trees"
 word key.Seed = codes "seed"
+word key.Envelope = codes "envelope"
 
 -- a key that a plan may have
 abbrev pub is_key : List ℕ → Bool
@@ -67,4 +68,4 @@ is_key text =
     bytes_eq text (codes "topology") || bytes_eq text (codes "matrices") || bytes_eq text (codes "failures")
     || bytes_eq text (codes "schemes") || bytes_eq text (codes "recovery") || bytes_eq text (codes "publish")
     || bytes_eq text (codes "margin") || bytes_eq text (codes "k") || bytes_eq text (codes "budget")
-    || bytes_eq text (codes "trees") || bytes_eq text (codes "seed")
+    || bytes_eq text (codes "trees") || bytes_eq text (codes "seed") || bytes_eq text (codes "envelope")

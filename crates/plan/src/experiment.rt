@@ -29,4 +29,7 @@ pub struct Experiment {
     pub trees: u32,
     /// The seed of what is drawn.
     pub seed: u64,
+    /// Whether the published demand set is the envelope of the matrices: each demand from its least to its greatest one over the
+    /// steps. Never beside a margin.
+    pub envelope: bool,
 }

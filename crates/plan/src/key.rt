@@ -20,6 +20,7 @@ pub enum Key {
     Budget,
     Trees,
     Seed,
+    Envelope,
 }
 
 impl Key {
@@ -40,6 +41,7 @@ impl Key {
             Key::Budget => "budget",
             Key::Trees => "trees",
             Key::Seed => "seed",
+            Key::Envelope => "envelope",
         }
     }
 }

@@ -5,7 +5,7 @@ ghost use Rattle.serde_json.specs.View.{view, members_view};
 ghost use Rattle.serde_json.specs.Find.{get};
 ghost use Rattle.plan.specs.declared.fault.PlanFault.TheVariants as fault;
 ghost use Rattle.plan.specs.Words.{word, is_key, is_oblivious};
-ghost use Rattle.plan.specs.Plan.{plan_of, plan_of_object, json_of, knows_all, required, count_at, files_of, choices_of, counts_of, InRange};
+ghost use Rattle.plan.specs.Plan.{plan_of, plan_of_object, json_of, knows_all, required, count_at, files_of, choices_of, counts_of, envelope_at, InRange};
 
 use crate::experiment::Experiment;
 use crate::fault::PlanFault;
@@ -13,7 +13,7 @@ use crate::key::Key;
 use crate::recovery::Recovery;
 use crate::scheme_name::SchemeName;
 use crate::values::{
-    read_margin, read_number, read_publish, read_recovery, read_schemes, read_text,
+    read_envelope, read_margin, read_number, read_publish, read_recovery, read_schemes, read_text,
 };
 use serde_json::{Category, Map, Value};
 use std::alloc::Global;
@@ -67,6 +67,7 @@ fn is_key(text: &str) -> bool
         || text == "budget"
         || text == "trees"
         || text == "seed"
+        || text == "envelope"
 }
 
 // Whether each key is one of a plan.
@@ -93,6 +94,7 @@ fn read_object(alloc: Global, value: &Value) -> Result<Experiment, PlanFault>
     let files = read_files(alloc, topology, matrices, value)?;
     let choices = read_choices(alloc, value)?;
     let counts = read_counts(value)?;
+    let envelope = asks_for_envelope(value, choices.margin)?;
     Ok(Experiment {
         topology: files.topology,
         matrices: files.matrices,
@@ -105,6 +107,7 @@ fn read_object(alloc: Global, value: &Value) -> Result<Experiment, PlanFault>
         budget: counts.budget,
         trees: counts.trees,
         seed: counts.seed,
+        envelope,
     })
 }
 
@@ -221,6 +224,17 @@ fn read_counts(value: &Value) -> Result<Counts, PlanFault>
         trees: trees as u32,
         seed,
     })
+}
+
+// Whether an envelope is asked for, beside this margin.
+fn asks_for_envelope(value: &Value, margin: Option<(u64, u64)>) -> Result<bool, PlanFault>
+    ensures envelope { result ≡ envelope_at margin (view value.now) }
+    ensures alone { IfOk result (λ asked. asked ≡ true → margin ≡ None) }
+{
+    match value.get(Key::Envelope.word()) {
+        Some(asked) => read_envelope(margin, asked),
+        None => Ok(false),
+    }
 }
 
 // The number of a key, or the default where there is none.

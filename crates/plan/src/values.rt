@@ -1,11 +1,11 @@
 //! The values of a plan's keys.
 
-ghost use Rattle.std.specs.Prelude.{◌≡◌, ◌≢◌, ◌≤◌, IfOk, IfErr, Ok, Err, [], length, option_and_then, true};
+ghost use Rattle.std.specs.Prelude.{◌≡◌, ◌≢◌, ◌≤◌, IfOk, IfErr, Ok, Err, None, [], length, option_and_then, true};
 ghost use Rattle.serde_json.specs.Find.{as_str};
 ghost use Rattle.serde_json.specs.View.{view, items_view};
 ghost use Rattle.plan.specs.declared.fault.PlanFault.TheVariants as fault;
 ghost use Rattle.plan.specs.Words.{is_oblivious, scheme_named};
-ghost use Rattle.plan.specs.Values.{text_of, number_of, margin_of, recovery_of, publish_of, schemes_of, are_texts};
+ghost use Rattle.plan.specs.Values.{text_of, number_of, margin_of, envelope_of, recovery_of, publish_of, schemes_of, are_texts};
 
 use crate::fault::PlanFault;
 use crate::key::Key;
@@ -67,6 +67,20 @@ pub fn read_margin(value: &Value) -> Result<(u64, u64), PlanFault>
     } else {
         Err(PlanFault::Range(Key::Margin))
     }
+}
+
+/// Whether an envelope is asked for, which cannot stand beside a margin.
+pub fn read_envelope(margin: Option<(u64, u64)>, value: &Value) -> Result<bool, PlanFault>
+    ensures envelope { result ≡ envelope_of margin (view value.now) }
+    ensures alone { IfOk result (λ asked. asked ≡ true → margin ≡ None) }
+{
+    let Some(asked) = value.as_bool() else {
+        return Err(PlanFault::Kind(Key::Envelope));
+    };
+    if asked && margin.is_some() {
+        return Err(PlanFault::Range(Key::Envelope));
+    }
+    Ok(asked)
 }
 
 /// The recovery that a word names.
