@@ -19,7 +19,7 @@ use Rattle.experiment.specs.Text.{scheme_lines}
 -- the file of the scheme that the plan names is published
 pub file_by_name : {F E : Type 0} (name : SchemeName) (plan : Experiment) (net : Network) (series : Series) (set : DemandSet)
     (kept : (meaning_of name plan).Plan → List PairRoutes) → ((p : (meaning_of name plan).Plan) → (meaning_of name plan).fixed p ≡ Some (kept p)) →
-    plan.publish ≡ name → set ≡ published_set plan.margin series → (items : F → List ℕ) (r : Result F E) →
+    plan.publish ≡ name → set ≡ published_set plan series → (items : F → List ℕ) (r : Result F E) →
     IfOk r (λ file. (p : (meaning_of name plan).Plan) × (meaning_of name plan).is_plan net series.pairs.list p
     × IsMadeFile net (trimmed plan.budget (kept p)) set (items file)) →
     IfOk r (λ file. IsPublished plan net series (items file))

@@ -1,4 +1,5 @@
 mod RoutingWithin
+mod Envelopes
 mod PublishedSets
 mod Fields
 mod Reports

@@ -1,4 +1,5 @@
 pub mod Schemes
+pub mod Envelope
 pub mod Published
 pub mod Text
 pub mod Report

@@ -1,5 +1,5 @@
 -- What is published: the file of a certificate of the plan's oblivious routing.
-use Rattle.std.specs.Prelude.{◌≡◌, ℕ, ◌≤◌, List, length, replicate, slice_index_or, Option, Some, None}
+use Rattle.std.specs.Prelude.{◌≡◌, ℕ, ◌≤◌, List, length, replicate, slice_index_or, Option, Some, None, if◌then◌else◌}
 use Rattle.te_model.specs.declared.network.Network.{Network}
 use Rattle.te_model.specs.declared.route.PairRoutes.{PairRoutes}
 use Rattle.te_model.specs.declared.certificate.Certificate.{Certificate}
@@ -14,6 +14,7 @@ use Rattle.path_budget.specs.Budget.{trimmed}
 use Rattle.ratio_certificate.specs.Made.{IsMade}
 use Rattle.traffic_matrix.specs.declared.series.Series.{Series}
 use Rattle.plan.specs.declared.experiment.Experiment.{Experiment}
+use Rattle.experiment.specs.Envelope.{envelope_of}
 use Rattle.experiment.specs.Schemes.{IsSchemeRouting}
 
 -- no demand of any pair of the series
@@ -25,9 +26,13 @@ abbrev pub first_matrix : Series → Matrix
 first_matrix series = slice_index_or series.steps 0 (no_demand series)
 
 -- every matrix, or those within the margin of the first one
-abbrev pub published_set : Option (ℕ × ℕ) → Series → DemandSet
-published_set None series = All
-published_set (Some m) series = Margin m.0 m.1 (first_matrix series)
+abbrev pub margin_set : Option (ℕ × ℕ) → Series → DemandSet
+margin_set None series = All
+margin_set (Some m) series = Margin m.0 m.1 (first_matrix series)
+
+-- the envelope of the series where the plan asks for it, or else every matrix or those within the plan's margin
+abbrev pub published_set : Experiment → Series → DemandSet
+published_set plan series = if plan.envelope then envelope_of series else margin_set plan.margin series
 
 -- the bytes are the text of a certificate that is made of the network, the routes and the set
 pub record IsMadeFile (net : Network) (routes : List PairRoutes) (set : DemandSet) (bytes : List ℕ) : Type 0 where
@@ -40,7 +45,7 @@ pub record IsMadeFile (net : Network) (routes : List PairRoutes) (set : DemandSe
 pub record IsPublished (plan : Experiment) (net : Network) (series : Series) (bytes : List ℕ) : Type 0 where
   pub routes : List PairRoutes
   pub routing : IsSchemeRouting plan.publish plan net series.pairs.list routes
-  pub file : IsMadeFile net (trimmed plan.budget routes) (published_set plan.margin series) bytes
+  pub file : IsMadeFile net (trimmed plan.budget routes) (published_set plan series) bytes
 
 -- the bytes are no more than a certificate's file may have, and spell a valid certificate of which no inequality fails, so its ratio is an
 -- oblivious ratio of its routing

@@ -9,6 +9,7 @@
 #![tactic(auto)]
 
 mod demand_set;
+mod envelope;
 mod figures;
 mod laws;
 mod lines;

@@ -2,7 +2,7 @@
 ghost use Rattle.std.specs.Prelude.{◌≤◌, IfOk, IfErr, OnOk, IsTrue, length};
 ghost use Rattle.te_model.specs.Network.{is_well_formed, link_count, node_count};
 ghost use Rattle.path_budget.specs.Budget.{trimmed};
-ghost use Rattle.best_blocks.specs.Conditions.{IsNoBox, IsSetWithin};
+ghost use Rattle.best_blocks.specs.Conditions.{IsSetWithin};
 ghost use Rattle.scheme.specs.Fault.{IsFault};
 ghost use Rattle.scheme.specs.Reach.{AllReached, ArePairsOf};
 ghost use Rattle.traffic_matrix.specs.Limits.{IsSeries};
@@ -36,7 +36,6 @@ fn scheme_file<S: Oblivious>(
     requires pairs { ArePairsOf network.now pairs.now.list }
     requires ascending { AscendPairs pairs.now.list }
     requires set { IsSetWithin (length pairs.now.list) set }
-    requires first { IsNoBox set }
     requires some { 1 ≤ budget }
     requires few { budget ≤ 32 }
     ensures file { IfOk result (λ file. (plan : S.Plan) × S.Scheme.is_plan scheme.now network.now pairs.now.list plan
@@ -67,7 +66,7 @@ pub fn certificate_file(
     ensures reached { OnOk result (AllReached network.now series.now.pairs.list) }
     ensures fault { IfErr result (IsFault network.now series.now.pairs.list) }
 {
-    let set = published_set(alloc, plan.margin, series)?;
+    let set = published_set(alloc, plan, series)?;
     let pairs = &series.pairs;
     match plan.publish {
         SchemeName::Spf => scheme_file(alloc, &Spf, network, pairs, set, plan.budget),

@@ -2,7 +2,7 @@
 ghost use Rattle.std.specs.Prelude.{◌≤◌, IfOk, IfErr, OnOk, IsTrue, length};
 ghost use Rattle.te_model.specs.Network.{is_well_formed, link_count};
 ghost use Rattle.path_budget.specs.Budget.{trimmed};
-ghost use Rattle.best_blocks.specs.Conditions.{IsNoBox, IsSetWithin};
+ghost use Rattle.best_blocks.specs.Conditions.{IsSetWithin};
 ghost use Rattle.ratio_certificate.specs.Made.{IsMade};
 ghost use Rattle.scheme.specs.Fault.{IsFault};
 ghost use Rattle.scheme.specs.Reach.{AllReached, ArePairsOf};
@@ -14,8 +14,9 @@ use scheme::{Oblivious, SchemeFault};
 use std::alloc::Global;
 use te_model::{Certificate, DemandSet, Network, Pairs};
 
-/// A certificate of the first format, which has no boxes, of the scheme's routing of the pairs, of each of which the `budget` heaviest
-/// paths are kept.
+/// A certificate of the scheme's routing of the pairs, of each of which the `budget` heaviest paths are kept. Its format is the
+/// first where the network has at most 64 nodes and 512 links and the set is no box, and else the second, in which a margin stands
+/// as its box.
 ///
 /// `NoPath` names the first pair without a path, exactly where there is one, and `Memory` comes
 /// where memory is wanting.
@@ -32,7 +33,6 @@ pub fn publish<S: Oblivious>(
     requires pairs { ArePairsOf net.now pairs.now.list }
     requires ascending { AscendPairs pairs.now.list }
     requires set { IsSetWithin (length pairs.now.list) set }
-    requires first { IsNoBox set }
     requires some { 1 ≤ budget }
     requires few { budget ≤ 32 }
     ensures made { IfOk result (λ c. (plan : S.Plan) × S.Scheme.is_plan scheme.now net.now pairs.now.list plan
