@@ -1,5 +1,5 @@
 -- What the utilisation of a certificate's routing needs.
-use Rattle.std.proofs.Common.{◌≡◌, ℕ, ◌+◌, ◌<◌, ◌^◌, None, List, length, get_or, arith}
+use Rattle.std.proofs.Common.{◌≡◌, ℕ, ◌<◌, None, List, length, get_or, arith}
 use Rattle.std.specs.Prelude.{IsTrue}
 use Rattle.te_model.specs.declared.certificate.Certificate.{Certificate}
 use Rattle.te_model.specs.Text.{Spells}

@@ -83,6 +83,24 @@ fn backbone_has_lower_ratios(rt: HostRuntime) -> Result<(), Fail> {
     Ok(())
 }
 
+/// The default scheme, for the envelope of the matrices.
+const ENVELOPE: &str =
+    "{\"topology\":\"net.csv\",\"matrices\":\"tm.csv\",\"trees\":8,\"seed\":7,\"envelope\":true}";
+
+#[test]
+fn backbone_has_an_envelope(rt: HostRuntime) -> Result<(), Fail> {
+    let alloc = rt.alloc();
+    let matrices = gravity_matrices(alloc)?;
+    let file = on_backbone(&rt, alloc, "publish", ENVELOPE, &matrices)?;
+    let (_, ratio) = routing_in(alloc, file.bytes())?;
+    // The ratio that the starting weights alone give.
+    assert!(rt; ratio < 11_742_714);
+    let answer = written_over(&rt, alloc, &["check", "c"], &[("c", file.bytes())])?;
+    let line = format!(in alloc; "yes ratio {ratio} set box\n")?;
+    assert_eq!(rt; answer.bytes(), line.as_bytes());
+    Ok(())
+}
+
 /// Twenty matrices, each demand from 0 to 10000.
 fn drawn_matrices(alloc: Global, network: &Network) -> Result<String, Fail> {
     let names = network.names.as_slice();

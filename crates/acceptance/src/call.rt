@@ -104,7 +104,7 @@ pub fn written_over(
     for (name, bytes) in files {
         depot.add(name, bytes)?;
     }
-    let mut out = MemSink::new(alloc, 100_000, 4096)?;
+    let mut out = MemSink::new(alloc, 1_000_000, 4096)?;
     let mut err = MemSink::new(alloc, 200, 200)?;
     let status = status_of(alloc, words, &mut depot, &mut out, &mut err)?;
     assert_eq!(rt; status, 0);

@@ -80,14 +80,14 @@ const HEADER: &str = "source,target,capacity,cost\n";
 
 const ROW: &str = "a,b,10,1\n";
 
-/// Twenty-seven such rows.
+/// Forty-one such rows.
 const ROWS: &str =
-    "a,b,10,1\na,b,10,1\na,b,10,1\na,b,10,1\na,b,10,1\na,b,10,1\na,b,10,1\na,b,10,1\na,b,10,1\na,b,10,1\na,b,10,1\na,b,10,1\na,b,10,1\na,b,10,1\na,b,10,1\na,b,10,1\na,b,10,1\na,b,10,1\na,b,10,1\na,b,10,1\na,b,10,1\na,b,10,1\na,b,10,1\na,b,10,1\na,b,10,1\na,b,10,1\na,b,10,1\n";
+    "a,b,10,1\na,b,10,1\na,b,10,1\na,b,10,1\na,b,10,1\na,b,10,1\na,b,10,1\na,b,10,1\na,b,10,1\na,b,10,1\na,b,10,1\na,b,10,1\na,b,10,1\na,b,10,1\na,b,10,1\na,b,10,1\na,b,10,1\na,b,10,1\na,b,10,1\na,b,10,1\na,b,10,1\na,b,10,1\na,b,10,1\na,b,10,1\na,b,10,1\na,b,10,1\na,b,10,1\na,b,10,1\na,b,10,1\na,b,10,1\na,b,10,1\na,b,10,1\na,b,10,1\na,b,10,1\na,b,10,1\na,b,10,1\na,b,10,1\na,b,10,1\na,b,10,1\na,b,10,1\na,b,10,1\n";
 
 /// A link more than a topology may have.
 const MANY_LINKS: &[&str] = &[
     HEADER, ROWS, ROWS, ROWS, ROWS, ROWS, ROWS, ROWS, ROWS, ROWS, ROWS, ROWS, ROWS, ROWS, ROWS,
-    ROWS, ROWS, ROWS, ROWS, ROWS,
+    ROWS, ROWS, ROWS, ROWS, ROWS, ROWS, ROWS, ROWS, ROWS, ROWS, ROWS,
 ];
 
 /// A certificate and a topology, how many of the two are read, and the status and text that they leave.
@@ -144,7 +144,7 @@ const NETWORKS: &[(&[&str], &[&str], usize, u8, &str)] = &[
         MANY_LINKS,
         2,
         3,
-        "refused: t: too many at row 513\n",
+        "refused: t: too many at row 1025\n",
     ),
     (&[SMALLEST], &[HEADER], 2, 3, "refused: t: empty\n"),
     (&[SMALLEST], &[], 1, 4, "fault: read\n"),

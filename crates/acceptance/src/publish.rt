@@ -6,6 +6,16 @@ use std::test::Fail;
 
 const SPF: &str = "{\"topology\":\"t\",\"matrices\":\"m\",\"publish\":\"spf\"}";
 
+/// The envelope of the steps.
+const ENVELOPE: &str =
+    "{\"topology\":\"t\",\"matrices\":\"m\",\"publish\":\"spf\",\"envelope\":true}";
+
+/// A link from a to b.
+const LINK: &str = "source,target,capacity,cost\na,b,10,1\n";
+
+/// Two demands from a to b, one after the other.
+const FIVE_AND_NINE: &str = "step,source,target,demand\n0,a,b,5\n1,a,b,9\n";
+
 /// Links from a to b and from b to c.
 const LINE: &str = "source,target,capacity,cost\na,b,10,1\nb,c,10,1\n";
 
@@ -61,6 +71,33 @@ const CERTIFICATES: &[(&[&str], &[&str], &[&str], &str)] = &[
         &["source,target,capacity,cost\na,b,10,1\n"],
         &["step,source,target,demand\n1,a,b,5\n"],
         "\nset margin 1 1\nbase 0\nratio 1\nblocks 1\n0 1000000 68719476736 1\n",
+    ),
+    (
+        &[ENVELOPE],
+        &[LINK],
+        &[FIVE_AND_NINE],
+        "yates-ratio 2\nnodes 2\na\nb\nlinks 1\n0 1 10 1\npairs 1\n0 1 1\n1000000 1 0\nset box\nlower 5\nupper 9\nratio 1000000\nblocks 1\n",
+    ),
+    // A pair without a row in a step has no demand there.
+    (
+        &[ENVELOPE],
+        &[LINE],
+        &["step,source,target,demand\n0,a,b,5\n1,b,c,3\n1,a,b,4\n2,a,b,7\n"],
+        "\nset box\nlower 4 0\nupper 7 3\nratio ",
+    ),
+    (
+        &[ENVELOPE],
+        &[LINE],
+        &["step,source,target,demand\n"],
+        "\npairs 0\nset box\nlower\nupper\nratio 0\nblocks 0\nend\n",
+    ),
+    (
+        &[
+            "{\"topology\":\"t\",\"matrices\":\"m\",\"publish\":\"spf\",\"margin\":[2,1],\"envelope\":false}",
+        ],
+        &[LINK],
+        &[FIVE_AND_NINE],
+        "yates-ratio 1\nnodes 2\na\nb\nlinks 1\n0 1 10 1\npairs 1\n0 1 1\n1000000 1 0\nset margin 2 1\nbase 5\nratio 1000000\nblocks 1\n",
     ),
 ];
 
@@ -212,6 +249,22 @@ const REFUSALS: &[(&[&str], &[&str], &[&str], usize, u8, &str)] = &[
         1,
         3,
         "refused: p: scheme name of publish\n",
+    ),
+    (
+        &["{\"topology\":\"t\",\"matrices\":\"m\",\"margin\":[2,1],\"envelope\":true}"],
+        &[],
+        &[],
+        1,
+        3,
+        "refused: p: range of envelope\n",
+    ),
+    (
+        &["{\"topology\":\"t\",\"matrices\":\"m\",\"margin\":[2,1],\"envelope\":1}"],
+        &[],
+        &[],
+        1,
+        3,
+        "refused: p: kind of envelope\n",
     ),
     (
         &[SPF],

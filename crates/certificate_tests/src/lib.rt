@@ -7,3 +7,5 @@ mod block_reader_tests;
 mod cert_text_tests;
 #[cfg(test)]
 mod ratio_certificate_tests;
+#[cfg(test)]
+mod ratio_checker_tests;

@@ -1,6 +1,6 @@
 ghost use Rattle.std.specs.Prelude.{◌≡◌, ◌^◌, ◌<◌, ◌≤◌, All, IfOk, length};
 ghost use Rattle.te_model.specs.ThreeNodes.{straight_routes, three_nodes};
-ghost use Rattle.best_blocks.specs.Conditions.{IsNoBox, IsSetWithin};
+ghost use Rattle.best_blocks.specs.Conditions.{IsSetWithin};
 
 use ratio_certificate::*;
 use routing::Routing;
@@ -30,8 +30,7 @@ fn straight_routes(alloc: Global) -> Result<Routing, AllocError>
 
 /// The matrices in which both demands are equal, or all.
 fn demands(alloc: Global, equal: bool) -> Result<DemandSet, AllocError>
-    ensures set { IfOk result (IsSetWithin 2) }
-    ensures first { IfOk result IsNoBox }
+    ensures { IfOk result (IsSetWithin 2) }
 {
     if equal {
         Ok(DemandSet::Margin {
@@ -173,8 +172,7 @@ fn needs_of_weights(rt: HostRuntime) {
 
 /// The certificate of the straight routes over the set.
 fn made(alloc: Global, set: DemandSet) -> Result<Certificate, Memory>
-    requires set { IsSetWithin 2 set }
-    requires first { IsNoBox set }
+    requires { IsSetWithin 2 set }
 {
     let net = three_nodes(alloc)?;
     let routing = straight_routes(alloc)?;
@@ -203,5 +201,37 @@ fn made_certificates(rt: HostRuntime) -> Result<(), Fail> {
             Err(_) => assert!(rt; false),
         }
     }
+    Ok(())
+}
+
+/// Whether the rows have the same sources and potentials.
+fn are_same_rows(rows: &[Row], others: &[Row]) -> bool {
+    rows.len() == others.len()
+        && rows.iter().zip(others).all(|(row, other)| row.source == other.source
+            && row.potential == other.potential)
+}
+
+/// Whether the blocks have the same numbers.
+fn are_same_blocks(blocks: &[Block], others: &[Block]) -> bool {
+    blocks.len() == others.len()
+        && blocks.iter().zip(others).all(|(block, other)| {
+            (block.link, block.a, block.b) == (other.link, other.a, other.b)
+                && block.weights == other.weights
+                && are_same_rows(block.rows.as_slice(), other.rows.as_slice())
+                && block.plus == other.plus
+                && block.minus == other.minus
+        })
+}
+
+#[test]
+fn a_margin_and_its_box_have_the_same_blocks(rt: HostRuntime) -> Result<(), Fail> {
+    let alloc = rt.alloc();
+    let margin = made(alloc, demands(alloc, true)?).map_err(|_| AllocError)?;
+    let bounds = made(alloc, bounded(alloc)?).map_err(|_| AllocError)?;
+    assert_eq!(rt; (margin.head.format, bounds.head.format), (1, 2));
+    assert!(rt; matches!(&margin.head.set, DemandSet::Margin { .. }));
+    assert!(rt; matches!(&bounds.head.set, DemandSet::Box { .. }));
+    assert_eq!(rt; bounds.head.ratio, margin.head.ratio);
+    assert!(rt; are_same_blocks(margin.blocks.as_slice(), bounds.blocks.as_slice()));
     Ok(())
 }

@@ -78,6 +78,26 @@ fn first_faults(rt: HostRuntime) -> Result<(), Fail> {
         fault_with(alloc, "\"margin\":[1,2]")?,
         Some(PlanFault::Range(Key::Margin))
     );
+    assert_eq!(rt;
+        fault_with(alloc, "\"envelope\":1")?,
+        Some(PlanFault::Kind(Key::Envelope))
+    );
+    assert_eq!(rt;
+        fault_with(alloc, "\"envelope\":\"true\",\"margin\":[2,1]")?,
+        Some(PlanFault::Kind(Key::Envelope))
+    );
+    assert_eq!(rt;
+        fault_with(alloc, "\"envelope\":true,\"margin\":[2,1]")?,
+        Some(PlanFault::Range(Key::Envelope))
+    );
+    assert_eq!(rt;
+        fault_with(alloc, "\"envelope\":1,\"seed\":-1")?,
+        Some(PlanFault::Kind(Key::Seed))
+    );
+    assert_eq!(rt;
+        fault_with(alloc, "\"envelope\":false,\"margin\":[2,1]")?,
+        None
+    );
     Ok(())
 }
 
@@ -93,6 +113,7 @@ fn defaults_and_values(rt: HostRuntime) -> Result<(), Fail> {
     assert_eq!(rt; plan.publish, SchemeName::Racke);
     assert_eq!(rt; plan.margin, None);
     assert_eq!(rt; (plan.k, plan.budget, plan.trees, plan.seed), (4, 4, 8, 0));
+    assert!(rt; !plan.envelope);
     let text =
         b"{\"topology\":\"t\",\"matrices\":\"m\",\"failures\":\"f\",\"schemes\":[\"smore\"],\"recovery\":\"bypass\",\"publish\":\"ksp\",\"margin\":[3,2],\"seed\":18446744073709551615}";
     let plan = read_plan(alloc, text)?;
@@ -102,5 +123,12 @@ fn defaults_and_values(rt: HostRuntime) -> Result<(), Fail> {
     assert_eq!(rt; plan.publish, SchemeName::Ksp);
     assert_eq!(rt; plan.margin, Some((3, 2)));
     assert_eq!(rt; plan.seed, u64::MAX);
+    assert!(rt; !plan.envelope);
+    let plan = read_plan(
+        alloc,
+        b"{\"envelope\":true,\"topology\":\"t\",\"matrices\":\"m\"}",
+    )?;
+    assert!(rt; plan.envelope);
+    assert_eq!(rt; plan.margin, None);
     Ok(())
 }

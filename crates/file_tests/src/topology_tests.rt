@@ -1,6 +1,5 @@
 use std::alloc::Global;
 use std::test::Fail;
-use te_model::MAX_NODES;
 use topology::*;
 
 fn fault_of(alloc: Global, bytes: &[u8]) -> Option<TopologyFault> {
@@ -77,16 +76,38 @@ fn nodes_in_order_of_appearance(rt: HostRuntime) -> Result<(), Fail> {
     Ok(())
 }
 
-#[test]
-fn no_more_nodes_than_the_limit(rt: HostRuntime) -> Result<(), Fail> {
-    let alloc = rt.alloc();
+// So many links from one node, each to a node of its own.
+fn star(alloc: Global, links: u32) -> Result<String, Fail> {
     let mut text = String::from_str(alloc, "source,target,capacity,cost\n")?;
-    for node in 1..=MAX_NODES {
-        text.push_str(format!(in alloc; "n0,n{node},1,1\n")?.as_str())?;
+    for node in 0..links {
+        text.push_str(format!(in alloc; "hub,n{node},1,1\n")?.as_str())?;
     }
+    Ok(text)
+}
+
+// So many links between two nodes.
+fn parallel(alloc: Global, links: u32) -> Result<String, Fail> {
+    let mut text = String::from_str(alloc, "source,target,capacity,cost\n")?;
+    for _ in 0..links {
+        text.push_str("a,b,1,1\n")?;
+    }
+    Ok(text)
+}
+
+#[test]
+fn no_more_nodes_and_links_than_the_limit(rt: HostRuntime) -> Result<(), Fail> {
+    let alloc = rt.alloc();
+    let most = read(alloc, star(alloc, 127)?.as_bytes())?;
+    assert_eq!(rt; most.names.as_slice().len(), 128);
     assert_eq!(rt;
-        fault_of(alloc, text.as_bytes()),
-        Some(TopologyFault::TooMany(MAX_NODES as u64))
+        fault_of(alloc, star(alloc, 128)?.as_bytes()),
+        Some(TopologyFault::TooMany(128))
+    );
+    let most = read(alloc, parallel(alloc, 1024)?.as_bytes())?;
+    assert_eq!(rt; most.links.as_slice().len(), 1024);
+    assert_eq!(rt;
+        fault_of(alloc, parallel(alloc, 1025)?.as_bytes()),
+        Some(TopologyFault::TooMany(1025))
     );
     Ok(())
 }

@@ -15,6 +15,3 @@ mod shares;
 
 pub use feed::Feed;
 pub use finding::{Finding, verdict};
-
-#[cfg(test)]
-mod tests;

@@ -25,7 +25,7 @@ use Rattle.te_model.proofs.PathRoutings.{path_routing}
 use Rattle.te_model.proofs.Tests.{all_from_tests, first_failing_none_at, first_some_none_at}
 use Rattle.te_model.proofs.Valid.{rules_hold, valid_limits}
 use Rattle.te_model.proofs.ValidParts.{valid_parts}
-use Rattle.te_model.proofs.WellFormed.{few_nodes, links_join, well_formed_parts}
+use Rattle.te_model.proofs.WellFormed.{few_nodes, links_join}
 use Rattle.shortest_path.specs.Paths.{IsLeastPath}
 use Rattle.shortest_path.proofs.PathLengths.{path_short}
 use Rattle.routing.specs.Split.{are_splits}
@@ -36,6 +36,7 @@ use Rattle.best_blocks.specs.Need.{HasNumbers}
 use Rattle.best_blocks.specs.Sharing.{HasShare}
 use Rattle.best_blocks.proofs.BlockValid.{best_valid}
 use Rattle.best_blocks.proofs.SharesListed.{link_within}
+use Rattle.ratio_certificate.specs.Form.{made_set}
 use Rattle.ratio_certificate.specs.Made.{IsMade, IsOwnBest}
 
 -- the rules of paths hold of each pair
@@ -103,11 +104,11 @@ set_within limits pairs (Box lower upper) shaped numbers each =
       each = λ p below. let both = and_parts _ _ (each p below) in (leb-true _ _ both.0, leb-true _ _ both.1);
     }
 
--- what the rules of a valid certificate of the first format say of its parts
+-- what the rules of a valid certificate say of its parts, in either format
 pub record HasSoundParts (c : Certificate) : Type 0 where
   pub within : IsRoutingWithin c.head.network c.head.routes
   pub splits : are_splits c.head.routes ≡ true
-  pub shaped : is_shaped_set FORMAT_1 (length c.head.routes) c.head.set ≡ true
+  pub shaped : is_shaped_set (limits_of c.head.format) (length c.head.routes) c.head.set ≡ true
   pub margin : has_margin_numbers c.head.set ≡ true
   pub bounds : (p : ℕ) → p < length c.head.routes → has_pair_bounds c.head.set p ≡ true
   pub numbers : All (HasNumbers c.head.network) c.blocks
@@ -118,8 +119,8 @@ block_numbers h b valid =
     let weights : length b.weights ≡ link_count h.network = grind (arith, nat_tests) in
     record { numbers = valid.numbers; small = valid.small; weights = weights }
 
-pub sound_parts : (c : Certificate) → c.head.format ≡ 1 → IsValid c → HasSoundParts c
-sound_parts c first valid =
+pub sound_parts : (c : Certificate) → IsValid c → HasSoundParts c
+sound_parts c valid =
     let h = c.head in
     let limits = limits_of h.format in
     let kept = rules_hold c valid.1 in
@@ -140,7 +141,7 @@ sound_parts c first valid =
             (λ r shaped. let less = few_paths limits r shaped in omega (arith, less, few)) h.routes pairs_shape;
       };
       splits = splits_of h.network h.routes splits;
-      shaped = subst (λ f. is_shaped_set (limits_of f) (length c.head.routes) c.head.set ≡ true) first set_shape;
+      shaped = set_shape;
       margin = kept.margin;
       bounds = kept.base;
       numbers = All-weaker (IsValidBlock h) (HasNumbers h.network) (block_numbers h) c.blocks ((valid_parts c).0 valid).blocks;
@@ -151,7 +152,7 @@ pub made_shares : (net : Network) (routes : List PairRoutes) (wanted : DemandSet
     All (λ b. HasShare c.head.routes b.link) c.blocks
 made_shares net routes wanted c made =
     subst (λ (r : List PairRoutes). All (λ b. HasShare r b.link) c.blocks) (sym made.routes_are)
-    (All-weaker (IsOwnBest net routes wanted) (λ b. HasShare routes b.link) (λ b own. own.0) c.blocks made.best)
+    (All-weaker (IsOwnBest net routes (made_set net wanted)) (λ b. HasShare routes b.link) (λ b own. own.0) c.blocks made.best)
 
 -- a block that is read at a place stands for such a link
 pub shared_block : (routes : List PairRoutes) (blocks listed : List Block) (k : ℕ) (b : Block) → All (λ b. HasShare routes b.link) blocks → listed ≡ blocks →
@@ -160,16 +161,15 @@ shared_block routes blocks listed k b shared same below is =
     let here : HasShare routes (get_or listed k b).link = rw same (shared k b (rw same at below)) in
     subst (λ (x : Block). HasShare routes x.link) (sym is) here
 
--- what a certificate of a best block begins with
+-- what a certificate of a best block begins with, in the format that has room for every network
 abbrev head_of : Network → List PairRoutes → DemandSet → Head
-head_of net routes wanted = record { format = 1; network = net; routes = routes; set = wanted; ratio = 0 }
+head_of net routes wanted = record { format = 2; network = net; routes = routes; set = wanted; ratio = 0 }
 
 pub best_numbers : (net : Network) (routes : List PairRoutes) (wanted : DemandSet) (e : ℕ) (weights : List ℕ) (block : Block) → is_well_formed net ≡ true →
     IsRoutingWithin net routes → HasShare routes e → length weights ≡ link_count net → All (λ w. w ≤ 2 ^ 28) weights →
     IsBestBlock net routes wanted e weights block → HasNumbers net block
 best_numbers net routes wanted e weights block formed within share count small best =
-    let few = (well_formed_parts net formed).nodes in
-    let valid = best_valid (head_of net routes wanted) e weights block formed within (omega (arith, few)) (link_within net routes e within.splits share) count small best in
+    let valid = best_valid (head_of net routes wanted) e weights block formed within (few_nodes net formed) (link_within net routes e within.splits share) count small best in
     record {
       numbers = valid.numbers;
       small = valid.small;

@@ -1,11 +1,11 @@
 //! What makes a certificate polished, tried round by round and change by change on small networks and on the backbone.
 ghost use Rattle.std.specs.Prelude.{◌≡◌, ◌^◌, ◌<◌, ◌≤◌, ℕ, All, IfOk, IfSome, IsTrue, length, true};
+ghost use Rattle.te_model.specs.Formats.{limits_of};
 ghost use Rattle.te_model.specs.Network.{is_well_formed, link_count, node_count};
 ghost use Rattle.te_model.specs.Pairs.{IsPairAmong};
 ghost use Rattle.te_model.specs.Shape.{is_shaped_set};
 ghost use Rattle.te_model.specs.Validity.{has_margin_numbers, has_pair_bounds};
-ghost use Rattle.te_model.specs.declared.limits.TheConstants.{FORMAT_1};
-ghost use Rattle.best_blocks.specs.Conditions.{IsNoBox, IsRoutingWithin, IsSetWithin};
+ghost use Rattle.best_blocks.specs.Conditions.{IsRoutingWithin, IsSetWithin};
 ghost use Rattle.best_blocks.specs.Need.{HasNumbers};
 ghost use Rattle.best_blocks.specs.Sharing.{HasShare};
 ghost use Rattle.traffic_matrix.specs.Limits.{IsMatrix};
@@ -46,13 +46,15 @@ const MAX_CAPACITY: u64 = 1 << 32;
 /// What a certificate is made of, and the blocks that it has.
 #[derive(Drop)]
 struct Made {
+    /// The number of its format.
+    format: u32,
     network: Network,
     routing: Routing,
     set: DemandSet,
     blocks: Items<Block>,
     ghost formed: { IsTrue (is_well_formed network) },
     ghost within: { IsRoutingWithin network routing.routes },
-    ghost shaped: { IsTrue (is_shaped_set FORMAT_1 (length routing.routes) set) },
+    ghost shaped: { IsTrue (is_shaped_set (limits_of format) (length routing.routes) set) },
     ghost margin: { IsTrue (has_margin_numbers set) },
     ghost bounds: { (p : ℕ) → p < length routing.routes → IsTrue (has_pair_bounds set p) },
     ghost numbers: { All (HasNumbers network) blocks },
@@ -354,7 +356,6 @@ fn margin(alloc: Global, num: u64, series: &Series) -> Result<DemandSet, Memory>
     requires num { (1 ≤ num) × (num ≤ 1000) }
     requires series { All (IsMatrix (length series.now.pairs.list)) series.now.steps }
     ensures set { IfOk result (IsSetWithin (length series.now.pairs.list)) }
-    ensures first { IfOk result IsNoBox }
 {
     match series.steps.as_slice().first() {
         Some(matrix) => {
@@ -372,7 +373,6 @@ fn margin(alloc: Global, num: u64, series: &Series) -> Result<DemandSet, Memory>
 fn demand_set(alloc: Global, demands: Demands, series: &Series) -> Result<DemandSet, Memory>
     requires { All (IsMatrix (length series.now.pairs.list)) series.now.steps }
     ensures set { IfOk result (IsSetWithin (length series.now.pairs.list)) }
-    ensures first { IfOk result IsNoBox }
 {
     match demands {
         Demands::All => Ok(DemandSet::All),
@@ -405,6 +405,7 @@ fn certificate_of(alloc: Global, case: &Case) -> Result<Made, Fail>
         routes: head.routes,
     };
     Ok(Made {
+        format: head.format,
         network: head.network,
         routing,
         set: head.set,

@@ -8,4 +8,4 @@ pub make-requires-clause-routing : goal.make-requires-clause-routing
 make-requires-clause-routing c = sample_within _ _ c.in_ok-net.ensures c.in_ok-routing.ensures
 
 pub make-requires-clause-set : goal.make-requires-clause-set
-make-requires-clause-set c = subst (λ (r : List PairRoutes). IsSetWithin (length r) c.args.set) (sym c.in_ok-routing.ensures) c.requires.set
+make-requires-clause-set c = subst (λ (r : List PairRoutes). IsSetWithin (length r) c.args.set) (sym c.in_ok-routing.ensures) c.requires

@@ -14,12 +14,12 @@ publish-requires-clause-ascending c = ascending_pairs _ c.in_ok-series.series c.
 pub invariant_of-routing : goal.invariant_of-routing
 invariant_of-routing c =
     let made = c.in_ok-certificate.ensures.made.2 in
-    record { splits = (sound_parts c.in_ok-certificate.certificate made.format made.valid).splits }
+    record { splits = (sound_parts c.in_ok-certificate.certificate made.valid).splits }
 
 pub invariant_of-result : goal.invariant_of-result
 invariant_of-result c =
     let made = c.in_ok-certificate.ensures.made.2 in
-    let parts = sound_parts c.in_ok-certificate.certificate made.format made.valid in
+    let parts = sound_parts c.in_ok-certificate.certificate made.valid in
     record {
       formed = subst (λ (n : Network). is_well_formed n ≡ true) (sym made.network) c.in_ok-network.ensures.well_formed;
       within = parts.within;
@@ -30,4 +30,4 @@ invariant_of-result c =
     }
 
 pub returns : goal.returns
-returns c = made_shares _ _ _ c.in_ok-certificate.certificate c.in_ok-certificate.ensures.made.2
+returns c = made_shares c.in_ok-network.network _ c.in_ok-set.set c.in_ok-certificate.certificate c.in_ok-certificate.ensures.made.2

@@ -1,9 +1,9 @@
-use Rattle.te_model.specs.declared.limits.TheConstants.{FORMAT_1}
+use Rattle.te_model.specs.Formats.{limits_of}
 use Rattle.simulation_tests.proofs.PolishedLaws.{best_numbers, set_within}
 use Rattle.simulation_tests.proofs.polished_tests.need_under.Goals as goal
 
 pub scale-requires-clause-set : goal.scale-requires-clause-set
-scale-requires-clause-set c = set_within FORMAT_1 _ _ c.args.made.now.shaped c.args.made.now.margin c.args.made.now.bounds
+scale-requires-clause-set c = set_within (limits_of c.args.made.now.format) _ _ c.args.made.now.shaped c.args.made.now.margin c.args.made.now.bounds
 
 pub need-requires-clause-numbers : goal.need-requires-clause-numbers
 need-requires-clause-numbers c =

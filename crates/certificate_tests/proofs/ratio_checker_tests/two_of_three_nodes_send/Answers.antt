@@ -2,7 +2,7 @@ use Rattle.std.proofs.Common.{◌∙◌, ap, subst, sym, refl, [], ◌∷◌}
 use Rattle.te_model.specs.Validity.{IsValid}
 use Rattle.te_model.specs.declared.demand.DemandSet.TheVariants.{All}
 use Rattle.te_model.specs.ThreeNodes.{three_nodes_in}
-use Rattle.ratio_checker.proofs.tests.two_of_three_nodes_send.Goals as goal
+use Rattle.certificate_tests.proofs.ratio_checker_tests.two_of_three_nodes_send.Goals as goal
 
 pub found-requires : goal.found-requires
 found-requires g c = subst IsValid (sym c.in_ok-for_all.ensures) (refl, refl)

@@ -3,9 +3,9 @@ ghost use Rattle.te_model.specs.declared.demand.DemandSet.TheVariants.{All};
 ghost use Rattle.te_model.specs.ThreeNodes.{blocks_for_all, block_for_double, blocks_for_double, block_for_equal, box_between, double_demands, equal_demands, three_nodes_in};
 ghost use Rattle.te_model.specs.TwoLinks.{half_block, out_of_reach_certificate, parallel_certificate};
 ghost use Rattle.te_model.specs.Validity.{IsValid};
-ghost use Rattle.ratio_checker.specs.Samples.{equal_blocks, straight_block};
+ghost use Rattle.certificate_tests.specs.RatioCheckerSamples.{equal_blocks, straight_block};
 
-use super::*;
+use ratio_checker::{Feed, Finding, verdict};
 use std::alloc::{AllocError, Global};
 use std::test::Fail;
 use te_model::{

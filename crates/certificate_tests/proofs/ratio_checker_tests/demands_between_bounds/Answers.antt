@@ -1,6 +1,6 @@
 use Rattle.std.proofs.Common.{subst, sym, refl}
 use Rattle.te_model.specs.Validity.{IsValid}
-use Rattle.ratio_checker.proofs.tests.demands_between_bounds.Goals as goal
+use Rattle.certificate_tests.proofs.ratio_checker_tests.demands_between_bounds.Goals as goal
 
 pub found-requires : goal.found-requires
 found-requires g c = subst IsValid (sym c.in_ok-for_box.ensures) (refl, refl)

@@ -5,7 +5,7 @@ use Rattle.te_model.specs.Validity.{IsValidBlock}
 use Rattle.te_model.proofs.ValidParts.{valid_parts}
 use Rattle.ratio_checker.proofs.Ascending.{ascends_next}
 use Rattle.ratio_checker.proofs.Validity.{blocks_in_order}
-use Rattle.ratio_checker.proofs.tests.found.Goals as goal
+use Rattle.certificate_tests.proofs.ratio_checker_tests.found.Goals as goal
 
 pub new-requires : goal.new-requires
 new-requires c = ((valid_parts c.args.cert).0 c.requires).head

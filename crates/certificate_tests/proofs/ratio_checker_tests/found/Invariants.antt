@@ -2,7 +2,7 @@ use Rattle.std.proofs.Common.{◌<◌, ◌≤◌, List, length, get_or}
 use Rattle.te_model.specs.declared.certificate.Block.{Block}
 use Rattle.te_model.specs.Certificate.{empty_block}
 use Rattle.ratio_checker.specs.Feeds.{StandsFor, next_link}
-use Rattle.ratio_checker.proofs.tests.found.Given as goal
+use Rattle.certificate_tests.proofs.ratio_checker_tests.found.Given as goal
 
 abbrev pub invariant-loop-block : goal.invariant-loop-block
 invariant-loop-block l = record {
