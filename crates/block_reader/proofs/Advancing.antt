@@ -1,5 +1,5 @@
 -- One block after another, to the end of the file.
-use Rattle.std.proofs.Common.{◌≡◌, ◌≢◌, ◌∙◌, ℕ, ◌+◌, ◌≤◌, true, List, [], ◌∷◌, ◌++◌, length, Option, Some, None, Result, Ok, Err, refl, sym, ap, subst, arith}
+use Rattle.std.proofs.Common.{◌≡◌, ◌∙◌, ℕ, ◌+◌, true, List, [], ◌∷◌, ◌++◌, length, Option, Some, None, Result, Ok, Err, sym, ap, subst}
 use Rattle.std.proofs.Math.ListN.{replicate}
 use Rattle.std.proofs.lemmas.List.{length-replicate}
 use Rattle.te_model.specs.declared.network.Network.{Network}
@@ -10,19 +10,18 @@ use Rattle.te_model.specs.Network.{node_count, link_count, no_link}
 use Rattle.te_model.specs.Formats.{limits_of}
 use Rattle.te_model.specs.Validity.{block_fault, earlier, follows, link_before, IsValidBlock}
 use Rattle.cert_text.specs.Reading.{kept}
-use Rattle.cert_text.specs.Grammar.{block_at, counts_of}
+use Rattle.cert_text.specs.Grammar.{block_at}
 use Rattle.cert_text.specs.Fits.{FitsBlock}
 use Rattle.cert_text.specs.declared.fault.Stop.{Stop}
 use Rattle.cert_text.specs.declared.limits.Counts.{Counts}
 use Rattle.block_reader.specs.declared.blocks.Blocks.{Blocks}
-use Rattle.block_reader.specs.declared.lines.Lines.{Lines}
 use Rattle.block_reader.specs.declared.stream_fault.StreamFault.{StreamFault}
 use Rattle.block_reader.specs.declared.stream_fault.StreamFault.TheVariants as faults
 use Rattle.block_reader.specs.Answers.{Gives}
-use Rattle.block_reader.specs.Blocks.{AreOf, AreBehind, SameRoom, IsSound, IsEarliest, IsShapeOf, IsTextOf, IsFaultOf}
+use Rattle.block_reader.specs.Blocks.{AreOf, AreBehind, SameRoom, IsSound, IsEarliest, IsShapeOf, IsFaultOf}
 use Rattle.te_ports.specs.Shown.{Shown}
 use Rattle.block_reader.specs.Depots.{Reads, ReadsTo}
-use Rattle.block_reader.proofs.Handing.{block_handed, block_refused, sound_more, first_fault_is, earliest_more, fault_in, sound_block, valid_block}
+use Rattle.block_reader.proofs.Handing.{block_handed, sound_more, first_fault_is, earliest_more, fault_in, sound_block, valid_block}
 
 -- ---- what a call says of the file of one name
 

@@ -1,7 +1,5 @@
 -- What reads gave of a file, behind a head and some blocks: one block more, the end, and faults.
-use Rattle.std.proofs.Common.{◌≡◌, ◌∙◌, ℕ, zero, suc, ◌+◌, ◌≤◌, Bool, true, false, ◌&&◌, List, [], ◌∷◌, ◌++◌, length, Option, Some, None, Result, Ok, Err, refl, sym, ap, subst, arith, append_assoc, append-nil, length-append}
-use Rattle.std.specs.Prelude.{IsTrue, slice_index_or}
-use Rattle.std.specs.List.{list_all}
+use Rattle.std.proofs.Common.{◌≡◌, ◌∙◌, ℕ, zero, suc, ◌+◌, ◌≤◌, true, ◌&&◌, List, [], ◌∷◌, ◌++◌, length, Option, Some, None, Result, Ok, Err, refl, sym, ap, arith, append_assoc, append-nil, length-append}
 use Rattle.std.proofs.Math.Seq.{get_or-append_seam}
 use Rattle.std.proofs.lemmas.Bool.Decides.{nat_tests}
 use Rattle.te_model.specs.declared.network.Network.{Network}
@@ -10,9 +8,9 @@ use Rattle.te_model.specs.declared.certificate.Certificate.{Certificate}
 use Rattle.te_model.specs.declared.certificate.Head.{Head}
 use Rattle.te_model.specs.declared.certificate.RuleFault.{RuleFault}
 use Rattle.te_model.specs.Certificate.{empty_block}
-use Rattle.te_model.specs.Counting.{or_else, unless}
+use Rattle.te_model.specs.Counting.{unless}
 use Rattle.te_model.specs.Formats.{limits_of}
-use Rattle.te_model.specs.Shape.{is_count, is_shaped, is_shaped_head, is_shaped_block}
+use Rattle.te_model.specs.Shape.{is_count, is_shaped_head, is_shaped_block}
 use Rattle.te_model.specs.Validity.{block_at as block_of, first_rule, head_fault, block_fault, blocks_fault, link_before, earlier, follows, fault_at, is_sound_block, has_block_numbers, has_small_numbers, IsValidHead, IsValidBlock}
 use Rattle.te_model.proofs.Earlier.{earlier-assoc}
 use Rattle.te_model.proofs.RuleParts.{first_rule-parts, blocks_fault-more}
@@ -33,8 +31,8 @@ use Rattle.block_reader.specs.declared.stream_fault.StreamFault.{StreamFault}
 use Rattle.block_reader.specs.declared.stream_fault.StreamFault.TheVariants as faults
 use Rattle.block_reader.specs.Ahead.{passing}
 use Rattle.block_reader.specs.Standing.{StandsIn}
-use Rattle.block_reader.specs.Answers.{place_in, IsBehind, IsWhole, Gives, IsMisread, StopsAs, IsClosed}
-use Rattle.block_reader.specs.Blocks.{rest_at, AreOf, HasCounted, AreBehind, IsSound, IsEarliest, IsShapeOf, IsTextOf, IsFaultOf}
+use Rattle.block_reader.specs.Answers.{place_in, IsBehind, IsWhole, Gives, StopsAs, IsClosed}
+use Rattle.block_reader.specs.Blocks.{rest_at, AreOf, AreBehind, IsSound, IsEarliest, IsShapeOf, IsTextOf, IsFaultOf}
 
 -- ---- what is left to read
 

@@ -1,8 +1,7 @@
 -- Fair shares of the arrivals of a link alone are those of all flows, of which the others bring nothing.
 use Rattle.std.proofs.Common.{◌≡◌, ℕ, zero, suc, ◌+◌, ◌-◌, ◌<◌, ◌≤◌, Bool, true, false, List, [], ◌∷◌, ◌++◌, length, map, min, slice_index, arith, refl, ap, sym, ◌∙◌, inl, inr, ◌==◌, ◌&&◌, subst, length-append}
 use Rattle.std.specs.Prelude.{if◌then◌else◌, nat_lt, nat_le, sum_by}
-use Rattle.std.specs.List.{range_with_len}
-use Rattle.std.proofs.lemmas.Bool.{cases_lt, eq-eqb, false≢true}
+use Rattle.std.proofs.lemmas.Bool.{cases_lt, false≢true}
 use Rattle.std.proofs.lemmas.Bool.Decides.{nat_tests}
 use Rattle.std.proofs.lemmas.List.{get_or-map, get_or_append_left, length-map}
 use Rattle.std.proofs.lemmas.List.Sums.{sum_by-append, sum-map}
@@ -11,8 +10,8 @@ use Rattle.std.proofs.Math.Seq.{get_or-append_seam}
 use Rattle.te_model.specs.Counting.{sum_below, count_below, last_upto}
 use Rattle.te_model.proofs.Sums.{sum_below-same}
 use Rattle.te_model.proofs.ApportionLaws.{sum_is_below}
-use Rattle.flow_sim.specs.Fair.{taken_at, fair_level, gets_more, share_at, fair, fair_shares}
-use Rattle.flow_sim.specs.Step.{Setting, units, before_round, served}
+use Rattle.flow_sim.specs.Fair.{taken_at, fair_level, share_at, fair}
+use Rattle.flow_sim.specs.Step.{Setting, units, before_round}
 use Rattle.flow_sim.specs.Asking.{numbers_below, asking, arrived, ServesFairly}
 
 last_upto-same : (n : ℕ) (p q : ℕ → Bool) → ((k : ℕ) → p k ≡ q k) → last_upto n p ≡ last_upto n q

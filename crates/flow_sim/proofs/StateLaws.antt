@@ -1,26 +1,25 @@
 -- A round of the code is a round of the definition.
-use Rattle.std.proofs.Common.{◌≡◌, ℕ, zero, suc, ◌+◌, ◌-◌, ◌<◌, ◌≤◌, ◌^◌, Bool, true, false, List, [], ◌∷◌, length, map, min, sum, slice_index, arith, refl, ap, sym, ◌∙◌, ◌==◌, add-one, subst, inl, inr}
+use Rattle.std.proofs.Common.{◌≡◌, ℕ, suc, ◌+◌, ◌-◌, ◌<◌, ◌≤◌, ◌^◌, Bool, true, false, List, [], length, map, min, sum, slice_index, arith, refl, ap, sym, ◌∙◌, ◌==◌, add-one, subst, inl, inr}
 use Rattle.std.specs.Prelude.{if◌then◌else◌, nat_lt, slice_index_or}
 use Rattle.std.specs.List.{range_with_len}
 use Rattle.std.proofs.lemmas.Bool.{cases_lt, eq-eqb}
 use Rattle.std.proofs.lemmas.Bool.Decides.{nat_tests}
-use Rattle.std.proofs.lemmas.List.{get_or_default, get_or_past, length-map}
-use Rattle.std.proofs.lemmas.List.FromFn.{length-map-range_with_len}
+use Rattle.std.proofs.lemmas.List.{get_or_default, get_or_past}
 use Rattle.te_model.specs.declared.network.Network.{Network}
 use Rattle.te_model.specs.declared.route.PathShare.{PathShare}
 use Rattle.te_model.specs.declared.route.PairRoutes.{PairRoutes}
 use Rattle.te_model.specs.Counting.{sum_below}
 use Rattle.te_model.specs.Network.{link_count}
 use Rattle.te_model.proofs.Conditionals.{if_le-self}
-use Rattle.te_model.proofs.Sums.{sum_below-same, sum_below-le, sum_below-term, sum_below-zero}
-use Rattle.te_model.proofs.ApportionLaws.{sum_made, sum_is_below}
+use Rattle.te_model.proofs.Sums.{sum_below-le, sum_below-term, sum_below-zero}
+use Rattle.te_model.proofs.ApportionLaws.{sum_made}
 use Rattle.flow_sim.specs.declared.state.State.{State}
 use Rattle.flow_sim.specs.Asking.{numbers_below, asking, arrived}
 use Rattle.flow_sim.specs.Fair.{fair, fair_shares}
 use Rattle.flow_sim.specs.Queues.{queues_in, asks, AreQueues}
-use Rattle.flow_sim.specs.Serving.{Flow, flow_at, flow_served, link_serves, served_by, IsAbsent, HasShape, HasRoomFor, IsServed, IsRound, AreApart}
+use Rattle.flow_sim.specs.Serving.{Flow, flow_at, flow_served, link_serves, served_by, HasShape, HasRoomFor, IsRound, AreApart}
 use Rattle.flow_sim.specs.State.{IsState}
-use Rattle.flow_sim.specs.Step.{Setting, arrivals, served, passed, used, units, lost, before_round, lost_failed_before, lost_full_before}
+use Rattle.flow_sim.specs.Step.{Setting, arrivals, served, used, units, lost, before_round, lost_failed_before, lost_full_before}
 use Rattle.routing.specs.Merge.{no_path}
 use Rattle.flow_sim.specs.Traffic.{flow_paths, step_setting}
 use Rattle.flow_sim.proofs.Conservation.{kept_so_far}

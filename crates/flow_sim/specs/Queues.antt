@@ -3,7 +3,6 @@ use Rattle.std.specs.Prelude.{ℕ, ◌≡◌, ◌<◌, ◌+◌, Bool, ◌&&◌, 
 use Rattle.te_model.specs.declared.route.PathShare.{PathShare}
 use Rattle.flow_sim.specs.Asking.{numbers_below}
 use Rattle.routing.specs.Merge.{no_path}
-use Rattle.flow_sim.specs.Traffic.{longest}
 
 -- the queues of round r
 abbrev pub queues_in : List (List (List ℕ)) → ℕ → List (List ℕ)

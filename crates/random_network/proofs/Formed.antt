@@ -1,18 +1,16 @@
 -- A drawn network is well formed.
-use Rattle.std.proofs.Common.{ℕ, ◌+◌, ◌-◌, ◌*◌, ◌/◌, ◌%◌, ◌^◌, ◌<◌, ◌≤◌, ◌≡◌, ◌≢◌, ◌∙◌, refl, sym, subst, List, [], ◌∷◌, ◌++◌, length, get_or, All, Bool, true, false, not, cond, nat_le, arith, inl, inr}
+use Rattle.std.proofs.Common.{ℕ, ◌+◌, ◌-◌, ◌*◌, ◌/◌, ◌%◌, ◌<◌, ◌≤◌, ◌≡◌, ◌≢◌, ◌∙◌, refl, sym, subst, List, [], ◌∷◌, ◌++◌, length, get_or, All, Bool, true, false, not, cond, nat_le, arith, inl, inr}
 use Rattle.std.specs.Prelude.{bytes_eq, codes, decimal}
 use Rattle.std.specs.List.{flat_map, list_all, range_with_len}
 use Rattle.std.proofs.Math.Nat.{mod-eq-sub-mod, mod-eq_of_lt, mod-lt}
 use Rattle.std.proofs.lemmas.Bool.{cases_lt, false_from_ne_true, leb-true, not_from_false}
-use Rattle.std.proofs.lemmas.Bool.Decides.{nat_tests}
 use Rattle.std.proofs.lemmas.Fmt.{decimal_digit, decimal_injective, decimal_step}
 use Rattle.std.proofs.lemmas.List.{length-append}
 use Rattle.std.proofs.lemmas.List.Elements.{All-append, All-cons, All-head, All-nil, All-tail}
 use Rattle.std.proofs.lemmas.List.FromFn.{get_or-map-range_with_len, get_or-range_with_len, length-map-range_with_len, length-range_with_len}
 use Rattle.std.proofs.lemmas.Slice.Eq.{bytes_eq-Decides}
 use Rattle.te_model.specs.declared.network.Link.{Link}
-use Rattle.te_model.specs.declared.network.Network.{Network}
-use Rattle.te_model.specs.Network.{is_name, is_new_name, is_sound_link, is_well_formed, link_at, name_at, node_count, no_link}
+use Rattle.te_model.specs.Network.{is_name, is_new_name, is_well_formed, link_at, name_at, node_count, no_link}
 use Rattle.te_model.proofs.Searches.{all_below_at, all_below_from}
 use Rattle.te_model.proofs.SoundLinks.{IsLink, sound_link}
 use Rattle.te_model.proofs.Tests.{all_to_tests}

@@ -17,7 +17,7 @@ use Rattle.te_model.specs.declared.certificate.Certificate.{Certificate}
 use Rattle.te_model.specs.declared.demand.DemandSet.{DemandSet}
 use Rattle.te_model.specs.declared.demand.DemandSet.TheVariants.{All as AllMatrices, Margin, Box}
 use Rattle.te_model.specs.Text.{numbers, words, link_line, network_lines, path_line, pair_lines, set_lines, row_line, side_lines, block_lines, head_lines, certificate_lines}
-use Rattle.text_size.proofs.Widths.{digit_count, widest, widths, size, width-le, widths-le, length-words, length-numbers, line-numbers, size-append, size-three, size-four, size-map, size-flat_map}
+use Rattle.text_size.proofs.Widths.{digit_count, widest, size, width-le, widths-le, length-words, length-numbers, line-numbers, size-append, size-three, size-four, size-map, size-flat_map}
 
 -- limits that are numbers of 64 bits
 pub record AreWords (limits : Limits) : Type 0 where

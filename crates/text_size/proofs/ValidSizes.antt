@@ -1,5 +1,5 @@
 -- The counts and numbers of a valid certificate are small, so its text is short.
-use Rattle.std.proofs.Common.{◌≡◌, ℕ, ◌^◌, ◌<◌, ◌≤◌, Bool, true, false, ◌&&◌, cond, List, [], ◌∷◌, length, get_or, arith, ap, ◌∙◌, lit<, lit≤, nat_le, nat_lt, ◌==◌, slice_index}
+use Rattle.std.proofs.Common.{◌≡◌, ℕ, ◌^◌, ◌<◌, ◌≤◌, Bool, true, false, ◌&&◌, cond, List, length, get_or, arith, ap, ◌∙◌, lit<, lit≤, nat_le, nat_lt, ◌==◌, slice_index}
 use Rattle.std.specs.Prelude.{All}
 use Rattle.std.specs.List.{list_all}
 use Rattle.std.proofs.lemmas.Bool.{ltb-true, leb-true}
@@ -28,7 +28,7 @@ use Rattle.te_model.proofs.ValidParts.{valid_parts}
 use Rattle.te_model.specs.FileLimit.{file_limit}
 use Rattle.te_model.specs.Text.{text, Spells}
 use Rattle.text_size.proofs.Widths.{digit_count, length-text}
-use Rattle.text_size.proofs.LineSizes.{AreWords, IsShortLink, IsShortPair, IsShortNetwork, IsShortList, IsShortSet, IsShortRow, IsShortBlock, IsShort, link_size, network_size, path_size, pair_size, set_size, row_size, sides_size, block_size, head_size, certificate_size, certificate_lines-size}
+use Rattle.text_size.proofs.LineSizes.{AreWords, IsShortLink, IsShortPair, IsShortNetwork, IsShortSet, IsShortRow, IsShortBlock, IsShort, link_size, network_size, path_size, pair_size, set_size, row_size, sides_size, block_size, head_size, certificate_size, certificate_lines-size}
 
 -- what is small at each place is small in the list
 listed_small : (bound : ℕ) (xs : List ℕ) → ((k : ℕ) → slice_index xs k ≤ bound) → All (λ x. x ≤ bound) xs

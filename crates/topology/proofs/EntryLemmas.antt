@@ -1,5 +1,5 @@
 -- What a row says, by the tests that it passes.
-use Rattle.std.proofs.Common.{ℕ, ◌^◌, ◌≡◌, ◌≢◌, ◌∙◌, refl, List, [], ◌∷◌, length, Bool, true, false, ◌&&◌, not, Some, None, Result, Ok, Err, if◌then◌else◌}
+use Rattle.std.proofs.Common.{ℕ, ◌^◌, ◌≡◌, ◌≢◌, ◌∙◌, refl, List, [], ◌∷◌, length, Bool, true, false, ◌&&◌, not, Result, Ok, Err, if◌then◌else◌}
 use Rattle.std.specs.Str.{bytes_eq}
 use Rattle.te_model.specs.Network.{is_name}
 use Rattle.csv_records.specs.Field.{is_number_within, digits_from}

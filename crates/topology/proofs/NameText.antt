@@ -1,13 +1,11 @@
 -- A name is text.
-use Rattle.std.proofs.Common.{ℕ, ◌<◌, ◌≡◌, ◌≢◌, refl, List, [], ◌∷◌, length, Bool, true, false, ◌&&◌, Option, Some, None, IfNone, arith, nat_le}
+use Rattle.std.proofs.Common.{ℕ, ◌<◌, ◌≡◌, List, [], ◌∷◌, length, true, ◌&&◌, arith, nat_le}
 use Rattle.std.specs.List.{list_all}
 use Rattle.std.specs.Str.{IsUtf8, IsAscii}
 use Rattle.std.proofs.lemmas.Str.{IsUtf8-from_ascii}
 use Rattle.std.proofs.lemmas.Str.Ascii.{IsAscii-nil, IsAscii-cons}
 use Rattle.std.proofs.lemmas.Bool.{and_parts}
 use Rattle.std.proofs.lemmas.Bool.Decides.{nat_tests}
-use Rattle.csv.specs.Records.{field_at}
-use Rattle.csv.proofs.RecordFacts.{field-there}
 use Rattle.te_model.specs.Network.{is_name, is_name_byte}
 
 name-byte-ascii : (c : ℕ) → is_name_byte c ≡ true → c < 128

@@ -1,12 +1,10 @@
 -- What a row does to the network so far, and the network once no row is left.
-use Rattle.std.proofs.Common.{ℕ, ◌≡◌, ◌==◌, ◌≤◌, ◌<◌, refl, List, [], length, true, false, Bool, Result, Ok, Err, nat_lt, arith, subst, if◌then◌else◌}
+use Rattle.std.proofs.Common.{ℕ, ◌≡◌, ◌==◌, refl, List, length, true, false, Result, Ok, Err, nat_lt, arith}
 use Rattle.std.proofs.lemmas.Bool.Decides.{nat_tests}
 use Rattle.te_model.specs.declared.network.Network.{Network}
-use Rattle.te_model.specs.Network.{link_count}
-use Rattle.csv_records.specs.Rows.{and_then}
 use Rattle.topology.specs.declared.fault.TopologyFault.{TopologyFault}
 use Rattle.topology.specs.declared.fault.TopologyFault.TheVariants as fault
-use Rattle.topology.specs.Topology.{Entry, entry_of, with_link, within, with_row, closed, topology_of}
+use Rattle.topology.specs.Topology.{Entry, entry_of, with_link, within, with_row, closed}
 
 module _ (net : Network) (row : ℕ) (r : List (List ℕ)) where
   -- a row with a fault of its own

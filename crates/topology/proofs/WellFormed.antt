@@ -1,13 +1,11 @@
 -- What a network keeps while links are added, and that it is then well formed.
-use Rattle.std.proofs.Common.{ℕ, zero, suc, ◌+◌, ◌^◌, ◌≤◌, ◌<◌, ◌≡◌, ◌≢◌, ◌∙◌, refl, sym, List, [], ◌∷◌, length, All, Bool, true, false, not, get_or, arith}
+use Rattle.std.proofs.Common.{ℕ, ◌≤◌, ◌<◌, ◌≡◌, ◌≢◌, List, [], length, All, true, not, arith}
 use Rattle.std.specs.Prelude.{slice_index_or, bytes_eq}
 use Rattle.std.proofs.lemmas.Bool.{false_from_ne_true, not_from_false}
-use Rattle.std.proofs.lemmas.Bool.Decides.{nat_tests}
 use Rattle.std.proofs.lemmas.Slice.Eq.{bytes_eq-Decides}
-use Rattle.te_model.specs.declared.network.Link.{Link}
 use Rattle.te_model.specs.declared.network.Network.{Network}
 use Rattle.te_model.specs.declared.limits.TheConstants.{MAX_LINKS, MAX_NODES}
-use Rattle.te_model.specs.Network.{is_name, is_new_name, is_sound_link, is_well_formed, node_count, link_at, name_at, no_link}
+use Rattle.te_model.specs.Network.{is_name, is_new_name, is_well_formed, node_count, name_at, no_link}
 use Rattle.te_model.proofs.Searches.{all_below_from}
 use Rattle.te_model.proofs.SoundLinks.{IsLink, sound_link}
 use Rattle.te_model.proofs.Tests.{all_to_tests}

@@ -1,5 +1,5 @@
 -- What a table holds after a row more, and the series that it gives.
-use Rattle.std.proofs.Common.{ℕ, ◌+◌, ◌*◌, ◌/◌, ◌%◌, ◌≤◌, ◌<◌, ◌≡◌, ◌∙◌, refl, sym, ap, List, [], ◌∷◌, ◌++◌, map, filter, cond, append-nil, Bool, true, false, ◌&&◌, ◌||◌, ◌==◌, nat_lt, nat_le, is_some, Option, Some, None, Result, Ok, Err, arith, inl, inr, max, if◌then◌else◌}
+use Rattle.std.proofs.Common.{ℕ, ◌+◌, ◌*◌, ◌/◌, ◌≤◌, ◌<◌, ◌≡◌, ◌∙◌, refl, sym, ap, List, [], ◌∷◌, ◌++◌, map, filter, cond, append-nil, Bool, true, false, ◌&&◌, ◌||◌, ◌==◌, nat_lt, nat_le, is_some, Option, Some, Result, Ok, Err, arith, inl, inr, max, if◌then◌else◌}
 use Rattle.std.proofs.lemmas.Bool.Decides.{nat_tests}
 use Rattle.std.specs.List.{range_with_len}
 use Rattle.std.proofs.lemmas.List.FromFn.{filter_of_map_range_with_len_more}
@@ -16,7 +16,7 @@ use Rattle.traffic_matrix.specs.declared.demands.Demands.{Demands}
 use Rattle.traffic_matrix.specs.declared.fault.MatrixFault.{MatrixFault}
 use Rattle.traffic_matrix.specs.declared.fault.MatrixFault.TheVariants as fault
 use Rattle.traffic_matrix.specs.Pairs.{IsWithin, same_pair, pair_of_place}
-use Rattle.traffic_matrix.specs.Series.{demand_in, is_declared, step_count, series_of}
+use Rattle.traffic_matrix.specs.Series.{demand_in, series_of}
 use Rattle.traffic_matrix.specs.Rows.{latest_step, accepted, entry_of, with_row, entries_in, series_in}
 use Rattle.traffic_matrix.specs.Table.{declared_at, IsPut}
 use Rattle.traffic_matrix.specs.Shows.{Shows}

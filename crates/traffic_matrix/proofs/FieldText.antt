@@ -1,5 +1,5 @@
 -- Numbers and names as the fields of a row: what they read back as, and that they need no quotes.
-use Rattle.std.proofs.Common.{ℕ, ◌≤◌, ◌<◌, ◌^◌, ◌≡◌, refl, List, [], ◌∷◌, length, decimal, Bool, true, false, ◌&&◌, ◌||◌, nat_le, arith, rules}
+use Rattle.std.proofs.Common.{ℕ, ◌≤◌, ◌<◌, ◌^◌, ◌≡◌, refl, List, [], ◌∷◌, length, decimal, Bool, true, false, ◌&&◌, nat_le, arith, rules}
 use Rattle.std.specs.List.{list_all, list_any}
 use Rattle.std.proofs.lemmas.Bool.{and_from, and_parts}
 use Rattle.std.proofs.lemmas.Bool.Decides.{nat_tests}

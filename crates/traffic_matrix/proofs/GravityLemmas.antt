@@ -1,8 +1,7 @@
 -- The words of a step, and a drawn series within the limits.
-use Rattle.std.proofs.Common.{ℕ, ◌+◌, ◌*◌, ◌^◌, ◌≤◌, ◌<◌, ◌≡◌, ◌≢◌, ◌∙◌, refl, sym, ap, List, [], length, get_or, map, filter, All, AllPairs, Bool, true, false, not, ◌==◌, arith, inl, inr}
+use Rattle.std.proofs.Common.{ℕ, ◌*◌, ◌^◌, ◌≤◌, ◌<◌, ◌≡◌, ◌∙◌, refl, List, length, get_or, map, All, Bool, not, ◌==◌, arith, inl, inr}
 use Rattle.std.specs.List.{range_with_len}
 use Rattle.std.proofs.lemmas.Bool.{cases_lt, eqb-false, not-true}
-use Rattle.std.proofs.lemmas.Bool.Decides.{nat_tests}
 use Rattle.std.proofs.lemmas.List.{get_or-map, length-map}
 use Rattle.std.proofs.lemmas.List.FromFn.{get_or-map-range_with_len, length-map-range_with_len}
 use Rattle.std.proofs.lemmas.List.Kept.{AllPairs-filter}
@@ -13,7 +12,7 @@ use Rattle.te_model.proofs.Tests.{get_or_past}
 use Rattle.traffic_matrix.specs.declared.series.Series.{Series}
 use Rattle.random_words.specs.Words.{generator}
 use Rattle.traffic_matrix.specs.Pairs.{IsWithin, pair_of_place, all_pairs}
-use Rattle.traffic_matrix.specs.Gravity.{every_pair, size_at, sizes_in, products, gravity_matrix, gravity_of}
+use Rattle.traffic_matrix.specs.Gravity.{every_pair, size_at, sizes_in, gravity_matrix, gravity_of}
 use Rattle.traffic_matrix.specs.Limits.{Below, IsMatrix, IsSeries}
 use Rattle.traffic_matrix.proofs.DemandLemmas.{pair-within}
 use Rattle.traffic_matrix.proofs.LimitLemmas.{All-where, all-ascend}

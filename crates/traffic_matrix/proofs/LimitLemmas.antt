@@ -1,7 +1,7 @@
 -- A series that was read is within the limits.
-use Rattle.std.proofs.Common.{ℕ, zero, suc, ◌+◌, ◌*◌, ◌/◌, ◌%◌, ◌^◌, ◌≤◌, ◌<◌, ◌≡◌, ◌≢◌, ◌⊎◌, ◌∙◌, refl, sym, ap, subst, inl, inr, List, [], ◌∷◌, length, get_or, map, filter, All, AllPairs, Bool, true, false, ◌&&◌, ◌||◌, ◌==◌, cond, nat_lt, nat_le, is_some, unwrap_or, max, Option, Some, None, Result, Ok, Err, arith, if◌then◌else◌}
+use Rattle.std.proofs.Common.{ℕ, suc, ◌+◌, ◌*◌, ◌/◌, ◌^◌, ◌≤◌, ◌<◌, ◌≡◌, ◌≢◌, ◌∙◌, refl, sym, ap, subst, inl, inr, List, [], ◌∷◌, length, get_or, filter, All, AllPairs, Bool, true, false, ◌&&◌, ◌==◌, cond, nat_lt, nat_le, is_some, unwrap_or, Option, Some, None, Result, Ok, Err, arith, if◌then◌else◌}
 use Rattle.std.specs.Str.{bytes_eq}
-use Rattle.std.specs.List.{list_any, position, position_or_len, range_with_len}
+use Rattle.std.specs.List.{position_or_len}
 use Rattle.std.proofs.lemmas.Bool.{false≢true, cases_lt, or_cases}
 use Rattle.std.proofs.lemmas.Bool.Decides.{nat_tests}
 use Rattle.std.proofs.lemmas.List.{get_or-map, length-map}
@@ -11,7 +11,6 @@ use Rattle.std.proofs.lemmas.List.Kept.{AllPairs-filter}
 use Rattle.std.proofs.Math.Nat.{mul-le-mul_left}
 use Rattle.te_model.specs.declared.network.Network.{Network}
 use Rattle.te_model.specs.declared.route.Pair.{Pair}
-use Rattle.te_model.specs.declared.demand.Matrix.{Matrix}
 use Rattle.te_model.specs.Network.{node_count}
 use Rattle.te_model.specs.Pairs.{no_pair, IsPairAmong}
 use Rattle.csv_records.specs.Field.{is_number, is_number_within, digits_from}

@@ -1,5 +1,5 @@
 -- The names of nodes, as the keys of a set.
-use Rattle.std.proofs.Common.{ℕ, zero, suc, ◌+◌, ◌<◌, ◌≡◌, ◌≢◌, ◌∙◌, refl, sym, ap, List, [], ◌∷◌, ◌++◌, length, map, take, get_or, Vec, Global, Bool, true, false, not, ◌||◌, cond, arith, inl, inr, if◌then◌else◌}
+use Rattle.std.proofs.Common.{ℕ, suc, ◌+◌, ◌<◌, ◌≡◌, ◌≢◌, ◌∙◌, refl, sym, ap, List, [], ◌∷◌, ◌++◌, length, map, take, get_or, Vec, Global, Bool, true, false, not, ◌||◌, cond, arith, if◌then◌else◌}
 use Rattle.std.specs.Str.{bytes_eq}
 use Rattle.std.specs.List.{list_any, position, position_or_len}
 use Rattle.std.proofs.lemmas.Bool.{false≢true, false_from_ne_true, not-true}

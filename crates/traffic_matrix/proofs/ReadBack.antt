@@ -1,8 +1,6 @@
 -- What a series prints reads back as the series.
-use Rattle.std.proofs.Common.{ℕ, zero, suc, ◌+◌, ◌*◌, ◌/◌, ◌%◌, ◌≤◌, ◌<◌, ◌≡◌, ◌∙◌, refl, sym, ap, inl, inr, List, [], ◌∷◌, length, get_or, map, filter, All, AllPairs, Bool, true, false, cond, unwrap_or, min, Option, Some, Result, Ok, arith}
+use Rattle.std.proofs.Common.{ℕ, zero, suc, ◌*◌, ◌/◌, ◌%◌, ◌≤◌, ◌<◌, ◌≡◌, ◌∙◌, refl, sym, ap, inl, inr, List, [], ◌∷◌, length, get_or, map, filter, AllPairs, Bool, true, false, cond, unwrap_or, Some, Ok, arith}
 use Rattle.std.specs.List.{range_with_len}
-use Rattle.std.proofs.lemmas.Bool.{false≢true}
-use Rattle.std.proofs.lemmas.List.{get_or-map, length-map}
 use Rattle.std.proofs.lemmas.List.FromFn.{fill_by_all, get_or-map-range_with_len, length-map-range_with_len}
 use Rattle.std.proofs.lemmas.List.Kept.{AllPairs-filter}
 use Rattle.std.proofs.lemmas.Nat.{div-mul-add}
@@ -24,7 +22,7 @@ use Rattle.traffic_matrix.specs.Series.{demand_in, is_declared, step_count, decl
 use Rattle.traffic_matrix.specs.Text.{text_of, no_matrix}
 use Rattle.traffic_matrix.proofs.LimitLemmas.{All-where, all-ascend}
 use Rattle.traffic_matrix.proofs.TableLemmas.{pair-parts, place-below}
-use Rattle.traffic_matrix.proofs.RowText.{entry_at, entries_from, fields, header, series-records}
+use Rattle.traffic_matrix.proofs.RowText.{entries_from, fields, header, series-records}
 use Rattle.traffic_matrix.proofs.Written.{Written, start, steps-read, below-differ}
 
 -- a pair that stands in a list

@@ -1,9 +1,9 @@
 -- The text of a series as the text of records.
-use Rattle.std.proofs.Common.{ℕ, zero, suc, ◌+◌, ◌*◌, ◌≤◌, ◌<◌, ◌^◌, ◌≡◌, ◌∙◌, refl, sym, ap, List, [], ◌∷◌, ◌++◌, length, get_or, map, All, decimal, codes, append_assoc, append-nil, Bool, true, arith}
+use Rattle.std.proofs.Common.{ℕ, zero, suc, ◌+◌, ◌<◌, ◌≡◌, ◌∙◌, refl, sym, ap, List, [], ◌∷◌, ◌++◌, length, get_or, map, All, decimal, codes, append_assoc, append-nil, true, arith}
 use Rattle.std.specs.List.{flat_map, list_all, range_with_len}
 use Rattle.std.proofs.lemmas.Grind.{flat_map-append}
 use Rattle.std.proofs.lemmas.List.FromFn.{length-range_with_len, get_or-range_with_len}
-use Rattle.csv.specs.Reading.{default_config, strip_bom}
+use Rattle.csv.specs.Reading.{strip_bom}
 use Rattle.csv.specs.Writing.{default_writer, row_text, fields_text, is_blank, read_back}
 use Rattle.csv.specs.declared.parser.State.TheVariants as st
 use Rattle.csv.proofs.RoundTrip.{rows_text}
@@ -12,13 +12,12 @@ use Rattle.csv_records.specs.Rows.{records_of}
 use Rattle.csv_records.proofs.WriteLemmas.{read-back}
 use Rattle.std.proofs.lemmas.Bool.{and_parts}
 use Rattle.te_model.specs.declared.network.Network.{Network}
-use Rattle.te_model.specs.declared.route.Pair.{Pair}
 use Rattle.te_model.specs.Network.{is_name, node_count}
 use Rattle.te_model.specs.Pairs.{no_pair}
 use Rattle.traffic_matrix.specs.declared.entry.Entry.{Entry}
 use Rattle.traffic_matrix.specs.declared.series.Series.{Series}
 use Rattle.traffic_matrix.specs.Limits.{IsSeries}
-use Rattle.traffic_matrix.specs.Text.{row_line, line_at, step_lines, lines_of, text_of, no_matrix}
+use Rattle.traffic_matrix.specs.Text.{line_at, lines_of, text_of, no_matrix}
 use Rattle.traffic_matrix.proofs.FieldText.{IsPlain, decimal-plain, name-plain}
 
 -- the entry of the pair at a place in a step

@@ -1,5 +1,5 @@
 -- Where the demands of pairs stand in a table.
-use Rattle.std.proofs.Common.{ℕ, ◌+◌, ◌-◌, ◌*◌, ◌<◌, ◌≤◌, ◌≡◌, ◌≢◌, ◌∙◌, refl, sym, ap, List, ◌++◌, length, get_or, set, take, Bool, true, false, ◌&&◌, ◌||◌, ◌==◌, nat_lt, Option, Some, None, arith, inl, inr, replicate, if◌then◌else◌}
+use Rattle.std.proofs.Common.{ℕ, ◌+◌, ◌-◌, ◌*◌, ◌<◌, ◌≤◌, ◌≡◌, ◌∙◌, refl, sym, ap, List, ◌++◌, length, get_or, set, take, Bool, true, false, ◌&&◌, ◌||◌, ◌==◌, nat_lt, Option, Some, None, arith, inl, inr, replicate, if◌then◌else◌}
 use Rattle.std.proofs.lemmas.Bool.{and_from, and_parts, cases_lt}
 use Rattle.std.proofs.lemmas.Bool.Decides.{nat_tests}
 use Rattle.std.proofs.lemmas.List.{get_or-set_same, get_or-set_other, get_or_append_left, get_or-append_right, get_or-replicate, take_all}
@@ -7,7 +7,7 @@ use Rattle.std.proofs.Math.Nat.{mul-le-mul_left}
 use Rattle.te_model.specs.declared.route.Pair.{Pair}
 use Rattle.traffic_matrix.specs.Pairs.{place, same_pair, IsWithin}
 use Rattle.traffic_matrix.specs.declared.table.Table.{Table}
-use Rattle.traffic_matrix.specs.Table.{cell, demand_at, declared_at, IsGrown, IsPut}
+use Rattle.traffic_matrix.specs.Table.{cell, declared_at, IsGrown, IsPut}
 
 -- a number of two digits to the base m
 pub two-digits : (a b k m : ℕ) → a < k → b < m → a * m + b < k * m

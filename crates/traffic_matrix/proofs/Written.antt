@@ -1,24 +1,23 @@
 -- Reading the rows of a series, one after another.
-use Rattle.std.proofs.Common.{ℕ, zero, suc, ◌+◌, ◌^◌, ◌≤◌, ◌<◌, ◌≡◌, ◌≢◌, ◌⊎◌, ◌∙◌, refl, sym, ap, subst, inl, inr, List, [], ◌∷◌, ◌++◌, length, get_or, map, take, AllPairs, All, decimal, Bool, true, false, not, ◌&&◌, ◌||◌, ◌==◌, cond, nat_lt, nat_le, is_some, min, max, Option, Some, None, Result, Ok, Err, arith, if◌then◌else◌}
+use Rattle.std.proofs.Common.{ℕ, zero, suc, ◌+◌, ◌≤◌, ◌<◌, ◌≡◌, ◌≢◌, ◌⊎◌, ◌∙◌, refl, sym, ap, subst, inl, inr, List, [], ◌∷◌, ◌++◌, length, get_or, map, take, decimal, Bool, true, false, not, ◌&&◌, ◌==◌, nat_lt, is_some, min, Option, Some, None, Ok, arith, if◌then◌else◌}
 use Rattle.std.specs.Str.{bytes_eq}
-use Rattle.std.specs.List.{flat_map, list_any, list_all, position, position_or_len, range_with_len}
+use Rattle.std.specs.List.{list_any, position_or_len, range_with_len}
 use Rattle.std.proofs.lemmas.Bool.{false≢true, cases_lt, or_cases, or_parts, or_right}
 use Rattle.std.proofs.lemmas.Bool.Decides.{nat_tests}
-use Rattle.std.proofs.lemmas.List.{map-append, append-nil}
+use Rattle.std.proofs.lemmas.List.{map-append}
 use Rattle.std.proofs.lemmas.Slice.Eq.{bytes_eq-Decides}
 use Rattle.te_model.specs.declared.network.Network.{Network}
 use Rattle.te_model.specs.declared.route.Pair.{Pair}
 use Rattle.te_model.specs.Network.{is_well_formed, node_count, name_at}
 use Rattle.te_model.specs.Pairs.{no_pair}
-use Rattle.csv_records.specs.Rows.{and_then, fold_rows}
+use Rattle.csv_records.specs.Rows.{fold_rows}
 use Rattle.csv_records.proofs.RowFacts.{rows-end, rows-more}
 use Rattle.traffic_matrix.specs.declared.entry.Entry.{Entry}
 use Rattle.traffic_matrix.specs.declared.series.Series.{Series}
-use Rattle.traffic_matrix.specs.declared.fault.MatrixFault.{MatrixFault}
 use Rattle.traffic_matrix.specs.Limits.{Below, IsSeries}
 use Rattle.traffic_matrix.specs.Pairs.{same_pair}
 use Rattle.traffic_matrix.specs.Series.{demand_in, is_declared, step_count}
-use Rattle.traffic_matrix.specs.Rows.{number_named, entry_of, accepted, latest_step, with_row}
+use Rattle.traffic_matrix.specs.Rows.{number_named, entry_of, latest_step, with_row}
 use Rattle.traffic_matrix.specs.Text.{no_matrix}
 use Rattle.traffic_matrix.proofs.FieldText.{decimal-number, decimal-within}
 use Rattle.traffic_matrix.proofs.NodeLemmas.{new-here}

@@ -1,5 +1,5 @@
 -- Series within the limits: ascending pairs of two different nodes, at most 1024 steps, demands of at most 2^32.
-use Rattle.std.specs.Prelude.{ℕ, ◌<◌, ◌≤◌, ◌≡◌, ◌^◌, ◌⊎◌, List, length, All, AllPairs}
+use Rattle.std.specs.Prelude.{ℕ, ◌<◌, ◌≤◌, ◌≡◌, ◌^◌, ◌⊎◌, length, All, AllPairs}
 use Rattle.te_model.specs.declared.route.Pair.{Pair}
 use Rattle.te_model.specs.declared.demand.Matrix.{Matrix}
 use Rattle.te_model.specs.Pairs.{IsPairAmong}

@@ -1,5 +1,5 @@
 -- The series that the rows of a matrix file make, or the first fault.
-use Rattle.std.specs.Prelude.{ℕ, ◌^◌, List, [], ◌∷◌, length, Bool, false, ◌&&◌, Option, Some, None, is_some, nat_lt, nat_le, ◌==◌, Result, Ok, Err, codes, if◌then◌else◌}
+use Rattle.std.specs.Prelude.{ℕ, ◌^◌, List, [], ◌∷◌, Bool, false, ◌&&◌, Option, Some, None, is_some, nat_lt, nat_le, ◌==◌, Result, Ok, Err, codes, if◌then◌else◌}
 use Rattle.std.specs.List.{position}
 use Rattle.std.specs.Str.{bytes_eq}
 use Rattle.te_model.specs.declared.network.Network.{Network}

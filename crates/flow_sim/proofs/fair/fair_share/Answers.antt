@@ -1,4 +1,4 @@
-use Rattle.std.proofs.Common.{◌≤◌, sum, min, length, slice_index, arith, sym, ap, ◌∙◌}
+use Rattle.std.proofs.Common.{sum, min, length, slice_index, arith, sym, ap, ◌∙◌}
 use Rattle.te_model.proofs.ApportionLaws.{sum_made, sum_is_below}
 use Rattle.flow_sim.specs.Fair.{fair}
 use Rattle.flow_sim.proofs.Level.{fair-sum, fair-le}

@@ -1,4 +1,4 @@
-use Rattle.std.proofs.Common.{◌≡◌, ◌+◌, ◌<◌, List, length, arith, ap, sym, subst, ◌∙◌}
+use Rattle.std.proofs.Common.{◌+◌, ◌<◌, List, length, arith, ap, sym, subst, ◌∙◌}
 use Rattle.std.specs.Prelude.{slice_index_or}
 use Rattle.te_model.specs.declared.route.PairRoutes.{PairRoutes}
 use Rattle.flow_sim.specs.Queues.{HasRoom, AreAdded, AreQueues}

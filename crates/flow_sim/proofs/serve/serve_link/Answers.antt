@@ -1,4 +1,4 @@
-use Rattle.std.proofs.Common.{◌≡◌, ◌≤◌, length, map, sum, slice_index, arith, ap, ◌∙◌}
+use Rattle.std.proofs.Common.{◌≡◌, length, map, sum, slice_index, arith, ap, ◌∙◌}
 use Rattle.std.proofs.lemmas.List.{get_or-map, get_or_default, length-map}
 use Rattle.flow_sim.specs.Serving.{flow_at, flow_served, link_serves, served_by}
 use Rattle.flow_sim.proofs.ServeLaws.{serves_length}

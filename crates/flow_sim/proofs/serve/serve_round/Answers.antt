@@ -1,4 +1,4 @@
-use Rattle.std.proofs.Common.{◌≡◌, ◌<◌, ◌≤◌, ◌^◌, ◌+◌, ℕ, List, [], false, length, map, sum, slice_index, arith, refl, ap, sym, subst, ◌∙◌}
+use Rattle.std.proofs.Common.{◌≡◌, ◌<◌, ◌^◌, ℕ, [], false, length, map, sum, slice_index, arith, ap, subst}
 use Rattle.std.specs.Prelude.{slice_index_or}
 use Rattle.flow_sim.specs.Serving.{IsAbsent, IsServed, flow_at}
 use Rattle.flow_sim.proofs.ServeLaws.{halfway_more, then_shape, same_arrivals}

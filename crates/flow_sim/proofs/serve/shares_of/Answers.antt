@@ -1,4 +1,4 @@
-use Rattle.std.proofs.Common.{◌≡◌, ◌≤◌, length, map, sum, slice_index, arith, refl, ap, sym, ◌∙◌}
+use Rattle.std.proofs.Common.{length, sum, slice_index, arith, refl, ap, sym, ◌∙◌}
 use Rattle.std.proofs.lemmas.List.FromFn.{length-map-range_with_len}
 use Rattle.te_model.proofs.Sums.{sum_below-zero}
 use Rattle.te_model.proofs.ApportionLaws.{sum_made}

@@ -1,4 +1,4 @@
-use Rattle.std.proofs.Common.{◌≡◌, ℕ, Some, None, Vec, Global, sym, subst}
+use Rattle.std.proofs.Common.{ℕ, Some, None, Vec, Global, sym, subst}
 use Rattle.std.specs.Prelude.{MatchOption}
 use Rattle.te_model.specs.Network.{link_count}
 use Rattle.shortest_path.specs.Least.{AreFirstLinks, IsLeastWalk, LeadsTo}

@@ -1,4 +1,4 @@
-use Rattle.std.proofs.Common.{◌≡◌, ℕ, List, Option, sym, subst}
+use Rattle.std.proofs.Common.{ℕ, List, Option, sym, subst}
 use Rattle.shortest_path.specs.Least.{LeadsTo}
 use Rattle.shortest_path.specs.Links.{every_link}
 use Rattle.shortest_path.proofs.ways.way_from.Goals as goal

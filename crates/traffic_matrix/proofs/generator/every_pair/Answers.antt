@@ -1,4 +1,4 @@
-use Rattle.std.proofs.Common.{◌≡◌, ◌==◌, ◌<◌, Bool, true, false, not, [], sym, arith}
+use Rattle.std.proofs.Common.{◌==◌, Bool, true, false, not, [], sym, arith}
 use Rattle.std.proofs.lemmas.Bool.Decides.{nat_tests}
 use Rattle.std.proofs.lemmas.List.Elements.{All-append, All-cons}
 use Rattle.te_model.specs.declared.route.Pair.{Pair}

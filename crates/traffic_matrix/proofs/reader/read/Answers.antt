@@ -1,11 +1,10 @@
-use Rattle.std.proofs.Common.{ℕ, ◌≡◌, ◌≢◌, ◌≤◌, ◌<◌, ◌∙◌, refl, sym, ap, arith, List, [], Ok, Err, length}
-use Rattle.te_model.specs.Network.{node_count}
+use Rattle.std.proofs.Common.{ℕ, ◌≡◌, ◌≢◌, ◌<◌, ◌∙◌, refl, sym, ap, arith, List, [], Ok, Err, length}
 use Rattle.csv_records.specs.Rows.{records_of}
 use Rattle.csv_records.proofs.RecordLemmas.{few-records}
 use Rattle.csv_records.proofs.RowFacts.{no-record, no-header, after-header, passed}
 use Rattle.traffic_matrix.specs.declared.fault.MatrixFault.{MatrixFault}
 use Rattle.traffic_matrix.specs.declared.fault.MatrixFault.TheVariants as fault
-use Rattle.traffic_matrix.specs.Rows.{is_header, with_row, series_in, entry_of}
+use Rattle.traffic_matrix.specs.Rows.{is_header, with_row, series_in}
 use Rattle.traffic_matrix.proofs.DemandLemmas.{header-refused, entry-refused, row-refused, row-added, rows-done}
 use Rattle.traffic_matrix.proofs.LimitLemmas.{series-in-range}
 use Rattle.te_model.specs.declared.route.Pair.{Pair}

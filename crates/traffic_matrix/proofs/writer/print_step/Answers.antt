@@ -1,4 +1,4 @@
-use Rattle.std.proofs.Common.{◌≡◌, ◌∙◌, ◌++◌, ap, refl, List, ℕ, get_or}
+use Rattle.std.proofs.Common.{◌∙◌, refl}
 use Rattle.te_model.specs.Pairs.{no_pair}
 use Rattle.traffic_matrix.specs.Text.{line_at}
 use Rattle.traffic_matrix.proofs.TextLemmas.{pieces-more, line-of}

@@ -1,4 +1,4 @@
-use Rattle.std.proofs.Common.{Err, Ok, ap, refl, subst}
+use Rattle.std.proofs.Common.{Ok, ap, refl, subst}
 use Rattle.std.specs.Prelude.{string_bytes}
 use Rattle.std.proofs.lemmas.Result.{err_from_is_err_and}
 use Rattle.block_reader.specs.Blocks.{IsFaultOf}

@@ -1,4 +1,4 @@
-use Rattle.std.proofs.Common.{Err, Ok, refl, subst}
+use Rattle.std.proofs.Common.{subst}
 use Rattle.std.proofs.lemmas.Result.{err_from_is_err_and}
 use Rattle.block_reader.specs.Blocks.{IsFaultOf}
 use Rattle.block_reader.proofs.Handing.{block_refused}

@@ -1,5 +1,4 @@
-use Rattle.std.proofs.Common.{◌≡◌, ◌∙◌, [], sym, arith}
-use Rattle.block_reader.specs.declared.window.State.TheVariants.{TooLong}
+use Rattle.std.proofs.Common.{◌∙◌, [], sym, arith}
 use Rattle.block_reader.proofs.Going.{at_new, in_new, at_raised, in_raised, not_long}
 use Rattle.block_reader.proofs.window.Window.at_start.Goals as goal
 

@@ -1,6 +1,5 @@
 use Rattle.std.proofs.Common.{◌≡◌, true, length, replicate, arith, ap, sym, ◌∙◌, subst}
 use Rattle.std.proofs.lemmas.List.{length-map}
-use Rattle.te_model.specs.Network.{node_count}
 use Rattle.shortest_path.specs.declared.rows.Direction.TheVariants.{Forward}
 use Rattle.shortest_path.specs.Graph.{IsSettled}
 use Rattle.shortest_path.specs.Links.{every_link}

@@ -1,4 +1,4 @@
-use Rattle.std.proofs.Common.{◌≡◌, length, arith, sym, subst}
+use Rattle.std.proofs.Common.{length, arith, sym, subst}
 use Rattle.std.proofs.lemmas.List.{length-map}
 use Rattle.shortest_path.specs.declared.rows.Direction.TheVariants.{Backward}
 use Rattle.shortest_path.specs.Graph.{IsSettled}

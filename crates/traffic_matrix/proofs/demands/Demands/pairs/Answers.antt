@@ -1,8 +1,5 @@
-use Rattle.std.proofs.Common.{ℕ, ◌≡◌, ◌<◌, ◌*◌, ◌∙◌, List, [], ◌∷◌, ◌++◌, sym, subst, ap, cond, Bool, true, false, arith, filter, map, append-nil}
-use Rattle.std.specs.List.{range_with_len}
+use Rattle.std.proofs.Common.{ℕ, ◌∙◌, List, [], sym, subst, true, false, arith}
 use Rattle.std.proofs.lemmas.List.Elements.{All-append, All-cons}
-use Rattle.std.proofs.lemmas.List.FromFn.{filter_of_map_range_with_len_more}
-use Rattle.te_model.specs.declared.route.Pair.{Pair}
 use Rattle.traffic_matrix.specs.declared.entry.Entry.{Entry}
 use Rattle.traffic_matrix.specs.Pairs.{IsWithin, pair_of_place}
 use Rattle.traffic_matrix.specs.Series.{is_declared}
