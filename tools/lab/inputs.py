@@ -9,7 +9,7 @@ from .faults import Fault
 from .records import records
 
 INPUT_LIMIT = 67_108_864
-MAX_NODES, MAX_LINKS, MAX_STEPS = 64, 512, 1024
+MAX_NODES, MAX_LINKS, MAX_STEPS = 128, 1024, 1024
 MAX_AMOUNT, MAX_COST = 2**32, 65535
 NAME = re.compile(rb"[A-Za-z0-9_.-]{1,32}\Z")
 NUMBER = re.compile(rb"[0-9]{1,10}\Z")

@@ -6,7 +6,7 @@ from .faults import Fault
 SCHEMES = ("spf", "ecmp", "ksp", "mcf", "racke", "smore")
 OBLIVIOUS = ("spf", "ecmp", "ksp", "racke")
 RECOVERIES = ("none", "scale", "bypass", "reroute")
-KEYS = ("topology", "matrices", "failures", "schemes", "recovery", "publish", "margin", "k", "budget", "trees", "seed")
+KEYS = ("topology", "matrices", "failures", "schemes", "recovery", "publish", "margin", "k", "budget", "trees", "seed", "envelope")
 COUNTS = {"k": (1, 32), "budget": (1, 32), "trees": (1, 16), "seed": (0, 2**64 - 1)}
 MAX_DEPTH = 127
 
@@ -25,6 +25,7 @@ class Plan:
         self.recovery = members.get("recovery", "none")
         self.publish = members.get("publish", "racke")
         self.margin = members.get("margin")
+        self.envelope = members.get("envelope", False)
         self.twice = twice
 
 
@@ -41,7 +42,7 @@ def read_plan(data):
     faults += [Fault("missing", key=key) for key in ("topology", "matrices") if key not in value]
     for key in KEYS:
         if key in value:
-            kind = value_fault(key, value[key])
+            kind = value_fault(key, value[key], value)
             if kind:
                 faults.append(Fault(kind, key=key, value=value[key]))
     return (None, faults) if faults else (Plan(value, twice), [])
@@ -84,8 +85,8 @@ def is_count(value):
     return isinstance(value, int) and not isinstance(value, bool) and 0 <= value < 2**64
 
 
-def value_fault(key, value):
-    """What is wrong with the value of a key: kind, then range, then scheme name; or None."""
+def value_fault(key, value, members):
+    """What is wrong with the value of a key, beside these members: kind, then range, then scheme name; or None."""
     if key in ("topology", "matrices", "failures"):
         return "kind of" if not isinstance(value, str) else None if value else "range of"
     if key == "schemes":
@@ -96,6 +97,8 @@ def value_fault(key, value):
         return "kind of" if not isinstance(value, str) else None if value in OBLIVIOUS else "scheme name of"
     if key == "margin":
         return margin_fault(value)
+    if key == "envelope":
+        return "kind of" if not isinstance(value, bool) else "range of" if value and "margin" in members else None
     low, high = COUNTS[key]
     return "kind of" if not is_count(value) else None if low <= value <= high else "range of"
 

@@ -89,6 +89,8 @@ def steps_without_rows(plan, series):
         return []
     first = ". Steps are counted from 0, and step 0 has no row" if empty[0] == "0" else ""
     base = ". A margin's base is step 0, so the certificate speaks of no demand at all" if first and plan.margin else ""
+    if plan.envelope:
+        base = ". So the least of each demand, from which the envelope goes, is 0"
     return [f"{counted(len(empty), 'step has', 'steps have')} no row and no demand: {shown(empty)}{first}{base}"]
 
 

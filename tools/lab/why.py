@@ -23,6 +23,7 @@ VALUES = {
     "budget": "a whole number from 1 to 32, without quotes",
     "trees": "a whole number from 1 to 16, without quotes",
     "seed": "a whole number from 0 to 18446744073709551615, without quotes",
+    "envelope": "true or false, without quotes; true is for the matrices between the least and the greatest demand of each pair, and not beside a margin",
 }
 OTHER_NAMES = {"raecke": "racke", "räcke": "racke", "optimal": "mcf", "opt": "mcf", "semimcf": "smore", "semimcfraecke": "smore", "ospf": "spf", "shortest": "spf"}
 
