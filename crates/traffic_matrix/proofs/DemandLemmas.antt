@@ -1,5 +1,5 @@
 -- What a table holds after a row more, and the series that it gives.
-use Rattle.std.proofs.Common.{ℕ, ◌+◌, ◌*◌, ◌/◌, ◌≤◌, ◌<◌, ◌≡◌, ◌∙◌, refl, sym, ap, List, [], ◌∷◌, ◌++◌, map, filter, cond, append-nil, Bool, true, false, ◌&&◌, ◌||◌, ◌==◌, nat_lt, nat_le, is_some, Option, Some, Result, Ok, Err, arith, inl, inr, max, if◌then◌else◌}
+use Rattle.std.proofs.Common.{ℕ, ◌+◌, ◌*◌, ◌/◌, ◌≤◌, ◌<◌, ◌≡◌, ◌∙◌, refl, sym, ap, List, [], ◌∷◌, ◌++◌, map, filter, cond, length, vec_len, append-nil, Bool, true, false, ◌&&◌, ◌||◌, ◌==◌, nat_lt, nat_le, is_some, Option, Some, Result, Ok, Err, arith, inl, inr, max, if◌then◌else◌}
 use Rattle.std.proofs.lemmas.Bool.Decides.{nat_tests}
 use Rattle.std.specs.List.{range_with_len}
 use Rattle.std.proofs.lemmas.List.FromFn.{filter_of_map_range_with_len_more}
@@ -22,16 +22,16 @@ use Rattle.traffic_matrix.specs.Table.{declared_at, IsPut}
 use Rattle.traffic_matrix.specs.Shows.{Shows}
 
 -- a table without steps holds what no row says
-pub shows-none : (d : Demands) → d.latest ≡ 0 → d.table.steps ≡ 0 → ((pair : Pair) → IsWithin d.table.nodes pair → declared_at d.table pair ≡ false) → Shows [] d
+pub shows-none : (d : Demands) → d.latest ≡ 0 → d.table.steps.items ≡ [] → ((pair : Pair) → IsWithin d.table.nodes pair → declared_at d.table pair ≡ false) → Shows [] d
 shows-none d latest steps declared = record {
   latest = latest;
-  steps = steps;
-  demands = λ step pair w. (let e : nat_lt step d.table.steps ≡ false = grind (arith, nat_tests) in rw e refl);
+  steps = d.table.steps.ok.0 ∙ ap length steps;
+  demands = λ step pair w. rw steps refl;
   declared = declared;
 }
 
 -- a row more
-pub shows-more : (entries : List Entry) (e : Entry) (old new : Demands) → IsPut old.table new.table e.step e.pair e.demand → new.table.steps ≡ max (e.step + 1) old.table.steps → new.latest ≡ e.step
+pub shows-more : (entries : List Entry) (e : Entry) (old new : Demands) → IsPut old.table new.table e.step e.pair e.demand → vec_len new.table.steps ≡ max (e.step + 1) (vec_len old.table.steps) → new.latest ≡ e.step
     → Shows entries old → Shows (e ∷ entries) new
 shows-more entries e old new put steps latest s =
     let before = λ (p : Pair) (w : IsWithin new.table.nodes p). rw put.nodes at w in

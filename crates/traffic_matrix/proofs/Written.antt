@@ -1,5 +1,5 @@
 -- Reading the rows of a series, one after another.
-use Rattle.std.proofs.Common.{ℕ, zero, suc, ◌+◌, ◌≤◌, ◌<◌, ◌≡◌, ◌≢◌, ◌⊎◌, ◌∙◌, refl, sym, ap, subst, inl, inr, List, [], ◌∷◌, ◌++◌, length, get_or, map, take, decimal, Bool, true, false, not, ◌&&◌, ◌==◌, nat_lt, is_some, min, Option, Some, None, Ok, arith, if◌then◌else◌}
+use Rattle.std.proofs.Common.{ℕ, zero, suc, ◌+◌, ◌≤◌, ◌<◌, ◌≡◌, ◌≢◌, ◌⊎◌, ◌∙◌, refl, sym, ap, subst, inl, inr, List, [], ◌∷◌, ◌++◌, length, get_or, map, take, decimal, Bool, true, false, ◌&&◌, ◌==◌, nat_lt, is_some, min, Option, Some, None, Ok, arith, if◌then◌else◌}
 use Rattle.std.specs.Str.{bytes_eq}
 use Rattle.std.specs.List.{list_any, position_or_len, range_with_len}
 use Rattle.std.proofs.lemmas.Bool.{false≢true, cases_lt, or_cases, or_parts, or_right}

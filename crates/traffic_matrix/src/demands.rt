@@ -6,7 +6,7 @@ ghost use Rattle.traffic_matrix.specs.declared.entry.Entry.{Entry};
 ghost use Rattle.traffic_matrix.specs.Pairs.{IsWithin};
 ghost use Rattle.traffic_matrix.specs.Rows.{accepted};
 ghost use Rattle.traffic_matrix.specs.Series.{declared_pairs, matrix_of, series_of};
-ghost use Rattle.traffic_matrix.specs.Shows.{Shows};
+ghost use Rattle.traffic_matrix.specs.Shows.{Shows, ShowsStep};
 
 use crate::entry::Entry;
 use crate::fault::MatrixFault;
@@ -58,14 +58,14 @@ impl Demands {
     }
 
     /// Adds a row. After want of memory the demands are not to be used again.
-    pub fn put(&mut self, entry: Entry) -> Result<(), Memory>
+    pub fn put(&mut self, alloc: Global, entry: Entry) -> Result<(), Memory>
         requires step { entry.step < 1024 }
         requires pair { IsWithin self.old.table.nodes entry.pair }
         ensures nodes { OnOk result (self.new.table.nodes ≡ self.old.table.nodes) }
         ensures shows { OnOk result ((entries : List Entry) → Shows entries self.old → Shows (entry ∷ entries) self.new) }
     {
         self.table
-            .put(entry.step as usize, entry.pair, entry.demand)?;
+            .put(alloc, entry.step as usize, entry.pair, entry.demand)?;
         self.latest = entry.step;
         Ok(())
     }
@@ -92,9 +92,9 @@ impl Demands {
     // The demands of the pairs in a step, 0 where no row has one.
     fn matrix(&self, alloc: Global, pairs: &[Pair], step: usize) -> Result<Matrix, Memory>
         requires { All (IsWithin self.now.table.nodes) pairs.now }
-        ensures { IfOk result (λ m. (entries : List Entry) → Shows entries self.now → m ≡ matrix_of pairs.now entries step) }
+        ensures { IfOk result (λ m. (entries : List Entry) → ShowsStep entries self.now step → m ≡ matrix_of pairs.now entries step) }
     {
-        let mut demand = Vec::new(alloc);
+        let mut demand = Vec::with_capacity(alloc, pairs.len())?;
         for pair in pairs {
             demand.push(self.table.demand(step as u64, *pair).unwrap_or(0))?;
         }
@@ -103,14 +103,15 @@ impl Demands {
         })
     }
 
-    /// The series that the rows make.
-    pub fn series(&self, alloc: Global) -> Result<Series, Memory>
-        ensures { IfOk result (λ s. (entries : List Entry) → Shows entries self.now → s ≡ series_of self.now.table.nodes entries) }
+    /// The series that the rows make. The demands of each step are dropped as soon as its matrix is made.
+    pub fn series(mut self, alloc: Global) -> Result<Series, Memory>
+        ensures { IfOk result (λ s. (entries : List Entry) → Shows entries self → s ≡ series_of self.table.nodes entries) }
     {
         let pairs = self.pairs(alloc)?;
-        let mut steps = Vec::new(alloc);
+        let mut steps = Vec::with_capacity(alloc, self.table.steps())?;
         for step in 0..self.table.steps() {
             steps.push(self.matrix(alloc, pairs.as_slice(), step)?)?;
+            self.table.forget(alloc, step);
         }
         Ok(Series {
             pairs: Pairs {

@@ -8,6 +8,7 @@ mod generator;
 mod nodes;
 mod reader;
 mod series;
+mod step_demands;
 mod table;
 mod writer;
 

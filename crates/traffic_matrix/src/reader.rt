@@ -38,7 +38,7 @@ pub fn read(alloc: Global, net: &Network, bytes: &[u8]) -> Result<Series, Matrix
     while rows.advance()? {
         let entry = read_entry(&rows, &nodes, row)?;
         demands.accept(entry, row)?;
-        demands.put(entry)?;
+        demands.put(alloc, entry)?;
         row += 1;
     }
     Ok(demands.series(alloc)?)

@@ -3,6 +3,7 @@
 ghost use Rattle.std.specs.Prelude.{◌≡◌, ◌*◌, ◌≤◌, vec_len};
 ghost use Rattle.te_model.specs.declared.limits.TheConstants.{FORMAT_2};
 
+use crate::step_demands::StepDemands;
 use std::alloc::Global;
 use te_model::{Memory, Pair};
 
@@ -13,42 +14,38 @@ pub const MAX_STEPS: usize = 1024;
 #[derive(Drop)]
 pub struct Table {
     nodes: usize,
-    steps: usize,
-    cells: Vec<Option<u64>>,
+    steps: Vec<StepDemands>,
     declared: Vec<bool>,
     ghost few_nodes: { nodes ≤ FORMAT_2.nodes },
-    ghost few_steps: { steps ≤ 1024 },
-    ghost size: { vec_len cells ≡ steps * (nodes * nodes) },
     ghost pairs: { vec_len declared ≡ nodes * nodes },
 }
 
 impl Table {
-    ghost use Rattle.std.specs.Prelude.{◌≡◌, ◌+◌, ◌*◌, ◌<◌, ◌≤◌, OnOk, IfOk, false, max, vec_len};
+    ghost use Rattle.std.specs.Prelude.{ℕ, ◌≡◌, ◌≢◌, ◌+◌, ◌*◌, ◌<◌, ◌≤◌, OnOk, IfOk, [], false, max, vec_len};
     ghost use Rattle.te_model.specs.declared.limits.TheConstants.{FORMAT_2};
     ghost use Rattle.te_model.specs.declared.route.Pair.{Pair};
     ghost use Rattle.traffic_matrix.specs.Pairs.{IsWithin, place};
-    ghost use Rattle.traffic_matrix.specs.Table.{cell, demand_at, declared_at, IsGrown, IsPut};
+    ghost use Rattle.traffic_matrix.specs.Table.{demand_at, declared_at, IsGrown, IsPut};
 
     /// No step yet, between this many nodes.
     pub fn new(alloc: Global, nodes: usize) -> Result<Table, Memory>
         requires { nodes ≤ FORMAT_2.nodes }
         ensures nodes { IfOk result (λ t. t.nodes ≡ nodes) }
-        ensures steps { IfOk result (λ t. t.steps ≡ 0) }
+        ensures steps { IfOk result (λ t. t.steps.items ≡ []) }
         ensures declared { IfOk result (λ t. (pair : Pair) → IsWithin nodes pair → declared_at t pair ≡ false) }
     {
         Ok(Table {
             nodes,
-            steps: 0,
-            cells: Vec::new(alloc),
+            steps: Vec::new(alloc),
             declared: vec![in alloc; false; nodes * nodes]?,
         })
     }
 
     /// The number of steps.
     pub fn steps(&self) -> usize
-        ensures { result ≡ self.now.steps }
+        ensures { result ≡ vec_len self.now.steps }
     {
-        self.steps
+        self.steps.len()
     }
 
     /// The number of nodes.
@@ -67,23 +64,13 @@ impl Table {
         pair.src as usize * self.nodes + pair.dst as usize
     }
 
-    // The place of a pair in a step.
-    fn cell(&self, step: usize, pair: Pair) -> usize
-        requires step { step < self.now.steps }
-        requires pair { IsWithin self.now.nodes pair }
-        ensures value { result ≡ cell self.now.nodes step pair }
-        ensures within { result < vec_len self.now.cells }
-    {
-        step * (self.nodes * self.nodes) + self.place(pair)
-    }
-
     /// The demand of a pair in a step.
     pub fn demand(&self, step: u64, pair: Pair) -> Option<u64>
         requires { IsWithin self.now.nodes pair }
         ensures { result ≡ demand_at self.now step pair }
     {
-        if step < self.steps as u64 {
-            self.cells[self.cell(step as usize, pair)]
+        if step < self.steps.len() as u64 {
+            self.steps[step as usize].demand(self.place(pair))
         } else {
             None
         }
@@ -97,41 +84,51 @@ impl Table {
         self.declared[self.place(pair)]
     }
 
-    // Makes room for so many steps.
-    fn grow(&mut self, steps: usize) -> Result<(), Memory>
-        requires more { self.old.steps < steps }
-        requires few { steps ≤ 1024 }
+    // Adds steps without demands up to so many.
+    fn grow(&mut self, alloc: Global, steps: usize) -> Result<(), Memory>
+        requires { vec_len self.old.steps ≤ steps }
         ensures { OnOk result (IsGrown self.old self.new steps) }
     {
-        self.cells.resize(steps * (self.nodes * self.nodes), None)?;
-        self.steps = steps;
+        for _step in self.steps.len()..steps {
+            self.steps.push(StepDemands::new(alloc))?;
+        }
         Ok(())
     }
 
-    // Sets the demand of a pair in a step that has room.
-    fn set(&mut self, step: usize, pair: Pair, demand: u64)
-        requires step { step < self.old.steps }
+    // Sets the demand of a pair in a step of the table.
+    fn set(&mut self, step: usize, pair: Pair, demand: u64) -> Result<(), Memory>
+        requires step { step < vec_len self.old.steps }
         requires pair { IsWithin self.old.nodes pair }
-        ensures put { IsPut self.old self.new step pair demand }
-        ensures steps { self.new.steps ≡ self.old.steps }
+        ensures put { OnOk result (IsPut self.old self.new step pair demand) }
+        ensures steps { OnOk result (vec_len self.new.steps ≡ vec_len self.old.steps) }
     {
-        let cell = self.cell(step, pair);
         let place = self.place(pair);
-        self.cells[cell] = Some(demand);
+        let size = self.nodes * self.nodes;
+        self.steps[step].put(size, place, demand)?;
         self.declared[place] = true;
+        Ok(())
     }
 
     /// Sets the demand of a pair in a step. After want of memory the table is not to be used again.
-    pub fn put(&mut self, step: usize, pair: Pair, demand: u64) -> Result<(), Memory>
+    pub fn put(&mut self, alloc: Global, step: usize, pair: Pair, demand: u64) -> Result<(), Memory>
         requires step { step < 1024 }
         requires pair { IsWithin self.old.nodes pair }
         ensures put { OnOk result (IsPut self.old self.new step pair demand) }
-        ensures steps { OnOk result (self.new.steps ≡ max (step + 1) self.old.steps) }
+        ensures steps { OnOk result (vec_len self.new.steps ≡ max (step + 1) (vec_len self.old.steps)) }
     {
-        if self.steps <= step {
-            self.grow(step + 1)?;
+        if self.steps.len() <= step {
+            self.grow(alloc, step + 1)?;
         }
-        self.set(step, pair, demand);
-        Ok(())
+        self.set(step, pair, demand)
+    }
+
+    /// Drops the demands of a step.
+    pub fn forget(&mut self, alloc: Global, step: usize)
+        requires { step < vec_len self.old.steps }
+        ensures nodes { self.new.nodes ≡ self.old.nodes }
+        ensures steps { vec_len self.new.steps ≡ vec_len self.old.steps }
+        ensures others { (other : ℕ) (pair : Pair) → other ≢ step → demand_at self.new other pair ≡ demand_at self.old other pair }
+    {
+        self.steps[step] = StepDemands::new(alloc);
     }
 }
