@@ -9,7 +9,7 @@ use Rattle.te_model.specs.declared.route.PairRoutes.{PairRoutes}
 use Rattle.te_model.specs.declared.route.Path.{Path}
 use Rattle.te_model.specs.Path.{destination_of, is_path, no_routes, routes_at, source_of}
 use Rattle.te_model.specs.PathRouting.{IsPathRouting, IsPathSplit}
-use Rattle.routing.specs.Merge.{HasLinks, no_path}
+use Rattle.routing.specs.Merge.{no_path}
 use Rattle.rate_sweeps.specs.Sweeps.{AreAmong, AreWays, links_in}
 
 -- the paths of a routing lead from the sources of the pairs to their destinations
@@ -25,19 +25,18 @@ ways_among net routes paths splits count among = record {
 }
 
 -- the path of one pair more
-pub among_more : (routes : List PairRoutes) (list : List Path) (path : Path) (n : ℕ) → length list ≡ n →
-    ((p : ℕ) → p < n → HasLinks (routes_at routes p).paths (get_or (map links_in list) p [])) → HasLinks (routes_at routes n).paths path.links →
-    (p : ℕ) → p < n + 1 → HasLinks (routes_at routes p).paths (get_or (map links_in (list ++ path ∷ [])) p [])
-among_more routes list path n count old new p below =
+pub each_more : (P : ℕ → List ℕ → Type 0) (list : List Path) (path : Path) (n : ℕ) → length list ≡ n →
+    ((p : ℕ) → p < n → P p (get_or (map links_in list) p [])) → P n path.links → (p : ℕ) → p < n + 1 → P p (get_or (map links_in (list ++ path ∷ [])) p [])
+each_more P list path n count old new p below =
     let lists = map links_in list in
     let few : length lists ≡ n = length-map list links_in ∙ count in
     let pushed : map links_in (list ++ path ∷ []) ≡ lists ++ path.links ∷ [] = map_push links_in list path in
-    subst (λ (l : List (List ℕ)). HasLinks (routes_at routes p).paths (get_or l p [])) (sym pushed) (elim (cases_lt p n) [
+    subst (λ (l : List (List ℕ)). P p (get_or l p [])) (sym pushed) (elim (cases_lt p n) [
       | inl lt ↦
           let same : get_or (lists ++ path.links ∷ []) p [] ≡ get_or lists p [] = get_or_append_left lists (path.links ∷ []) [] p (omega (arith, lt, few)) in
-          subst (HasLinks (routes_at routes p).paths) (sym same) (old p lt)
+          subst (P p) (sym same) (old p lt)
       | inr ge ↦
           let last : n ≡ p = omega (arith, below, ge) in
           let here : get_or (lists ++ path.links ∷ []) p [] ≡ path.links = get_or_push lists path.links [] p (few ∙ last) in
-          subst (HasLinks (routes_at routes p).paths) (sym here) (subst (λ k. HasLinks (routes_at routes k).paths path.links) last new)
+          subst (P p) (sym here) (subst (λ k. P k path.links) last new)
     ])

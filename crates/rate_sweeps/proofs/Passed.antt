@@ -1,5 +1,5 @@
 -- A routing whose pairs are shifted one after another.
-use Rattle.std.proofs.Common.{inl, inr, ◌≡◌, ℕ, ◌+◌, ◌<◌, ◌≤◌, List, [], length, map, get_or, arith, refl, sym, ◌∙◌, subst}
+use Rattle.std.proofs.Common.{inl, inr, ◌≡◌, ℕ, ◌+◌, ◌<◌, ◌≤◌, List, [], length, map, get_or, arith, refl, sym, ◌∙◌, subst, below_more}
 use Rattle.std.proofs.Math.ListN.{set}
 use Rattle.std.proofs.lemmas.Bool.{cases_lt}
 use Rattle.std.proofs.lemmas.List.{ext_get_or, get_or-map, get_or-set_other, get_or-set_same, length-map, length-set}
@@ -65,6 +65,14 @@ passed_same net limit old offered n now splits far below = record {
   ];
   left = λ p over. far.left p (omega (arith, over));
 }
+
+-- what holds of each pair that is passed holds of one more, which is written
+pub each_set : (P : ℕ → PairRoutes → Type 0) (n : ℕ) (now : List PairRoutes) (r : PairRoutes) → n < length now → ((p : ℕ) → p < n → P p (routes_at now p)) → P n r →
+    (p : ℕ) → p < n + 1 → P p (routes_at (set now n r) p)
+each_set P n now r inside old new =
+    below_more (λ p. P p (routes_at (set now n r) p)) n
+    (λ p below. subst (P p) (sym (get_or-set_other now n p r no_routes (λ e. omega (arith, below, e)))) (old p below))
+    (subst (P n) (sym (get_or-set_same now n r no_routes inside)) new)
 
 -- the pairs stay in order
 pub passed_pairs : (limit : ℕ) (old : List PairRoutes) (offered : List (List ℕ)) (n : ℕ) (now : List PairRoutes) → ShiftedSoFar limit old offered n now →

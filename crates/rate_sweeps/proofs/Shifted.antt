@@ -1,12 +1,15 @@
 -- Weight that goes from one path of a pair to another.
-use Rattle.std.proofs.Common.{inl, inr, ◌≡◌, ◌⊎◌, ℕ, ◌≤◌, true, List, [], ◌∷◌, ◌++◌, length, arith, refl, ap, sym, ◌∙◌, subst, min}
+use Rattle.std.proofs.Common.{inl, inr, ◌≡◌, ◌⊎◌, ℕ, ◌+◌, ◌*◌, ◌≤◌, true, List, [], ◌∷◌, ◌++◌, length, arith, refl, ap, sym, ◌∙◌, subst, min}
 use Rattle.std.specs.Prelude.{All, IsTrue}
+use Rattle.std.proofs.Math.Nat.{mul-le-mul_left}
+use Rattle.std.proofs.lemmas.Bool.{cases_lt}
 use Rattle.std.proofs.lemmas.List.{get_or_push, length-append}
 use Rattle.std.proofs.lemmas.List.Elements.{All-from_get_or, All-get_or}
 use Rattle.te_model.specs.declared.network.Network.{Network}
 use Rattle.te_model.specs.declared.route.Pair.{Pair}
 use Rattle.te_model.specs.declared.route.PairRoutes.{PairRoutes}
 use Rattle.te_model.specs.declared.route.PathShare.{PathShare}
+use Rattle.te_model.specs.Division.{quotient_up}
 use Rattle.te_model.specs.Path.{is_path}
 use Rattle.te_model.specs.PathRouting.{IsPathSplit}
 use Rattle.te_model.specs.Validity.{paths_ascend}
@@ -23,9 +26,9 @@ unshifted limit r offered ascending positive =
     record { pair = refl; ascending = ascending; positive = positive; whole = refl; only = λ links has. inl has; few = λ few. few }
 
 -- the paths after a shift to a target are those of before and the offered one
-pub target_only : (limit : ℕ) (paths new : List PathShare) (offered to : List ℕ) → IsTarget limit paths offered to →
+pub target_only : (lengths : List ℕ) (limit : ℕ) (paths new : List PathShare) (offered to : List ℕ) → IsTarget lengths limit paths offered to →
     ((links : List ℕ) → HasLinks new links → HasLinks paths links ⊎ (links ≡ to)) → (links : List ℕ) → HasLinks new links → HasLinks paths links ⊎ (links ≡ offered)
-target_only limit paths new offered to target only links has = elim (only links has) [
+target_only lengths limit paths new offered to target only links has = elim (only links has) [
   | inl old ↦ inl old
   | inr is ↦ elim target [
     | inl offer ↦ inr (is ∙ offer.1)
@@ -38,9 +41,9 @@ has_last xs x links is =
     (length xs, omega (arith, length-append xs (x ∷ [])), ap (λ (s : PathShare). s.links) (get_or_push xs x no_path (length xs) refl) ∙ is)
 
 -- no pair gets more paths than it may have
-pub shift_few : (limit : ℕ) (old new : List PathShare) (offered to : List ℕ) → IsTrue (paths_ascend new) → IsTarget limit old offered to →
+pub shift_few : (lengths : List ℕ) (limit : ℕ) (old new : List PathShare) (offered to : List ℕ) → IsTrue (paths_ascend new) → IsTarget lengths limit old offered to →
     ((links : List ℕ) → HasLinks new links → HasLinks old links ⊎ (links ≡ to)) → length old ≤ limit → length new ≤ limit
-shift_few limit old new offered to ascending target only few = elim target [
+shift_few lengths limit old new offered to ascending target only few = elim target [
   | inl offer ↦
       let more : PathShare = record { links = to; weight = 0 } in
       let among = few_among new (old ++ more ∷ []) ascending (λ links has. elim (only links has) [
@@ -54,29 +57,41 @@ shift_few limit old new offered to ascending target only few = elim target [
 ]
 
 -- a pair whose paths have shifted to a target
-pub shifted : (limit : ℕ) (old new : PairRoutes) (from to offered : List ℕ) (units : ℕ) → new.pair ≡ old.pair → IsTarget limit old.paths offered to →
+pub shifted : (lengths : List ℕ) (limit : ℕ) (old new : PairRoutes) (from to offered : List ℕ) (units : ℕ) → new.pair ≡ old.pair →
+    IsTarget lengths limit old.paths offered to →
     IsShift old.paths from to units new.paths → IsShifted limit old offered new
-shifted limit old new from to offered units pair target shift =
+shifted lengths limit old new from to offered units pair target shift =
     let only = λ (links : List ℕ) (has : HasLinks new.paths links). shift_only old.paths from to units new.paths links shift has in
     record {
       pair = pair;
       ascending = shift.ascending;
       positive = shift.positive;
       whole = shift_total old.paths from to units new.paths shift;
-      only = target_only limit old.paths new.paths offered to target only;
-      few = shift_few limit old.paths new.paths offered to shift.ascending target only;
+      only = target_only lengths limit old.paths new.paths offered to target only;
+      few = shift_few lengths limit old.paths new.paths offered to shift.ascending target only;
     }
 
--- the same where the paths are taken out of the pair first
-pub shifted_after : (limit : ℕ) (old new : PairRoutes) (paths made : List PathShare) (from size : ℕ) (to target offered : List ℕ) → new.pair ≡ old.pair →
-    IsTarget limit old.paths offered target → paths ≡ old.paths → to ≡ target → new.paths ≡ made →
-    IsShift paths (links_at paths from) to (min size (path_at paths from).weight) made → IsShifted limit old offered new
-shifted_after limit old new paths made from size to target offered pair is taken same after shift =
-    let units = min size (path_at paths from).weight in
-    shifted limit old new (links_at paths from) target offered units pair is
-    (subst (λ (l : List PathShare). IsShift l (links_at paths from) target units new.paths) taken
-    (subst (λ (l : List ℕ). IsShift paths (links_at paths from) l units new.paths) same
-    (subst (IsShift paths (links_at paths from) to units) (sym after) shift)))
+-- a part of a weight is no more than the weight
+part_le : (weight parts : ℕ) → 1 ≤ parts → quotient_up weight parts ≤ weight
+part_le weight parts some = elim (cases_lt weight (quotient_up weight parts)) [
+  | inl more ↦
+      let times : parts * (weight + 1) ≤ parts * quotient_up weight parts = mul-le-mul_left parts (omega (arith, more)) in
+      let once : weight * 1 ≤ weight * parts = mul-le-mul_left weight some in
+      absurd (omega (arith, times, once, some))
+  | inr le ↦ le
+]
+
+-- a part of the weight of a path has gone from it, where the paths are taken out of the pair first
+pub shift_after : (old new : PairRoutes) (paths made : List PathShare) (from size parts : ℕ) (to target : List ℕ) → 1 ≤ parts → paths ≡ old.paths → to ≡ target →
+    new.paths ≡ made → size ≡ quotient_up (path_at old.paths from).weight parts → IsShift paths (links_at paths from) to (min size (path_at paths from).weight) made →
+    IsShift old.paths (links_at old.paths from) target (quotient_up (path_at old.paths from).weight parts) new.paths
+shift_after old new paths made from size parts to target some taken same after is shift =
+    let weight = (path_at old.paths from).weight in
+    let units : min size weight ≡ quotient_up weight parts = omega (arith, is, part_le weight parts some) in
+    subst (λ n. IsShift old.paths (links_at old.paths from) target n new.paths) units
+    (subst (λ (l : List PathShare). IsShift l (links_at l from) target (min size (path_at l from).weight) new.paths) taken
+    (subst (λ (l : List ℕ). IsShift paths (links_at paths from) l (min size (path_at paths from).weight) new.paths) same
+    (subst (IsShift paths (links_at paths from) to (min size (path_at paths from).weight)) (sym after) shift)))
 
 -- a pair that is shifted keeps a split over paths of the network
 pub shifted_split : (net : Network) (limit : ℕ) (old new : PairRoutes) (offered : List ℕ) → IsPathSplit net old →

@@ -1,5 +1,5 @@
 -- Where a descent stands, and what a turn makes of it.
-use Rattle.std.specs.Prelude.{◌≡◌, ℕ, ◌≤◌, List, map}
+use Rattle.std.specs.Prelude.{◌≡◌, ℕ, ◌+◌, ◌-◌, ◌*◌, ◌/◌, ◌<◌, ◌≤◌, List, map, min}
 use Rattle.te_model.specs.declared.network.Network.{Network}
 use Rattle.te_model.specs.declared.route.PairRoutes.{PairRoutes}
 use Rattle.te_model.specs.PathRouting.{IsPathRouting}
@@ -7,7 +7,7 @@ use Rattle.routing.specs.Routes.{HasFewPaths}
 use Rattle.routing.specs.Utilisation.{parts}
 use Rattle.rate_sweeps.specs.declared.descent.Descent.{Descent}
 use Rattle.rate_sweeps.specs.declared.pace.Pace.{Pace}
-use Rattle.rate_sweeps.specs.Shifts.{UsesOnlyWays}
+use Rattle.rate_sweeps.specs.Shifts.{AreShifts, UsesOnlyWays}
 
 -- numbers of a pace
 pub record IsPace (pace : Pace) : Type 0 where
@@ -15,6 +15,14 @@ pub record IsPace (pace : Pace) : Type 0 where
   pub parts : pace.parts ≤ 4096
   pub times : pace.times ≤ 9
   pub idle : pace.idle ≤ 10
+
+-- The pace after a turn to this greatest utilisation. A gain, which is a fall by more than one of 2000 parts, is kept. A turn without one is
+-- idle, and after ten idle ones shares become half as great, and usages are squared once more, up to nine times.
+pub record IsNextPace (old : Pace) (most : ℕ) (new : Pace) : Type 0 where
+  pub gain : most < old.least - old.least / 2000 → new ≡ record old { least = most; idle = 0 }
+  pub idle : old.least - old.least / 2000 ≤ most → old.idle < 10 → new ≡ record old { idle = old.idle + 1 }
+  pub smaller : old.least - old.least / 2000 ≤ most → 10 ≤ old.idle →
+      new ≡ record old { parts = 2 * min old.parts 2048; times = min (old.times + 1) 9; idle = 0 }
 
 -- two routings of the pairs of the start, the better of which is no worse than the start
 pub record IsDescent (net : Network) (demand : List ℕ) (start : List PairRoutes) (d : Descent) : Type 0 where
@@ -34,3 +42,17 @@ BothKeep P d = P d.routing.routes × P d.best.routes
 pub record IsTurn (limit : ℕ) (offered : List (List ℕ)) (old new : Descent) : Type 0 where
   pub few : BothKeep (HasFewPaths limit) old → BothKeep (HasFewPaths limit) new
   pub only : (fixed : List PairRoutes) → BothKeep (UsesOnlyWays fixed offered) old → BothKeep (UsesOnlyWays fixed offered) new
+
+-- A turn whose shifts made this routing: the pace is the next one, the best routing is the better one, and the next turn goes on from what
+-- was made, or from the best routing where shares become smaller.
+pub record IsTurnTo (net : Network) (demand : List ℕ) (made : List PairRoutes) (old new : Descent) : Type 0 where
+  pub pace : IsNextPace old.pace (parts net made demand) new.pace
+  pub better : parts net made demand < old.least → new.best.routes ≡ made
+  pub no_better : old.least ≤ parts net made demand → new.best.routes ≡ old.best.routes
+  pub goes_on : new.pace.parts ≤ old.pace.parts → new.routing.routes ≡ made
+  pub goes_back : old.pace.parts < new.pace.parts → new.routing.routes ≡ new.best.routes
+
+-- a turn makes a routing by shifts to the offered paths, in the parts of the pace
+abbrev pub MakesTurn : Network → List ℕ → List ℕ → ℕ → List (List ℕ) → Descent → Descent → Type 0
+MakesTurn net demand lengths limit offered old new =
+    (made : List PairRoutes) × AreShifts lengths old.pace.parts limit demand old.routing.routes offered made × IsTurnTo net demand made old new

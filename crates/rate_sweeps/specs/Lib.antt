@@ -1,3 +1,4 @@
+pub mod Choices
 pub mod Descents
 pub mod Shifts
 pub mod Sweeps

@@ -1,5 +1,5 @@
 -- Sweeps of the pairs over paths, and what they make.
-use Rattle.std.specs.Prelude.{◌≡◌, ℕ, ◌^◌, ◌<◌, ◌≤◌, IsTrue, List, [], All, length, map, slice_index_or}
+use Rattle.std.specs.Prelude.{◌≡◌, ◌⊎◌, ℕ, ◌^◌, ◌<◌, ◌≤◌, IsTrue, List, [], All, length, map, slice_index_or}
 use Rattle.te_model.specs.declared.network.Network.{Network}
 use Rattle.te_model.specs.declared.route.PairRoutes.{PairRoutes}
 use Rattle.te_model.specs.declared.route.Path.{Path}
@@ -57,3 +57,9 @@ pub record AreRates (net : Network) (r : Rates) : Type 0 where
   pub loads : AreLoads net r.loads.items
   pub lengths_count : length r.lengths.items ≡ link_count net
   pub lengths : AreWeightsUpTo (2 ^ 27) r.lengths.items
+
+-- what bounds better is kept: the bound and the lengths of before, or a greater bound and the offered lengths
+abbrev pub KeepsBetter : List ℕ → Rates → Rates → Type 0
+KeepsBetter offered old new =
+    ((new.low ≡ old.low) × (new.lengths.items ≡ old.lengths.items))
+    ⊎ ((old.low < new.low) × (new.lengths.items ≡ offered))

@@ -5,7 +5,7 @@ ghost use Rattle.te_model.specs.Network.{is_well_formed, link_count};
 ghost use Rattle.te_model.specs.PathRouting.{IsPathRouting};
 ghost use Rattle.routing.specs.Routes.{AreDemands};
 ghost use Rattle.centred_steps.specs.Weights.{AreWeightsUpTo};
-ghost use Rattle.rate_sweeps.specs.Descents.{IsDescent, IsTurn};
+ghost use Rattle.rate_sweeps.specs.Descents.{IsDescent, IsTurn, MakesTurn};
 ghost use Rattle.rate_sweeps.specs.Sweeps.{AreWays, links_in};
 
 use crate::pace::{Pace, first_pace, next_pace};
@@ -90,6 +90,7 @@ pub fn take_turn(
     requires limit { 1 ≤ limit }
     ensures descent { (start : List PairRoutes) → IsDescent net.now matrix.now.demand start descent → IfOk result (IsDescent net.now matrix.now.demand start) }
     ensures turn { IfOk result (IsTurn limit (map links_in offered.now) descent) }
+    ensures made { IfOk result (MakesTurn net.now matrix.now.demand lengths.now limit (map links_in offered.now) descent) }
 {
     let (old, parts) = (descent.pace, descent.pace.parts);
     let mut routing = shift_dearest(

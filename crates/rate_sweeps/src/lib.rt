@@ -2,7 +2,7 @@
 //! most grow (centred steps). A mean of the sweeps is a routing, and the lengths of a sweep bound every routing from below.
 //!
 //! - `Rates`, `first_rates` and `take_sweep`: where sweeps stand, and what a sweep does.
-//! - `routing_by`: the routing in which each pair has its paths of the sweeps.
+//! - `Sweep` and `add_counted`: the sweeps of a stage that count. `routing_by`: the routing in which each pair has its paths of them.
 //! - `cheapest_paths`: the path of each pair in a sweep over given paths.
 //! - `lesser`: the better one of two routings.
 //! - `Descent`, `first_descent`, `next_lengths` and `take_turn`: turns that take weight from dear paths to cheap ones.
@@ -19,7 +19,7 @@ mod stress;
 
 pub use choice::lesser;
 pub use descent::{Descent, first_descent, next_lengths, take_turn};
-pub use mix::{Sweep, routing_by};
+pub use mix::{Sweep, add_counted, routing_by};
 pub use pace::{Pace, TURNS, is_over};
 pub use paths::cheapest_paths;
 pub use rates::{COUNTED, MAX_PARTS, Rates, STAGES, UNCOUNTED, first_rates, offer, take_sweep};

@@ -1,9 +1,10 @@
 //! The routing that sweeps make.
-ghost use Rattle.std.specs.Prelude.{◌≡◌, ◌<◌, ◌≤◌, ℕ, List, All, IfOk, length, map};
+ghost use Rattle.std.specs.Prelude.{◌≡◌, ◌<◌, ◌≤◌, ℕ, List, [], ◌∷◌, ◌++◌, All, IfOk, OnOk, length, map};
 ghost use Rattle.te_model.specs.declared.route.Pair.{Pair};
 ghost use Rattle.routing.specs.Routes.{HasFewPaths, IsRoutingOf};
 ghost use Rattle.rate_sweeps.specs.Sweeps.{AreWays, IsOfSweeps, IsWeight, paths_in, paths_of_pair};
 
+use crate::rates::UNCOUNTED;
 use routing::{Routing, merge, normalize};
 use std::alloc::Global;
 use te_model::{Items, Memory, Network, PairRoutes, Path, PathShare};
@@ -15,6 +16,27 @@ pub struct Sweep {
     pub weight: u64,
     /// One for each pair.
     pub paths: Items<Path>,
+}
+
+/// Adds the sweep of this number of a stage to those that count, which the first `UNCOUNTED` do not.
+///
+/// `Memory` comes where memory is wanting.
+pub fn add_counted(
+    sweeps: &mut Vec<Sweep>,
+    number: usize,
+    weight: u64,
+    paths: Vec<Path>,
+) -> Result<(), Memory>
+    ensures counted { UNCOUNTED ≤ number → OnOk result (sweeps.new.items ≡ sweeps.old.items ++ record { weight = weight; paths = paths.items } ∷ []) }
+    ensures uncounted { number < UNCOUNTED → OnOk result (sweeps.new.items ≡ sweeps.old.items) }
+{
+    if number >= UNCOUNTED {
+        sweeps.push(Sweep {
+            weight,
+            paths: Items::new(paths),
+        })?;
+    }
+    Ok(())
 }
 
 /// The path of the pair of this number in each sweep, with the weight of the sweep.

@@ -1,6 +1,6 @@
 //! How a descent goes on: with ever smaller shares and ever sharper lengths.
 ghost use Rattle.std.specs.Prelude.{◌≡◌, ◌↔◌, ◌^◌, ◌<◌, ◌≤◌, IsTrue};
-ghost use Rattle.rate_sweeps.specs.Descents.{IsPace};
+ghost use Rattle.rate_sweeps.specs.Descents.{IsNextPace, IsPace};
 
 /// How many turns a descent has at most.
 pub const TURNS: usize = 400;
@@ -52,11 +52,12 @@ pub fn is_over(pace: Pace) -> bool
     pace.parts > LAST_PARTS
 }
 
-/// The pace after a turn to this greatest utilisation. A gain is a fall by one of 2000 parts; where none comes for long, the
-/// shares become smaller.
+/// The pace after a turn to this greatest utilisation. A gain is a fall by more than one of 2000 parts; where none comes for long,
+/// the shares become smaller.
 pub fn next_pace(pace: Pace, most: u128) -> Pace
     requires { IsPace pace }
-    ensures { IsPace result }
+    ensures pace { IsPace result }
+    ensures next { IsNextPace pace most result }
 {
     let mut next = pace;
     if most < pace.least - pace.least / 2000 {

@@ -2,6 +2,7 @@
 ghost use Rattle.std.specs.Prelude.{◌≡◌, ◌^◌, ◌<◌, ◌≤◌, All, IfOk, length, map};
 ghost use Rattle.te_model.specs.Network.{link_count};
 ghost use Rattle.te_model.specs.PathRouting.{IsPathRouting};
+ghost use Rattle.rate_sweeps.specs.Choices.{AreCheapest, IsFirstGreatest, IsFirstLeast, cost_at};
 ghost use Rattle.rate_sweeps.specs.Sweeps.{AreAmong, AreWays, HaveLinks, links_in};
 
 use routing::Routing;
@@ -16,7 +17,8 @@ pub fn cheapest(lengths: &[u64], paths: &[PathShare]) -> usize
     requires some { 0 < length paths.now }
     requires limit { All (λ l. l ≤ 2 ^ 28) lengths.now }
     requires links { HaveLinks (length lengths.now) paths.now }
-    ensures { result < length paths.now }
+    ensures inside { result < length paths.now }
+    ensures least { IsFirstLeast (cost_at lengths.now paths.now) (length paths.now) result }
 {
     let mut place = 0;
     let mut least = length_along(lengths, paths[0].links.as_slice());
@@ -37,10 +39,11 @@ pub fn dearest(lengths: &[u64], paths: &[PathShare]) -> usize
     requires some { 0 < length paths.now }
     requires limit { All (λ l. l ≤ 2 ^ 28) lengths.now }
     requires links { HaveLinks (length lengths.now) paths.now }
-    ensures { result < length paths.now }
+    ensures inside { result < length paths.now }
+    ensures greatest { IsFirstGreatest (cost_at lengths.now paths.now) (length paths.now) result }
 {
     let mut place = 0;
-    let mut most = 0;
+    let mut most = length_along(lengths, paths[0].links.as_slice());
     for k in 0..paths.len() {
         let sum = length_along(lengths, paths[k].links.as_slice());
         if sum > most {
@@ -65,6 +68,7 @@ pub fn cheapest_paths(
     requires limit { All (λ l. l ≤ 2 ^ 28) lengths.now }
     ensures ways { IfOk result (λ p. AreWays net.now routing.now.routes (map links_in p.items)) }
     ensures among { IfOk result (λ p. AreAmong routing.now.routes (map links_in p.items)) }
+    ensures cheapest { IfOk result (λ p. AreCheapest lengths.now routing.now.routes (map links_in p.items)) }
 {
     let routes = routing.routes.as_slice();
     let mut list = Vec::with_capacity(alloc, routes.len())?;

@@ -4,7 +4,7 @@ ghost use Rattle.te_model.specs.Network.{is_well_formed, link_count};
 ghost use Rattle.routing.specs.Routes.{AreDemands};
 ghost use Rattle.centred_steps.specs.Loads.{AreLoads, AreSmall, IsCentre};
 ghost use Rattle.centred_steps.specs.Weights.{AreWeightsUpTo};
-ghost use Rattle.rate_sweeps.specs.Sweeps.{AreOnLinks, AreRates, IsWeight, links_in};
+ghost use Rattle.rate_sweeps.specs.Sweeps.{AreOnLinks, AreRates, IsWeight, KeepsBetter, links_in};
 
 use centred_steps::{Centre, FIRST_WEIGHT, add_load, centre_of, clear_loads, step};
 use std::alloc::Global;
@@ -125,7 +125,9 @@ pub fn offer(
     requires count { length lengths.now ≡ link_count net.now }
     requires lengths { AreWeightsUpTo (2 ^ 27) lengths.now }
     requires rates { AreRates net.now rates.old }
-    ensures { AreRates net.now rates.new }
+    ensures rates { AreRates net.now rates.new }
+    ensures better { KeepsBetter lengths.now rates.old rates.new }
+    ensures weights { rates.new.weights ≡ rates.old.weights }
 {
     let centre = centre_under(net, matrix, paths, lengths, &mut rates.loads);
     if centre.mean > rates.low {
@@ -154,6 +156,7 @@ pub fn take_sweep(
     requires parts { (1 ≤ parts) × (parts ≤ 128) }
     ensures weight { IfOk result IsWeight }
     ensures rates { AreRates net.now rates.new }
+    ensures better { KeepsBetter rates.old.weights.items rates.old rates.new }
 {
     let centre = centre_under(net, matrix, paths, &rates.weights, &mut rates.loads);
     if centre.mean > rates.low {

@@ -1,5 +1,5 @@
 //! Weight that goes from the dearest path of each pair to another one.
-ghost use Rattle.std.specs.Prelude.{◌≡◌, ◌^◌, ◌<◌, ◌≤◌, List, All, IfOk, IsTrue, OnOk, length, map};
+ghost use Rattle.std.specs.Prelude.{◌≡◌, ◌↔◌, ◌^◌, ◌<◌, ◌≤◌, List, All, IfOk, IsTrue, OnOk, length, map};
 ghost use Rattle.te_model.specs.declared.route.Pair.{Pair};
 ghost use Rattle.te_model.specs.Network.{link_count};
 ghost use Rattle.te_model.specs.PathRouting.{IsPathRouting};
@@ -7,7 +7,7 @@ ghost use Rattle.routing.specs.Routes.{AreDemands, HasFewPaths, IsRoutingOf};
 ghost use Rattle.routing.specs.Split.{total_weight};
 ghost use Rattle.te_model.specs.Validity.{paths_ascend};
 ghost use Rattle.te_model.specs.declared.units.TheConstants.{SHARE_UNIT};
-ghost use Rattle.rate_sweeps.specs.Shifts.{IsShifted, IsTarget, UsesOnlyWays};
+ghost use Rattle.rate_sweeps.specs.Shifts.{AreShifts, IsDearer, IsDearestShift, IsShifted, IsTarget, UsesOnlyWays};
 ghost use Rattle.rate_sweeps.specs.Sweeps.{AreWays, HaveLinks, links_in};
 
 use crate::paths::{cheapest, dearest};
@@ -23,6 +23,7 @@ fn is_dearer(lengths: &[u64], dear: &[u32], cheap: &[u32]) -> bool
     requires limit { All (λ l. l ≤ 2 ^ 28) lengths.now }
     requires dear { All (λ h. h < length lengths.now) dear.now }
     requires cheap { All (λ h. h < length lengths.now) cheap.now }
+    ensures { IsTrue result ↔ IsDearer lengths.now dear.now cheap.now }
 {
     let sum = length_along(lengths, cheap);
     length_along(lengths, dear) > sum + sum / 16
@@ -39,7 +40,7 @@ fn target_of(
     requires some { 0 < length route.now.paths }
     requires lengths { All (λ l. l ≤ 2 ^ 28) lengths.now }
     requires links { HaveLinks (length lengths.now) route.now.paths }
-    ensures { IfOk result (λ t. IsTarget limit route.now.paths offered.now.links t.items) }
+    ensures { IfOk result (λ t. IsTarget lengths.now limit route.now.paths offered.now.links t.items) }
 {
     let paths = route.paths.as_slice();
     let links = if paths.len() < limit {
@@ -68,7 +69,8 @@ fn shift_pair(
     requires links { HaveLinks (length lengths.now) route.old.paths }
     requires offered { All (λ h. h < length lengths.now) offered.now.links }
     requires parts { (1 ≤ parts) × (parts ≤ 4096) }
-    ensures { OnOk result (IsShifted limit route.old offered.now.links route.new) }
+    ensures shifted { OnOk result (IsShifted limit route.old offered.now.links route.new) }
+    ensures dearest { OnOk result (IsDearestShift lengths.now parts limit route.old offered.now.links route.new) }
 {
     let to = target_of(alloc, route, offered, lengths, limit)?;
     let paths = route.paths.as_slice();
@@ -108,6 +110,7 @@ pub fn shift_dearest(
     ensures routing { (pairs : List Pair) → IsRoutingOf net.now pairs routing.routes → IfOk result (λ r. IsRoutingOf net.now pairs r.routes) }
     ensures only { IfOk result (λ r. UsesOnlyWays routing.routes (map links_in offered.now) r.routes) }
     ensures few { HasFewPaths limit routing.routes → IfOk result (λ r. HasFewPaths limit r.routes) }
+    ensures shifts { IfOk result (λ r. AreShifts lengths.now parts limit matrix.now.demand routing.routes (map links_in offered.now) r.routes) }
 {
     let demand = matrix.demand.as_slice();
     let mut routes = routing.routes.into_vec();

@@ -8,8 +8,9 @@ use Rattle.te_model.specs.Network.{link_count}
 use Rattle.te_model.specs.Path.{no_routes, routes_at}
 use Rattle.te_model.specs.PathRouting.{IsPathSplit}
 use Rattle.routing.specs.Merge.{HasLinks, links_at, no_path}
+use Rattle.rate_sweeps.specs.Choices.{IsLeastAmong}
 use Rattle.rate_sweeps.specs.Sweeps.{HaveLinks, links_in}
-use Rattle.rate_sweeps.proofs.Among.{among_more, ways_among}
+use Rattle.rate_sweeps.proofs.Among.{each_more, ways_among}
 use Rattle.rate_sweeps.proofs.PathLinks.{split_on_links}
 use Rattle.rate_sweeps.proofs.paths.cheapest_paths.Goals as goal
 
@@ -31,6 +32,7 @@ cheapest-place-requires-clause-links c =
 pub loop-p-preserved : goal.loop-p-preserved
 loop-p-preserved c =
     let routes = c.args.routing.now.routes in
+    let lengths = c.args.lengths.now in
     let p = c.loop-p.p in
     let paths = c.as_slice-paths.result.now in
     let place = c.cheapest-place.result in
@@ -42,13 +44,21 @@ loop-p-preserved c =
     let links : links_at paths place ≡ c.new.result =
     sym (c.new.ensures
     ∙ (c.in_ok-links.ensures.items
-    ∙ (c.as_slice.ensures ∙ ap (λ (s : PathShare). s.links) (get_or_default paths place c.index-paths-place.result no_path c.cheapest-place.ensures))))
+    ∙ (c.as_slice.ensures ∙ ap (λ (s : PathShare). s.links) (get_or_default paths place c.index-paths-place.result no_path c.cheapest-place.ensures.inside))))
     in
-    let has : HasLinks (routes_at routes p).paths c.new.result = subst (λ (l : List PathShare). HasLinks l c.new.result) own (place, c.cheapest-place.ensures, links) in
+    let has : HasLinks (routes_at routes p).paths c.new.result = subst (λ (l : List PathShare). HasLinks l c.new.result) own (place, c.cheapest-place.ensures.inside, links) in
     let path : Path = record { links = c.new.result } in
     let list = c.loop-p.list.items in
     let pushed : c.push.new.self.items ≡ list ++ path ∷ [] = search rules in
-    rw pushed (omega (arith, length_push list path, c.loop-p.invariant.0), among_more routes list path p c.loop-p.invariant.0 c.loop-p.invariant.1 has)
+    let least : IsLeastAmong lengths (routes_at routes p).paths c.new.result =
+    subst (λ (l : List PathShare). IsLeastAmong lengths l c.new.result) own
+    (subst (IsLeastAmong lengths paths) links (λ k below. c.cheapest-place.ensures.least.least k below))
+    in
+    rw pushed (
+      omega (arith, length_push list path, c.loop-p.invariant.0),
+      each_more (λ q links. HasLinks (routes_at routes q).paths links) list path p c.loop-p.invariant.0 c.loop-p.invariant.1 has,
+      each_more (λ q links. IsLeastAmong lengths (routes_at routes q).paths links) list path p c.loop-p.invariant.0 c.loop-p.invariant.2 least,
+    )
 
 pub returns-clause-ways : goal.returns-clause-ways
 returns-clause-ways c =

@@ -1,4 +1,4 @@
-use Rattle.std.proofs.Common.{◌≡◌, ℕ, ◌<◌, List, [], length, map, get_or, arith, ap, sym, ◌∙◌, subst, All}
+use Rattle.std.proofs.Common.{◌≡◌, ℕ, ◌<◌, List, [], length, map, get_or, arith, ap, sym, ◌∙◌, subst, All, below_more}
 use Rattle.std.proofs.lemmas.List.{get_or_read, get_or-map, length-map}
 use Rattle.te_model.specs.declared.route.PairRoutes.{PairRoutes}
 use Rattle.te_model.specs.declared.route.Path.{Path}
@@ -7,11 +7,11 @@ use Rattle.te_model.specs.Path.{no_routes, routes_at}
 use Rattle.te_model.specs.PathRouting.{IsPathRouting, IsPathSplit}
 use Rattle.te_model.proofs.Chains.{path_links}
 use Rattle.routing.proofs.Splits.{splits_of}
-use Rattle.rate_sweeps.specs.Shifts.{IsShifted}
+use Rattle.rate_sweeps.specs.Shifts.{IsDearestShift, IsShiftForDemand, IsShifted}
 use Rattle.rate_sweeps.specs.Sweeps.{HaveLinks, links_in}
 use Rattle.routing.proofs.Splits.{split_some}
 use Rattle.rate_sweeps.proofs.PathLinks.{split_on_links}
-use Rattle.rate_sweeps.proofs.Passed.{ShiftedSoFar, left_split, passed_few, passed_only, passed_pairs, passed_same, passed_shifted, passed_splits}
+use Rattle.rate_sweeps.proofs.Passed.{ShiftedSoFar, each_set, left_split, passed_few, passed_only, passed_pairs, passed_same, passed_shifted, passed_splits}
 use Rattle.rate_sweeps.proofs.shifting.shift_dearest.Goals as goal
 use Rattle.rate_sweeps.proofs.shifting.shift_dearest.Goals.{After-index-offered-p, After-new, then-demand-p-gt0+in_ok-shift_pair, else-demand-p-gt0}
 
@@ -22,9 +22,9 @@ split c =
     let offered = map links_in c.args.offered.now in
     let p = c.loop-p.p in
     let now = c.loop-p.routes.items in
-    let inside : p < length now = omega (arith, c.loop-p.invariant.count, ap (λ (l : List PairRoutes). length l) c.into_vec-routes.ensures) in
+    let inside : p < length now = omega (arith, c.loop-p.invariant.0.count, ap (λ (l : List PairRoutes). length l) c.into_vec-routes.ensures) in
     subst (IsPathSplit c.args.net.now) (sym (get_or_read now p c.index_mut.result.now inside c.index_mut.ensures.value no_routes))
-    (left_split c.args.net.now c.args.limit old offered p now c.requires.routing c.loop-p.invariant (omega (arith, inside, c.loop-p.invariant.count)))
+    (left_split c.args.net.now c.args.limit old offered p now c.requires.routing c.loop-p.invariant.0 (omega (arith, inside, c.loop-p.invariant.0.count)))
 
 pub shift_pair-requires-clause-some : goal.shift_pair-requires-clause-some
 shift_pair-requires-clause-some c =
@@ -55,13 +55,19 @@ pub loop-p-preserved : goal.loop-p-preserved
 loop-p-preserved c =
     let net = c.args.net.now in
     let limit = c.args.limit in
+    let lengths = c.args.lengths.now in
+    let demand = c.args.matrix.now.demand in
     let old = c.args.routing.routes in
     let paths = c.args.offered.now in
     let offered = map links_in paths in
     let p = c.loop-p.p in
     let now = c.loop-p.routes.items in
-    let inside : p < length now = omega (arith, c.loop-p.invariant.count, ap (λ (l : List PairRoutes). length l) c.into_vec-routes.ensures) in
-    let below : p < length old = omega (arith, inside, c.loop-p.invariant.count) in
+    let inside : p < length now = omega (arith, c.loop-p.invariant.0.count, ap (λ (l : List PairRoutes). length l) c.into_vec-routes.ensures) in
+    let below : p < length old = omega (arith, inside, c.loop-p.invariant.0.count) in
+    let left : routes_at now p ≡ routes_at old p = c.loop-p.invariant.0.left p (omega arith) in
+    let far = λ (q : ℕ) (under : q < p). c.loop-p.invariant.1 q under in
+    let demands : get_or c.as_slice-demand.result.now p 0 ≡ get_or demand p 0 = ap (λ (l : List ℕ). get_or l p 0) c.as_slice-demand.ensures in
+    let Shift : ℕ → PairRoutes → Type 0 = λ q r. IsShiftForDemand lengths c.args.parts limit (get_or demand q 0) (routes_at old q) (get_or offered q []) r in
     elim c.if-demand-p-gt0.branch [
       | then-demand-p-gt0+in_ok-shift_pair w ↦
           let none : Path = record { links = [] } in
@@ -70,17 +76,25 @@ loop-p-preserved c =
           ap links_in (get_or_read paths p w.index-offered-p.result there w.index-offered-p.is none) ∙ sym (get_or-map links_in paths p none [] there)
           in
           let route : w.index_mut.result.now ≡ routes_at now p = get_or_read now p w.index_mut.result.now inside w.index_mut.ensures.value no_routes in
-          let is : IsShifted limit (routes_at now p) (get_or offered p []) w.shift_pair.new.route =
-          subst (λ (l : List ℕ). IsShifted limit (routes_at now p) l w.shift_pair.new.route) offer
-          (subst (λ (r : PairRoutes). IsShifted limit r w.index-offered-p.result.links w.shift_pair.new.route) route w.in_ok-shift_pair.ensures)
+          let new = w.shift_pair.new.route in
+          let is : IsShifted limit (routes_at now p) (get_or offered p []) new =
+          subst (λ (l : List ℕ). IsShifted limit (routes_at now p) l new) offer
+          (subst (λ (r : PairRoutes). IsShifted limit r w.index-offered-p.result.links new) route w.in_ok-shift_pair.ensures.shifted)
           in
-          rw w.routes-is (passed_shifted limit old offered p now w.shift_pair.new.route c.loop-p.invariant below is)
-      | else-demand-p-gt0 w ↦ rw w.routes-is (passed_same net limit old offered p now c.requires.routing c.loop-p.invariant below)
+          let by : IsDearestShift lengths c.args.parts limit (routes_at old p) (get_or offered p []) new =
+          subst (λ (l : List ℕ). IsDearestShift lengths c.args.parts limit (routes_at old p) l new) offer
+          (subst (λ (r : PairRoutes). IsDearestShift lengths c.args.parts limit r w.index-offered-p.result.links new) (route ∙ left) w.in_ok-shift_pair.ensures.dearest)
+          in
+          let of : Shift p new = (λ some. by, λ none. absurd (omega (arith, w.if-demand-p-gt0.true, demands, none))) in
+          rw w.routes-is (passed_shifted limit old offered p now new c.loop-p.invariant.0 below is, each_set Shift p now new inside far of)
+      | else-demand-p-gt0 w ↦
+          let of : Shift p (routes_at now p) = (λ some. absurd (omega (arith, w.if-demand-p-gt0.false, demands, some)), λ none. left) in
+          rw w.routes-is (passed_same net limit old offered p now c.requires.routing c.loop-p.invariant.0 below, below_more (λ q. Shift q (routes_at now q)) p far of)
     ]
 
 -- the routes after the loop
 done : (c : After-new) → ShiftedSoFar c.args.limit c.args.routing.routes (map links_in c.args.offered.now) c.loop-p.p c.new.result
-done c = rw c.new.ensures c.loop-p.invariant
+done c = rw c.new.ensures c.loop-p.invariant.0
 
 every : (c : After-new) → c.loop-p.p ≡ length c.args.routing.routes
 every c = omega (arith, c.loop-p-test.false, c.loop-p.auto.p-end, ap (λ (l : List PairRoutes). length l) c.into_vec-routes.ensures)
@@ -108,3 +122,16 @@ pub returns-clause-few : goal.returns-clause-few
 returns-clause-few c = λ few.
     let at = (goal.at.returns-clause-few c).After-new in
     passed_few c.args.limit c.args.routing.routes (map links_in c.args.offered.now) c.loop-p.p c.new.result (done at) (omega (arith, every at)) few
+
+pub returns-clause-shifts : goal.returns-clause-shifts
+returns-clause-shifts c =
+    let at = (goal.at.returns-clause-shifts c).After-new in
+    let lengths = c.args.lengths.now in
+    let demand = c.args.matrix.now.demand in
+    let old = c.args.routing.routes in
+    let offered = map links_in c.args.offered.now in
+    record {
+      count = (done at).count;
+      each = λ q below. subst (λ (l : List PairRoutes). IsShiftForDemand lengths c.args.parts c.args.limit (get_or demand q 0) (routes_at old q) (get_or offered q []) (routes_at l q))
+          (sym c.new.ensures) (c.loop-p.invariant.1 q (omega (arith, below, every at)));
+    }

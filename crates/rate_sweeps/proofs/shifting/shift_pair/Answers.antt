@@ -1,11 +1,61 @@
-use Rattle.std.proofs.Common.{refl, ◌∙◌}
+use Rattle.std.proofs.Common.{◌≡◌, ℕ, ◌<◌, List, length, refl, ap, ◌∙◌, subst}
 use Rattle.te_model.specs.declared.route.PairRoutes.{PairRoutes}
-use Rattle.rate_sweeps.proofs.Shifted.{shifted_after}
+use Rattle.te_model.specs.declared.route.PathShare.{PathShare}
+use Rattle.te_model.specs.Division.{quotient_up}
+use Rattle.std.proofs.lemmas.List.{get_or_default}
+use Rattle.routing.specs.Merge.{links_at, no_path, path_at}
+use Rattle.local_search.specs.Moves.{IsShift}
+use Rattle.rate_sweeps.specs.Choices.{IsFirstGreatest, cost_at}
+use Rattle.rate_sweeps.specs.Shifts.{IsDearer}
+use Rattle.rate_sweeps.proofs.Shifted.{shift_after, shifted}
 use Rattle.rate_sweeps.proofs.shifting.shift_pair.Goals as goal
+use Rattle.rate_sweeps.proofs.shifting.shift_pair.Goals.{After-drop-to-2}
 
-pub returns : goal.returns
-returns c =
+-- the part of the weight of the dearest path that goes
+abbrev units : After-drop-to-2 → ℕ
+units c = quotient_up (path_at c.args.route.now.paths c.dearest-from.result).weight c.args.parts
+
+-- it has gone to the target
+moved : (c : After-drop-to-2) →
+    IsShift c.args.route.now.paths (links_at c.args.route.now.paths c.dearest-from.result) c.in_ok-to.to.items (units c) c.new-3.result
+moved c =
     let old : PairRoutes = c.args.route.now in
     let new : PairRoutes = record { pair = old.pair; paths = c.new-3.result } in
-    shifted_after c.args.limit old new c.into_vec.result.items c.in_ok-next.next.items c.dearest-from.result _ c.deref-2.result.now c.in_ok-to.to.items
-    c.args.offered.now.links refl c.in_ok-to.ensures (c.into_vec.ensures ∙ c.replace-old.ensures.value) c.deref-2.ensures.value c.new-3.ensures c.in_ok-next.ensures
+    let from = c.dearest-from.result in
+    let weight = ap (λ (s : PathShare). s.weight) (get_or_default c.as_slice-paths.result.now from c.index-paths-from-2.result no_path c.dearest-from.ensures.inside)
+    ∙ ap (λ (l : List PathShare). (path_at l from).weight) c.as_slice-paths.ensures
+    in
+    shift_after old new c.into_vec.result.items c.in_ok-next.next.items from _ c.args.parts c.deref-2.result.now c.in_ok-to.to.items c.requires.parts.0
+    (c.into_vec.ensures ∙ c.replace-old.ensures.value) c.deref-2.ensures.value c.new-3.ensures (ap (λ n. quotient_up n c.args.parts) weight) c.in_ok-next.ensures
+
+pub returns-clause-shifted : goal.returns-clause-shifted
+returns-clause-shifted c =
+    let old : PairRoutes = c.args.route.now in
+    let new : PairRoutes = record { pair = old.pair; paths = c.new-3.result } in
+    shifted c.args.lengths.now c.args.limit old new (links_at old.paths c.dearest-from.result) c.in_ok-to.to.items c.args.offered.now.links (units c) refl
+    c.in_ok-to.ensures (moved c)
+
+pub returns-clause-dearest : goal.returns-clause-dearest
+returns-clause-dearest c =
+    let lengths = c.args.lengths.now in
+    let own = c.args.route.now.paths in
+    let paths = c.as_slice-paths.result.now in
+    let from = c.dearest-from.result in
+    let to = c.in_ok-to.to.items in
+    let links : c.as_slice.result.now ≡ links_at own from =
+    c.as_slice.ensures
+    ∙ (ap (λ (s : PathShare). s.links) (get_or_default paths from c.index-paths-from.result no_path c.dearest-from.ensures.inside)
+    ∙ ap (λ (l : List PathShare). links_at l from) c.as_slice-paths.ensures)
+    in
+    let dearer : IsDearer lengths (links_at own from) to =
+    subst (λ (l : List ℕ). IsDearer lengths l to) links (subst (IsDearer lengths c.as_slice.result.now) c.deref.ensures.value (c.if-not-is_dearer.ensures.0 refl))
+    in
+    record {
+      from = from;
+      inside = subst (λ (l : List PathShare). from < length l) c.as_slice-paths.ensures c.dearest-from.ensures.inside;
+      dearest = subst (λ (l : List PathShare). IsFirstGreatest (cost_at lengths l) (length l) from) c.as_slice-paths.ensures c.dearest-from.ensures.greatest;
+      to = to;
+      target = c.in_ok-to.ensures;
+      shift = λ more. moved c;
+      stays = λ not. absurd (not dearer);
+    }

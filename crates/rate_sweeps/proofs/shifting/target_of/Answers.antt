@@ -2,6 +2,7 @@ use Rattle.std.proofs.Common.{inl, inr, ◌≡◌, ℕ, List, length, arith, ap,
 use Rattle.std.proofs.lemmas.List.{get_or_default}
 use Rattle.te_model.specs.declared.route.PathShare.{PathShare}
 use Rattle.routing.specs.Merge.{HasLinks, links_at, no_path}
+use Rattle.rate_sweeps.specs.Choices.{IsLeastAmong}
 use Rattle.rate_sweeps.proofs.shifting.target_of.Goals as goal
 use Rattle.rate_sweeps.proofs.shifting.target_of.Goals.{then-paths-limit, else-paths-limit}
 
@@ -19,8 +20,14 @@ returns c =
       | else-paths-limit w ↦
           let k = w.cheapest.result in
           let here : w.as_slice-links-else-paths-limit.result.now ≡ links_at paths k =
-          w.as_slice-links-else-paths-limit.ensures ∙ ap (λ (s : PathShare). s.links) (get_or_default paths k w.index-paths-cheapest.result no_path w.cheapest.ensures)
+          w.as_slice-links-else-paths-limit.ensures ∙ ap (λ (s : PathShare). s.links) (get_or_default paths k w.index-paths-cheapest.result no_path w.cheapest.ensures.inside)
           in
           let is : links_at paths k ≡ to = sym (c.in_ok-copy.ensures.items ∙ (ap (λ (b : Bor (List ℕ)). b.now) w.links-is ∙ here)) in
-          inr (omega (arith, w.if-paths-limit.false, count), subst (λ (l : List PathShare). HasLinks l to) same (k, w.cheapest.ensures, is))
+          let lengths = c.args.lengths.now in
+          let least : IsLeastAmong lengths paths to = subst (IsLeastAmong lengths paths) is (λ j below. w.cheapest.ensures.least.least j below) in
+          inr (
+            omega (arith, w.if-paths-limit.false, count),
+            subst (λ (l : List PathShare). HasLinks l to) same (k, w.cheapest.ensures.inside, is),
+            subst (λ (l : List PathShare). IsLeastAmong lengths l to) same least,
+          )
     ]
