@@ -21,7 +21,7 @@ use Rattle.rate_sweeps.specs.Descents.{BothKeep, IsTurn}
 use Rattle.rate_sweeps.specs.Shifts.{UsesOnlyWays}
 use Rattle.rate_sweeps.specs.Sweeps.{paths_in, AreAmong, AreWays, IsOfSweeps, IsWeight}
 use Rattle.semi_oblivious.specs.Semi.{KeepsTo}
-use Rattle.semi_oblivious.specs.Sweeps.{AreFixedSweeps, IsOverFixed}
+use Rattle.semi_oblivious.specs.Sweeps.{AreFixedSweeps, IsCheapestSweep, IsOverFixed}
 
 pub sweeps_none : (net : Network) (fixed : List PairRoutes) → AreFixedSweeps 0 net fixed []
 sweeps_none net fixed = record {
@@ -29,16 +29,18 @@ sweeps_none net fixed = record {
   weights = All-nil (λ (s : Sweep). IsWeight s.weight);
   ways = All-nil (λ (s : Sweep). AreWays net fixed (paths_in s));
   among = All-nil (λ (s : Sweep). AreAmong fixed (paths_in s));
+  cheapest = All-nil (IsCheapestSweep net fixed);
 }
 
 -- one sweep more
 pub sweeps_more : (n m : ℕ) (net : Network) (fixed : List PairRoutes) (sweeps : List Sweep) (s : Sweep) → AreFixedSweeps n net fixed sweeps → m ≡ n + 1 → IsWeight s.weight →
-    AreWays net fixed (paths_in s) → AreAmong fixed (paths_in s) → AreFixedSweeps m net fixed (sweeps ++ s ∷ [])
-sweeps_more n m net fixed sweeps s are next weight ways among = record {
+    AreWays net fixed (paths_in s) → AreAmong fixed (paths_in s) → IsCheapestSweep net fixed s → AreFixedSweeps m net fixed (sweeps ++ s ∷ [])
+sweeps_more n m net fixed sweeps s are next weight ways among cheapest = record {
   count = omega (arith, are.count, next, length-append sweeps (s ∷ []));
   weights = All-push (λ (s : Sweep). IsWeight s.weight) sweeps s are.weights weight;
   ways = All-push (λ (s : Sweep). AreWays net fixed (paths_in s)) sweeps s are.ways ways;
   among = All-push (λ (s : Sweep). AreAmong fixed (paths_in s)) sweeps s are.among among;
+  cheapest = All-push (IsCheapestSweep net fixed) sweeps s are.cheapest cheapest;
 }
 
 -- a routing over the paths of sweeps over fixed paths keeps to these

@@ -7,8 +7,9 @@ ghost use Rattle.rate_sweeps.specs.Sweeps.{AreRates};
 ghost use Rattle.semi_oblivious.specs.Sweeps.{AreFixedSweeps, IsOverFixed};
 
 use rate_sweeps::{
-    COUNTED, MAX_PARTS, Rates, STAGES, Sweep, TURNS, UNCOUNTED, cheapest_paths, first_descent,
-    first_rates, is_over, lesser, next_lengths, offer, routing_by, take_sweep, take_turn,
+    COUNTED, MAX_PARTS, Rates, STAGES, Sweep, TURNS, UNCOUNTED, add_counted, cheapest_paths,
+    first_descent, first_rates, is_over, lesser, next_lengths, offer, routing_by, take_sweep,
+    take_turn,
 };
 use routing::Routing;
 use std::alloc::Global;
@@ -39,12 +40,7 @@ fn stage(
     for i in 0..UNCOUNTED + COUNTED {
         let paths = cheapest_paths(alloc, net, fixed, &rates.weights)?;
         let weight = take_sweep(alloc, net, matrix, &paths, rates, parts)?;
-        if i >= UNCOUNTED {
-            sweeps.push(Sweep {
-                weight,
-                paths: Items::new(paths),
-            })?;
-        }
+        add_counted(&mut sweeps, i, weight, paths)?;
     }
     Ok(sweeps)
 }
@@ -126,6 +122,10 @@ pub fn sweep(
     ensures small { IfOk result (λ r. All (λ x. x ≤ 2 ^ 28) r.1) }
 {
     let mut rates = first_rates(alloc, net)?;
+    // Where no link is used there is nothing to better.
+    if fixed.greatest_utilisation(alloc, net, matrix)? == 0 {
+        return Ok((fixed.copy(alloc)?, Items::new(rates.lengths)));
+    }
     let best = best_stage(alloc, net, fixed, matrix, &mut rates)?;
     let routing = descend(alloc, net, fixed, matrix, best, &mut rates)?;
     Ok((routing, Items::new(rates.lengths)))

@@ -30,5 +30,5 @@ loop-preserved c =
     let among = subst (λ (l : List Path). AreAmong fixed (map links_in l)) (sym c.deref-in-loop-3.ensures.value) c.in_ok-paths.ensures.among in (
       c.in_ok-descent-2.ensures.descent c.args.start.routes c.loop.invariant.0,
       turn_keeps 33 fixed offered c.loop.descent c.in_ok-descent-2.descent among c.in_ok-descent-2.ensures.turn c.loop.invariant.1,
-      c.offer.ensures,
+      c.offer.ensures.rates,
     )

@@ -1,12 +1,14 @@
-use Rattle.std.proofs.Common.{◌≡◌, ℕ, ◌+◌, ◌-◌, List, [], ◌∷◌, ◌++◌, map, arith, ap, sym, ◌∙◌, subst, rules}
+use Rattle.std.proofs.Common.{inl, inr, ◌≡◌, ℕ, ◌+◌, ◌-◌, List, map, arith, sym, subst}
+use Rattle.std.proofs.lemmas.Bool.{cases_lt}
 use Rattle.te_model.specs.declared.route.Path.{Path}
 use Rattle.rate_sweeps.specs.declared.mix.Sweep.{Sweep}
-use Rattle.rate_sweeps.specs.Sweeps.{AreAmong, AreOnLinks, AreWays, links_in}
+use Rattle.rate_sweeps.specs.Choices.{AreCheapest}
+use Rattle.rate_sweeps.specs.Sweeps.{AreOnLinks, links_in, paths_in}
+use Rattle.rate_sweeps.proofs.Lengths.{lengths_positive}
 use Rattle.rate_sweeps.proofs.PathLinks.{ways_on_links}
-use Rattle.semi_oblivious.specs.Sweeps.{AreFixedSweeps}
+use Rattle.semi_oblivious.specs.Sweeps.{AreFixedSweeps, IsCheapestSweep}
 use Rattle.semi_oblivious.proofs.Sweeping.{sweeps_more}
 use Rattle.semi_oblivious.proofs.sweeps.stage.Goals as goal
-use Rattle.semi_oblivious.proofs.sweeps.stage.Goals.{then-i-ge-UNCOUNTED+in_ok-push, else-i-ge-UNCOUNTED}
 
 pub take_sweep-requires-clause-paths : goal.take_sweep-requires-clause-paths
 take_sweep-requires-clause-paths c =
@@ -20,18 +22,25 @@ loop-i-preserved c =
     let fixed = c.args.fixed.now.routes in
     let i = c.loop-i.i in
     let sweeps = c.loop-i.sweeps.items in
-    let far = c.loop-i.invariant.1 in (
+    let s : Sweep = record { weight = c.in_ok-weight.weight; paths = c.in_ok-paths.paths.items } in
+    let taken = c.in_ok-paths.ensures in
+    let rates = c.loop-i.invariant.0 in
+    let far = c.loop-i.invariant.1 in
+    let cheapest : IsCheapestSweep net fixed s =
+    record {
+      lengths = c.loop-i.rates.weights.items;
+      count = rates.count;
+      positive = lengths_positive c.loop-i.rates.weights.items rates.weights;
+      cheapest = subst (λ (l : List ℕ). AreCheapest l fixed (paths_in s)) c.deref.ensures.value taken.cheapest;
+    }
+    in (
       c.take_sweep.ensures.rates,
-      elim c.if-i-ge-UNCOUNTED.branch [
-        | then-i-ge-UNCOUNTED+in_ok-push w ↦
-            let s : Sweep = record { weight = c.in_ok-weight.weight; paths = w.new.result } in
-            let ways = subst (λ (l : List Path). AreWays net fixed (map links_in l)) (sym w.new.ensures) c.in_ok-paths.ensures.ways in
-            let among = subst (λ (l : List Path). AreAmong fixed (map links_in l)) (sym w.new.ensures) c.in_ok-paths.ensures.among in
-            let pushed : w.push.new.self.items ≡ sweeps ++ s ∷ [] = search rules in
-            subst (AreFixedSweeps (i + 1 - 10) net fixed) (sym (ap (λ v. v.items) w.sweeps-is ∙ pushed))
-            (sweeps_more (i - 10) (i + 1 - 10) net fixed sweeps s far (omega (arith, w.if-i-ge-UNCOUNTED.true)) c.in_ok-weight.ensures.weight ways among)
-        | else-i-ge-UNCOUNTED w ↦
-            let same : i - 10 ≡ i + 1 - 10 = omega (arith, w.if-i-ge-UNCOUNTED.false) in
-            subst (AreFixedSweeps (i + 1 - 10) net fixed) (sym (ap (λ v. v.items) w.sweeps-is)) (subst (λ (n : ℕ). AreFixedSweeps n net fixed sweeps) same far)
+      elim (cases_lt i 10) [
+        | inl lt ↦
+            let same : i - 10 ≡ i + 1 - 10 = omega (arith, lt) in
+            subst (AreFixedSweeps (i + 1 - 10) net fixed) (sym (c.in_ok-add_counted.ensures.uncounted lt)) (subst (λ (n : ℕ). AreFixedSweeps n net fixed sweeps) same far)
+        | inr ge ↦
+            subst (AreFixedSweeps (i + 1 - 10) net fixed) (sym (c.in_ok-add_counted.ensures.counted ge))
+            (sweeps_more (i - 10) (i + 1 - 10) net fixed sweeps s far (omega (arith, ge)) c.in_ok-weight.ensures.weight taken.ways taken.among cheapest)
       ],
     )

@@ -4,34 +4,36 @@ use Rattle.routing.proofs.InOrder.{routes_count}
 use Rattle.rate_sweeps.specs.declared.mix.Sweep.{Sweep}
 use Rattle.rate_sweeps.specs.Sweeps.{AreWays, paths_in}
 use Rattle.mcf_lengths.proofs.Sweeping.{sweeps_ways, taken_keeps}
-use Rattle.mcf_lengths.proofs.sweeps.best_stage.Goals as goal
+use Rattle.mcf_lengths.proofs.sweeps.Commodities.best_mix.Goals as goal
 
 pub routing_by-requires-clause-paths : goal.routing_by-requires-clause-paths
 routing_by-requires-clause-paths c =
-    let net = c.args.net.now in
+    let net = c.args.self.now.net.now in
     let best = c.loop.best.routes in
     subst (λ (l : List Sweep). All (λ (s : Sweep). AreWays net best (paths_in s)) l) (sym c.deref.ensures.value)
-    (sweeps_ways net c.args.pairs.now.list best c.in_ok-sweeps.sweeps.items c.loop.invariant.0 c.in_ok-sweeps.ensures.sweeps.least)
+    (sweeps_ways net c.args.self.now.pairs.now.list best c.in_ok-sweeps.sweeps.items c.loop.invariant.0.routing c.in_ok-sweeps.ensures.sweeps.least)
 
 pub lesser-requires-clause-count : goal.lesser-requires-clause-count
 lesser-requires-clause-count c =
-    let pairs = c.args.pairs.now.list in
-    let best = c.loop.invariant.0 in
-    let other = c.in_ok-other.ensures.routing c.args.net.now pairs (c.in_ok-mixed.ensures.routing pairs best) in
+    let pairs = c.args.self.now.pairs.now.list in
+    let best = c.loop.invariant.0.routing in
+    let other = c.in_ok-other.ensures.routing c.args.self.now.net.now pairs (c.in_ok-mixed.ensures.routing pairs best) in
     routes_count pairs c.in_ok-other.other.routes other.in_order ∙ sym (routes_count pairs c.loop.best.routes best.in_order)
 
 pub loop-preserved : goal.loop-preserved
 loop-preserved c =
-    let net = c.args.net.now in
-    let pairs = c.args.pairs.now.list in
+    let net = c.args.self.now.net.now in
+    let pairs = c.args.self.now.pairs.now.list in
     let best = c.loop.best.routes in
     let other = c.in_ok-other.other.routes in
     let taken = c.in_ok-best.best.routes in
-    let is = c.in_ok-other.ensures.routing net pairs (c.in_ok-mixed.ensures.routing pairs c.loop.invariant.0) in
+    let is = c.in_ok-other.ensures.routing net pairs (c.in_ok-mixed.ensures.routing pairs c.loop.invariant.0.routing) in
     let doubled = c.min-parts.ensures in (
-      taken_keeps (IsRoutingOf net pairs) best other taken c.in_ok-best.ensures.either c.loop.invariant.0 is,
-      taken_keeps (HasFewPaths 28) best other taken c.in_ok-best.ensures.either c.loop.invariant.1 c.in_ok-other.ensures.few,
-      omega (arith, c.in_ok-best.ensures.first, c.loop.invariant.2),
+      record {
+        routing = taken_keeps (IsRoutingOf net pairs) best other taken c.in_ok-best.ensures.either c.loop.invariant.0.routing is;
+        few = taken_keeps (HasFewPaths 28) best other taken c.in_ok-best.ensures.either c.loop.invariant.0.few c.in_ok-other.ensures.few;
+        no_greater = omega (arith, c.in_ok-best.ensures.first, c.loop.invariant.0.no_greater);
+      },
       c.stage.ensures.rates,
       grind (arith, doubled),
       grind (arith, doubled),

@@ -4,20 +4,20 @@ use Rattle.rate_sweeps.specs.Sweeps.{AreOnLinks, AreWays, links_in}
 use Rattle.rate_sweeps.proofs.Lengths.{lengths_small}
 use Rattle.rate_sweeps.proofs.Turning.{turn_routing}
 use Rattle.mcf_lengths.proofs.Sweeping.{least_on_links, least_ways}
-use Rattle.mcf_lengths.proofs.sweeps.descend.Goals as goal
+use Rattle.mcf_lengths.proofs.sweeps.Commodities.descend.Goals as goal
 
 pub offer-requires-clause-paths : goal.offer-requires-clause-paths
 offer-requires-clause-paths c =
-    let net = c.args.net.now in
+    let net = c.args.self.now.net.now in
     subst (λ (l : List Path). AreOnLinks net (map links_in l)) (sym c.deref-in-loop.ensures.value)
-    (least_on_links net c.deref.result.now c.args.pairs.now.list (map links_in c.in_ok-paths.paths.items) c.in_ok-paths.ensures)
+    (least_on_links net c.deref.result.now c.args.self.now.pairs.now.list (map links_in c.in_ok-paths.paths.items) c.in_ok-paths.ensures)
 
 pub take_turn-requires-clause-offered : goal.take_turn-requires-clause-offered
 take_turn-requires-clause-offered c =
-    let net = c.args.net.now in
-    let pairs = c.args.pairs.now.list in
+    let net = c.args.self.now.net.now in
+    let pairs = c.args.self.now.pairs.now.list in
     let routes = c.loop.descent.routing.routes in
-    let is = turn_routing net pairs c.args.matrix.now.demand c.args.start.routes c.loop.descent c.requires.start c.loop.invariant.0 in
+    let is = turn_routing net pairs c.args.self.now.matrix.now.demand c.args.start.routes c.loop.descent c.requires.start.routing c.loop.invariant.0 in
     subst (λ (l : List Path). AreWays net routes (map links_in l)) (sym c.deref-in-loop-3.ensures.value)
     (least_ways net pairs routes c.deref.result.now (map links_in c.in_ok-paths.paths.items) is c.in_ok-paths.ensures)
 

@@ -1,0 +1,34 @@
+use Rattle.std.proofs.Common.{inl, inr, ◌≡◌, ℕ, ◌+◌, ◌-◌, List, map, arith, sym, subst}
+use Rattle.std.proofs.lemmas.Bool.{cases_lt}
+use Rattle.te_model.specs.declared.route.Path.{Path}
+use Rattle.rate_sweeps.specs.declared.mix.Sweep.{Sweep}
+use Rattle.rate_sweeps.specs.Sweeps.{AreOnLinks, links_in}
+use Rattle.mcf_lengths.specs.Sweeps.{AreLeastSweeps}
+use Rattle.mcf_lengths.proofs.Sweeping.{least_on_links, sweeps_more}
+use Rattle.mcf_lengths.proofs.sweeps.Commodities.stage.Goals as goal
+
+pub take_sweep-requires-clause-paths : goal.take_sweep-requires-clause-paths
+take_sweep-requires-clause-paths c =
+    let net = c.args.self.now.net.now in
+    subst (λ (l : List Path). AreOnLinks net (map links_in l)) (sym c.deref-in-loop-i.ensures.value)
+    (least_on_links net c.deref.result.now c.args.self.now.pairs.now.list (map links_in c.in_ok-paths.paths.items) c.in_ok-paths.ensures)
+
+pub loop-i-preserved : goal.loop-i-preserved
+loop-i-preserved c =
+    let net = c.args.self.now.net.now in
+    let pairs = c.args.self.now.pairs.now.list in
+    let i = c.loop-i.i in
+    let lengths = c.deref.result.now in
+    let sweeps = c.loop-i.sweeps.items in
+    let s : Sweep = record { weight = c.in_ok-weight.weight; paths = c.in_ok-paths.paths.items } in
+    let far = c.loop-i.invariant.1 in (
+      c.take_sweep.ensures.rates,
+      elim (cases_lt i 10) [
+        | inl lt ↦
+            let same : i - 10 ≡ i + 1 - 10 = omega (arith, lt) in
+            subst (AreLeastSweeps (i + 1 - 10) net pairs) (sym (c.in_ok-add_counted.ensures.uncounted lt)) (subst (λ (n : ℕ). AreLeastSweeps n net pairs sweeps) same far)
+        | inr ge ↦
+            subst (AreLeastSweeps (i + 1 - 10) net pairs) (sym (c.in_ok-add_counted.ensures.counted ge))
+            (sweeps_more (i - 10) (i + 1 - 10) net pairs sweeps s far (omega (arith, ge)) c.in_ok-weight.ensures.weight (lengths, c.in_ok-paths.ensures))
+      ],
+    )
