@@ -89,7 +89,8 @@ blocks_valid h blocks fits formed within are k d below =
     (All-from_get_or (λ w. w ≤ 2 ^ 28) b.weights 0 (λ i inside. weights.small i (omega (arith, inside, weights.count))))
     (are.best k d below).1
 
-abbrev head_of_set : Network → List PairRoutes → DemandSet → Head
+-- what a certificate without blocks begins with, in the format that has room for every network
+abbrev pub head_of_set : Network → List PairRoutes → DemandSet → Head
 head_of_set net routes wanted = record { format = 2; network = net; routes = routes; set = wanted; ratio = 0 }
 
 pub blocks_numbers : (net : Network) (routes : List PairRoutes) (wanted : DemandSet) (blocks : List Block) → is_well_formed net ≡ true →

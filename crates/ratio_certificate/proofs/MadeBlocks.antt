@@ -15,6 +15,7 @@ use Rattle.te_model.specs.Validity.{block_at, AscendByLink}
 use Rattle.te_model.proofs.WellFormed.{capacities_positive}
 use Rattle.best_blocks.specs.declared.sharing.SharedLink.{SharedLink}
 use Rattle.best_blocks.specs.Best.{IsBestBlock}
+use Rattle.best_blocks.specs.Conditions.{IsRoutingWithin}
 use Rattle.best_blocks.specs.Need.{need_of, HasNumbers, IsGreatestNeed}
 use Rattle.best_blocks.specs.Sharing.{HasShare, IsSharedLink}
 use Rattle.te_model.proofs.Valid.{block_small}
@@ -28,7 +29,7 @@ use Rattle.ratio_certificate.specs.Polished.{IsFine, IsPolished, IsWithinRounds,
 use Rattle.ratio_certificate.specs.Rising.{AreRounds, NeedsNoMore}
 use Rattle.ratio_certificate.specs.Steps.{AreWeightings, IsDone, IsSettledAt}
 use Rattle.ratio_certificate.specs.Weighting.{AreWeights}
-use Rattle.ratio_certificate.proofs.Certificates.{AreMadeBlocks}
+use Rattle.ratio_certificate.proofs.Certificates.{blocks_numbers, AreMadeBlocks}
 use Rattle.ratio_certificate.proofs.ScaleOnly.{scale_only}
 use Rattle.ratio_certificate.proofs.Settling.{settled_block}
 
@@ -201,7 +202,7 @@ making_read net routes set links first second third start list lent blocks is_fi
 }
 
 -- the greatest need is within the limit of ratios
-pub need_within : (net : Network) (routes : List PairRoutes) (set : DemandSet) (links : List SharedLink) (start list : List Weighting) (blocks : List Block) (ratio : ℕ) →
+need_within : (net : Network) (routes : List PairRoutes) (set : DemandSet) (links : List SharedLink) (start list : List Weighting) (blocks : List Block) (ratio : ℕ) →
     is_well_formed net ≡ true → All (HasNumbers net) blocks → AreMaking net routes set links start list blocks → IsGreatestNeed net blocks ratio → ratio ≤ 1000000 * 2 ^ 42
 need_within net routes set links start list blocks ratio formed numbers all greatest =
     greatest.least (1000000 * 2 ^ 42) (All-from_get_or (λ b. IsTrue (pays_weights net b (1000000 * 2 ^ 42))) blocks (empty_block 0) (λ k below.
@@ -214,3 +215,12 @@ need_within net routes set links start list blocks ratio formed numbers all grea
     let is = is_need net b (need_of net b) small.b.0 (capacities_positive net formed b.link inside) refl in
     pays_more net b (need_of net b) (1000000 * 2 ^ 42)
     (omega (arith, need_is net routes set links start list blocks k formed all below, all.polished.no_more k within, all.rounds.small k within)) is.enough))
+
+-- the same, by the blocks that were read
+pub need_read : (net : Network) (routes : List PairRoutes) (set : DemandSet) (links : List SharedLink) (start list : List Weighting) (blocks read : List Block) (ratio : ℕ) →
+    is_well_formed net ≡ true → IsRoutingWithin net routes → AreMaking net routes set links start list blocks → read ≡ blocks → IsGreatestNeed net read ratio →
+    ratio ≤ 1000000 * 2 ^ 42
+need_read net routes set links start list blocks read ratio formed within all same greatest =
+    need_within net routes set links start list blocks ratio formed
+    (blocks_numbers net routes set blocks formed within (made_blocks net routes set links start list blocks all)) all
+    (subst (λ (bs : List Block). IsGreatestNeed net bs ratio) same greatest)

@@ -100,6 +100,17 @@ pub dearest_links : (net : Network) (routes : List PairRoutes) (l : SharedLink) 
 dearest_links net routes l m d path within is =
     path_between net m.weights (source_of routes d) (destination_of routes d) path.links (within.apart d is.below) is.shortest
 
+-- the same, by the lists that were read
+pub links_read : (net : Network) (routes read : List PairRoutes) (l : SharedLink) (m : Metric) (xs ds ws hs : List ℕ) (d : ℕ) (at : PairRoutes) (found : Option Path) (path : Path) →
+    xs ≡ l.shares → ds ≡ m.distances → ws ≡ m.weights → hs ≡ path.links → read ≡ routes → found ≡ Some path → length l.shares ≡ length routes →
+    (a : ℕ) × (b : ℕ) × IsGreatestAt (length xs) (slice_index xs) (slice_index ds) d a b →
+    IsLeastPath net ws (get_or read d at).pair.src (get_or read d at).pair.dst (links_of found) → IsRoutingWithin net routes →
+    All (λ h. h < link_count net) hs × (0 < length hs)
+links_read net routes read l m xs ds ws hs d at found path is_xs is_ds is_ws is_hs is_read is_found count dearest shortest within =
+    subst (λ (x : List ℕ). All (λ h. h < link_count net) x × (0 < length x)) (sym is_hs)
+    (dearest_links net routes l m d path within
+    (dearest_path net routes read l m xs ds ws d at found (Some path) is_xs is_ds is_ws is_read is_found count dearest shortest))
+
 -- raised weights, by the lists that were read
 pub raised_read : (net : Network) (hs path ws weights next new : List ℕ) → hs ≡ path → ws ≡ weights → new ≡ next →
     (least : ℕ) × IsNarrowest net hs least × AreRaised net hs least ws next → (least : ℕ) × IsNarrowest net path least × AreRaised net path least weights new

@@ -1,9 +1,12 @@
+pub mod Changing
 pub mod Conditions
 pub mod Form
 pub mod Made
 pub mod Making
 pub mod Places
 pub mod Polished
+pub mod Pricing
+pub mod Problems
 pub mod Response
 pub mod Rising
 pub mod Rounds

@@ -6,6 +6,7 @@ use Rattle.te_model.specs.declared.demand.DemandSet.{DemandSet}
 use Rattle.best_blocks.specs.declared.sharing.SharedLink.{SharedLink}
 use Rattle.best_blocks.specs.Metric.{IsMetric}
 use Rattle.centred_steps.specs.Weights.{AreWeightsUpTo}
+use Rattle.ratio_certificate.specs.declared.problem.Problem.{Problem}
 use Rattle.ratio_certificate.specs.declared.seek.Search.{Search}
 use Rattle.ratio_certificate.specs.Response.{IsSmallScale}
 use Rattle.ratio_certificate.specs.Weighting.{IsWeighting}
@@ -17,3 +18,7 @@ pub record IsSearch (net : Network) (routes : List PairRoutes) (set : DemandSet)
   pub scale : IsSmallScale s.scale
   pub link : s.best.link ≡ l.link
   pub best : IsWeighting net routes set s.best
+
+-- the same of a problem
+abbrev pub IsSearchOf : Problem → SharedLink → Search → Type 0
+IsSearchOf p l s = IsSearch p.net.now p.routing.now.routes p.set.now l s

@@ -9,6 +9,7 @@ mod changes;
 mod form;
 mod making;
 mod polish;
+mod problem;
 mod raising;
 mod response;
 mod rounds;

@@ -1,19 +1,18 @@
 //! The making of certificates.
-ghost use Rattle.std.specs.Prelude.{◌≡◌, ◌<◌, ◌≤◌, ℕ, All, IfOk, IsTrue, length};
+ghost use Rattle.std.specs.Prelude.{◌≡◌, ◌≤◌, IfOk, IsTrue, length};
 ghost use Rattle.te_model.specs.Network.{is_well_formed, link_count};
 ghost use Rattle.routing.specs.Shares.{AreShares};
 ghost use Rattle.best_blocks.specs.Best.{IsBestBlock};
 ghost use Rattle.best_blocks.specs.Conditions.{IsRoutingWithin, IsSetWithin};
-ghost use Rattle.best_blocks.specs.Sharing.{IsSharedLink};
 ghost use Rattle.ratio_certificate.specs.Form.{IsFormatFor};
 ghost use Rattle.ratio_certificate.specs.Made.{IsMade, IsMadeIn};
 ghost use Rattle.ratio_certificate.specs.Making.{AreBlocksOf, AreSharedLinks};
+ghost use Rattle.ratio_certificate.specs.Problems.{AreLinksOf, AreWeightingsOf, IsDoneOf, IsLinkOf, IsProblem, IsWeightingOf};
 ghost use Rattle.ratio_certificate.specs.Rising.{AreRounds};
-ghost use Rattle.ratio_certificate.specs.Steps.{AreWeightings, IsDone};
-ghost use Rattle.ratio_certificate.specs.Weighting.{IsWeighting};
 
 use crate::form::{made_format, set_in};
 use crate::polish::{metric_by, polish};
+use crate::problem::Problem;
 use crate::rounds::best_round;
 use crate::search::search;
 use crate::weighting::Weighting;
@@ -25,21 +24,25 @@ use te_model::{Block, Certificate, DemandSet, Head, Items, Memory, Network, copy
 /// The links on which there is a share, ascending.
 fn shared_links(
     alloc: Global,
-    net: &Network,
-    routing: &Routing,
-    set: &DemandSet,
+    problem: &Problem,
     shares: &Shares,
 ) -> Result<Vec<SharedLink>, Memory>
-    requires network { IsTrue (is_well_formed net.now) }
-    requires routing { IsRoutingWithin net.now routing.now.routes }
-    requires shares { AreShares net.now routing.now.routes shares.now }
-    ensures { IfOk result (λ l. AreSharedLinks (link_count net.now) net.now routing.now.routes set.now l.items) }
+    requires problem { IsProblem problem.now }
+    requires shares { AreShares problem.now.net.now problem.now.routing.now.routes shares.now }
+    ensures { IfOk result (λ l. AreSharedLinks (link_count problem.now.net.now) problem.now.net.now problem.now.routing.now.routes problem.now.set.now l.items) }
 {
     let mut links = Vec::new(alloc);
-    for e in 0..net.links.as_slice().len() {
+    for e in 0..problem.net.links.as_slice().len() {
         let list = shares.on(e as u32);
         if list.len() > 0 {
-            let link = shared_link(alloc, net, routing, set, e as u32, list)?;
+            let link = shared_link(
+                alloc,
+                problem.net,
+                problem.routing,
+                problem.set,
+                e as u32,
+                list,
+            )?;
             links.push(link)?;
         }
     }
@@ -49,20 +52,15 @@ fn shared_links(
 /// The best round of each of the links.
 fn best_rounds(
     alloc: Global,
-    net: &Network,
-    routing: &Routing,
-    set: &DemandSet,
+    problem: &Problem,
     links: &[SharedLink],
 ) -> Result<Vec<Weighting>, Memory>
-    requires network { IsTrue (is_well_formed net.now) }
-    requires routing { IsRoutingWithin net.now routing.now.routes }
-    requires set { IsSetWithin (length routing.now.routes) set.now }
-    requires links { All (IsSharedLink net.now routing.now.routes set.now) links.now }
-    ensures { IfOk result (λ l. AreRounds (length links.now) net.now routing.now.routes set.now links.now l.items) }
+    requires links { AreLinksOf problem.now links.now }
+    ensures { IfOk result (λ l. AreRounds (length links.now) problem.now.net.now problem.now.routing.now.routes problem.now.set.now links.now l.items) }
 {
     let mut list = Vec::with_capacity(alloc, links.len())?;
     for shared in links {
-        let weighting = best_round(alloc, net, routing, set, shared)?;
+        let weighting = best_round(alloc, problem, shared)?;
         list.push(weighting)?;
     }
     Ok(list)
@@ -72,22 +70,17 @@ fn best_rounds(
 #[tactic(auto, using(crate::proofs::Searched::own_weightings, crate::proofs::Searched::weightings_after))]
 fn improve(
     alloc: Global,
-    net: &Network,
-    routing: &Routing,
-    set: &DemandSet,
+    problem: &Problem,
     links: &[SharedLink],
     start: Vec<Weighting>,
 ) -> Result<Vec<Weighting>, Memory>
-    requires network { IsTrue (is_well_formed net.now) }
-    requires routing { IsRoutingWithin net.now routing.now.routes }
-    requires set { IsSetWithin (length routing.now.routes) set.now }
-    requires links { All (IsSharedLink net.now routing.now.routes set.now) links.now }
-    requires start { AreWeightings net.now routing.now.routes set.now links.now start.items start.items }
-    ensures list { IfOk result (λ l. AreWeightings net.now routing.now.routes set.now links.now start.items l.items) }
-    ensures done { IfOk result (λ l. IsDone net.now routing.now.routes set.now l.items) }
+    requires links { AreLinksOf problem.now links.now }
+    requires start { AreWeightingsOf problem.now links.now start.items start.items }
+    ensures list { IfOk result (λ l. AreWeightingsOf problem.now links.now start.items l.items) }
+    ensures done { IfOk result (λ l. IsDoneOf problem.now l.items) }
 {
-    let searched = search(alloc, net, routing, set, links, start)?;
-    let list = polish(alloc, net, routing, set, links, searched)?;
+    let searched = search(alloc, problem, links, start)?;
+    let list = polish(alloc, problem, links, searched)?;
     Ok(list)
 }
 
@@ -107,22 +100,25 @@ fn no_block(alloc: Global) -> Block {
 /// The best block of the weights, of which there is one, since they are 1 and more.
 fn block_of(
     alloc: Global,
-    net: &Network,
-    routing: &Routing,
-    set: &DemandSet,
+    problem: &Problem,
     shared: &SharedLink,
     weighting: &Weighting,
 ) -> Result<Block, Memory>
-    requires network { IsTrue (is_well_formed net.now) }
-    requires routing { IsRoutingWithin net.now routing.now.routes }
-    requires set { IsSetWithin (length routing.now.routes) set.now }
-    requires shared { IsSharedLink net.now routing.now.routes set.now shared.now }
-    requires weighting { IsWeighting net.now routing.now.routes set.now weighting.now }
+    requires problem { IsProblem problem.now }
+    requires shared { IsLinkOf problem.now shared.now }
+    requires weighting { IsWeightingOf problem.now weighting.now }
     requires link { weighting.now.link ≡ shared.now.link }
-    ensures { IfOk result (IsBestBlock net.now routing.now.routes set.now weighting.now.link weighting.now.weights) }
+    ensures { IfOk result (IsBestBlock problem.now.net.now problem.now.routing.now.routes problem.now.set.now weighting.now.link weighting.now.weights) }
 {
-    let metric = metric_by(alloc, net, routing, set, shared, weighting)?;
-    match best_block(alloc, net, routing, set, shared, &metric)? {
+    let metric = metric_by(alloc, problem, shared, weighting)?;
+    match best_block(
+        alloc,
+        problem.net,
+        problem.routing,
+        problem.set,
+        shared,
+        &metric,
+    )? {
         Some(block) => Ok(block),
         None => Ok(no_block(alloc)),
     }
@@ -131,22 +127,17 @@ fn block_of(
 /// The best block of each of the weights.
 fn blocks_of(
     alloc: Global,
-    net: &Network,
-    routing: &Routing,
-    set: &DemandSet,
+    problem: &Problem,
     links: &[SharedLink],
     list: &[Weighting],
 ) -> Result<Vec<Block>, Memory>
-    requires network { IsTrue (is_well_formed net.now) }
-    requires routing { IsRoutingWithin net.now routing.now.routes }
-    requires set { IsSetWithin (length routing.now.routes) set.now }
-    requires links { All (IsSharedLink net.now routing.now.routes set.now) links.now }
-    requires list { AreWeightings net.now routing.now.routes set.now links.now list.now list.now }
-    ensures { IfOk result (λ b. AreBlocksOf (length list.now) net.now routing.now.routes set.now list.now b.items) }
+    requires links { AreLinksOf problem.now links.now }
+    requires list { AreWeightingsOf problem.now links.now list.now list.now }
+    ensures { IfOk result (λ b. AreBlocksOf (length list.now) problem.now.net.now problem.now.routing.now.routes problem.now.set.now list.now b.items) }
 {
     let mut blocks = Vec::with_capacity(alloc, list.len())?;
     for k in 0..list.len() {
-        let block = block_of(alloc, net, routing, set, &links[k], &list[k])?;
+        let block = block_of(alloc, problem, &links[k], &list[k])?;
         blocks.push(block)?;
     }
     Ok(blocks)
@@ -168,10 +159,15 @@ fn certify(
     ensures { IfOk result (IsMadeIn format net.now routing.now.routes set) }
 {
     let shares = Shares::new(alloc, net, routing)?;
-    let links = shared_links(alloc, net, routing, &set, &shares)?;
-    let start = best_rounds(alloc, net, routing, &set, &links)?;
-    let list = improve(alloc, net, routing, &set, &links, start)?;
-    let blocks = blocks_of(alloc, net, routing, &set, &links, &list)?;
+    let problem = Problem {
+        net,
+        routing,
+        set: &set,
+    };
+    let links = shared_links(alloc, &problem, &shares)?;
+    let start = best_rounds(alloc, &problem, &links)?;
+    let list = improve(alloc, &problem, &links, start)?;
+    let blocks = blocks_of(alloc, &problem, &links, &list)?;
     let ratio = greatest_need(net, &blocks) as u64;
     let network = copy_network(alloc, net)?;
     let routes = routing.copy(alloc)?.routes;

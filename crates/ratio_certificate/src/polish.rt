@@ -1,20 +1,17 @@
 //! The polish: the first weights of the greatest need are doubled until they are fine, and then changed one by one while that improves their need.
-ghost use Rattle.std.specs.Prelude.{◌≡◌, ◌^◌, ◌<◌, ◌≤◌, ℕ, All, IfOk, IfSome, IfNone, IsTrue, true, false, length, slice_index, slice_index_or};
-ghost use Rattle.te_model.specs.Network.{is_well_formed, link_count};
-ghost use Rattle.best_blocks.specs.Conditions.{IsRoutingWithin, IsSetWithin};
-ghost use Rattle.best_blocks.specs.Metric.{IsMetric};
-ghost use Rattle.best_blocks.specs.Sharing.{IsSharedLink};
-ghost use Rattle.ratio_certificate.specs.Polished.{IsFine, IsWorst};
+ghost use Rattle.std.specs.Prelude.{◌≡◌, ◌^◌, ◌<◌, ◌≤◌, ℕ, IfOk, IfSome, IfNone, true, false, length, slice_index};
+ghost use Rattle.te_model.specs.Network.{link_count};
 ghost use Rattle.ratio_certificate.specs.Places.{weighting_at};
-ghost use Rattle.ratio_certificate.specs.Steps.{AreWeightings, IsDone, IsProgress, IsSettledAt};
-ghost use Rattle.ratio_certificate.specs.Weighting.{AreDoubled, AreWeights, IsWeighting};
+ghost use Rattle.ratio_certificate.specs.Polished.{IsFine, IsWorst};
+ghost use Rattle.ratio_certificate.specs.Problems.{AreLinksOf, AreWeightingsOf, IsDoneOf, IsLinkOf, IsMetricOf, IsProblem, IsProgressOf, IsSettledOf, IsWeightingOf};
+ghost use Rattle.ratio_certificate.specs.Weighting.{AreDoubled, AreWeights};
 
-use crate::changes::find_change;
+use crate::changes::Changes;
+use crate::problem::Problem;
 use crate::weighting::{Weighting, weighting_of};
 use best_blocks::{Metric, SharedLink, metric_of};
-use routing::Routing;
 use std::alloc::Global;
-use te_model::{DemandSet, Memory, Network};
+use te_model::Memory;
 
 /// Weights are fine where one is no less than this.
 const FINE_WEIGHT: u64 = 1 << 20;
@@ -76,44 +73,50 @@ fn doubled(alloc: Global, weights: &[u64]) -> Result<Vec<u64>, Memory>
 /// The metric of the weights.
 pub fn metric_by(
     alloc: Global,
-    net: &Network,
-    routing: &Routing,
-    set: &DemandSet,
+    problem: &Problem,
     shared: &SharedLink,
     weighting: &Weighting,
 ) -> Result<Metric, Memory>
-    requires network { IsTrue (is_well_formed net.now) }
-    requires shared { IsSharedLink net.now routing.now.routes set.now shared.now }
-    requires weights { AreWeights net.now weighting.now.weights }
-    ensures metric { IfOk result (IsMetric net.now routing.now.routes shared.now.marks) }
+    requires problem { IsProblem problem.now }
+    requires shared { IsLinkOf problem.now shared.now }
+    requires weights { AreWeights problem.now.net.now weighting.now.weights }
+    ensures metric { IfOk result (IsMetricOf problem.now shared.now) }
     ensures weights { IfOk result (λ m. m.weights ≡ weighting.now.weights) }
 {
     let weights = Vec::from_slice(alloc, weighting.weights.as_slice())?;
-    metric_of(alloc, net, routing, shared.marks.as_slice(), weights)
+    metric_of(
+        alloc,
+        problem.net,
+        problem.routing,
+        shared.marks.as_slice(),
+        weights,
+    )
 }
 
 /// The weights with each doubled. They need no more, and the greatest of them is nearer to 2^20.
 fn double(
     alloc: Global,
-    net: &Network,
-    routing: &Routing,
-    set: &DemandSet,
+    problem: &Problem,
     shared: &SharedLink,
     weighting: &Weighting,
 ) -> Result<Weighting, Memory>
-    requires network { IsTrue (is_well_formed net.now) }
-    requires routing { IsRoutingWithin net.now routing.now.routes }
-    requires set { IsSetWithin (length routing.now.routes) set.now }
-    requires shared { IsSharedLink net.now routing.now.routes set.now shared.now }
-    requires weighting { IsWeighting net.now routing.now.routes set.now weighting.now }
+    requires problem { IsProblem problem.now }
+    requires shared { IsLinkOf problem.now shared.now }
+    requires weighting { IsWeightingOf problem.now weighting.now }
     requires link { weighting.now.link ≡ shared.now.link }
     requires small { (h : ℕ) → h < length weighting.now.weights → slice_index weighting.now.weights h < 2 ^ 20 }
     requires room { weighting.now.b < 2 ^ 35 }
-    ensures { IfOk result (IsProgress net.now routing.now.routes set.now weighting.now) }
+    ensures { IfOk result (IsProgressOf problem.now weighting.now) }
 {
     let weights = doubled(alloc, weighting.weights.as_slice())?;
-    let metric = metric_of(alloc, net, routing, shared.marks.as_slice(), weights)?;
-    weighting_of(alloc, net, routing, set, shared, &metric)
+    let metric = metric_of(
+        alloc,
+        problem.net,
+        problem.routing,
+        shared.marks.as_slice(),
+        weights,
+    )?;
+    weighting_of(alloc, problem, shared, &metric)
 }
 
 /// A step of the polish: other weights at a place of the list, and the link from which the next change is sought.
@@ -127,46 +130,39 @@ struct Step {
 /// A step of the weights at the place, or `None` where they are fine and no change improves their need.
 fn step_at(
     alloc: Global,
-    net: &Network,
-    routing: &Routing,
-    set: &DemandSet,
+    problem: &Problem,
     shared: &SharedLink,
     weighting: &Weighting,
     place: usize,
     from: usize,
 ) -> Result<Option<Step>, Memory>
-    requires network { IsTrue (is_well_formed net.now) }
-    requires routing { IsRoutingWithin net.now routing.now.routes }
-    requires set { IsSetWithin (length routing.now.routes) set.now }
-    requires shared { IsSharedLink net.now routing.now.routes set.now shared.now }
-    requires weighting { IsWeighting net.now routing.now.routes set.now weighting.now }
+    requires problem { IsProblem problem.now }
+    requires shared { IsLinkOf problem.now shared.now }
+    requires weighting { IsWeightingOf problem.now weighting.now }
     requires link { weighting.now.link ≡ shared.now.link }
-    requires from { from ≤ link_count net.now }
+    requires from { from ≤ link_count problem.now.net.now }
     ensures place { IfOk result (λ o. IfSome o (λ s. s.place ≡ place)) }
-    ensures from { IfOk result (λ o. IfSome o (λ s. s.from ≤ link_count net.now)) }
-    ensures some { IfOk result (λ o. IfSome o (λ s. IsProgress net.now routing.now.routes set.now weighting.now s.weighting)) }
+    ensures from { IfOk result (λ o. IfSome o (λ s. s.from ≤ link_count problem.now.net.now)) }
+    ensures some { IfOk result (λ o. IfSome o (λ s. IsProgressOf problem.now weighting.now s.weighting)) }
     ensures fine { IfOk result (λ o. IfNone o (IsFine weighting.now.weights weighting.now.b)) }
-    ensures none { IfOk result (λ o. IfNone o ((h : ℕ) → h < link_count net.now → IsSettledAt net.now routing.now.routes set.now weighting.now.link weighting.now.need weighting.now.weights h)) }
+    ensures none { IfOk result (λ o. IfNone o (IsSettledOf problem.now weighting.now)) }
 {
     if !is_fine(weighting) {
-        let weighting = double(alloc, net, routing, set, shared, weighting)?;
+        let weighting = double(alloc, problem, shared, weighting)?;
         return Ok(Some(Step {
             place,
             weighting,
             from,
         }));
     }
-    let metric = metric_by(alloc, net, routing, set, shared, weighting)?;
-    match find_change(
-        alloc,
-        net,
-        routing,
-        set,
+    let metric = metric_by(alloc, problem, shared, weighting)?;
+    let changes = Changes {
+        problem: *problem,
         shared,
-        &metric,
-        weighting.need,
-        from,
-    )? {
+        metric: &metric,
+        need: weighting.need,
+    };
+    match changes.find(alloc, from)? {
         Some(change) => Ok(Some(Step {
             place,
             weighting: change.weighting,
@@ -179,26 +175,21 @@ fn step_at(
 /// A step of the first weights of the greatest need, or `None` where the list is done.
 fn next_step(
     alloc: Global,
-    net: &Network,
-    routing: &Routing,
-    set: &DemandSet,
+    problem: &Problem,
     links: &[SharedLink],
     list: &[Weighting],
     from: usize,
 ) -> Result<Option<Step>, Memory>
-    requires network { IsTrue (is_well_formed net.now) }
-    requires routing { IsRoutingWithin net.now routing.now.routes }
-    requires set { IsSetWithin (length routing.now.routes) set.now }
-    requires links { All (IsSharedLink net.now routing.now.routes set.now) links.now }
-    requires list { AreWeightings net.now routing.now.routes set.now links.now list.now list.now }
-    requires from { from ≤ link_count net.now }
+    requires links { AreLinksOf problem.now links.now }
+    requires list { AreWeightingsOf problem.now links.now list.now list.now }
+    requires from { from ≤ link_count problem.now.net.now }
     ensures place { IfOk result (λ o. IfSome o (λ s. s.place < length list.now)) }
-    ensures from { IfOk result (λ o. IfSome o (λ s. s.from ≤ link_count net.now)) }
-    ensures some { IfOk result (λ o. IfSome o (λ s. IsProgress net.now routing.now.routes set.now (weighting_at list.now s.place) s.weighting)) }
-    ensures none { IfOk result (λ o. IfNone o (IsDone net.now routing.now.routes set.now list.now)) }
+    ensures from { IfOk result (λ o. IfSome o (λ s. s.from ≤ link_count problem.now.net.now)) }
+    ensures some { IfOk result (λ o. IfSome o (λ s. IsProgressOf problem.now (weighting_at list.now s.place) s.weighting)) }
+    ensures none { IfOk result (λ o. IfNone o (IsDoneOf problem.now list.now)) }
 {
     match worst(list) {
-        Some(k) => step_at(alloc, net, routing, set, &links[k], &list[k], k, from),
+        Some(k) => step_at(alloc, problem, &links[k], &list[k], k, from),
         None => Ok(None),
     }
 }
@@ -206,24 +197,19 @@ fn next_step(
 /// Weights that are polished, of the links and weights at the start.
 pub fn polish(
     alloc: Global,
-    net: &Network,
-    routing: &Routing,
-    set: &DemandSet,
+    problem: &Problem,
     links: &[SharedLink],
     start: Vec<Weighting>,
 ) -> Result<Vec<Weighting>, Memory>
-    requires network { IsTrue (is_well_formed net.now) }
-    requires routing { IsRoutingWithin net.now routing.now.routes }
-    requires set { IsSetWithin (length routing.now.routes) set.now }
-    requires links { All (IsSharedLink net.now routing.now.routes set.now) links.now }
-    requires start { AreWeightings net.now routing.now.routes set.now links.now start.items start.items }
-    ensures list { IfOk result (λ l. AreWeightings net.now routing.now.routes set.now links.now start.items l.items) }
-    ensures done { IfOk result (λ l. IsDone net.now routing.now.routes set.now l.items) }
+    requires links { AreLinksOf problem.now links.now }
+    requires start { AreWeightingsOf problem.now links.now start.items start.items }
+    ensures list { IfOk result (λ l. AreWeightingsOf problem.now links.now start.items l.items) }
+    ensures done { IfOk result (λ l. IsDoneOf problem.now l.items) }
 {
     let mut list = start;
     let mut from = 0;
     loop {
-        match next_step(alloc, net, routing, set, links, &list, from)? {
+        match next_step(alloc, problem, links, &list, from)? {
             Some(step) => {
                 list[step.place] = step.weighting;
                 from = step.from;

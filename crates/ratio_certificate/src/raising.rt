@@ -1,18 +1,16 @@
 //! The weights of the next round.
 ghost use Rattle.std.specs.Prelude.{◌≡◌, ◌*◌, ◌+◌, ◌/◌, ◌^◌, ◌<◌, ◌≤◌, ℕ, All, IfOk, IsTrue, length};
 ghost use Rattle.te_model.specs.Network.{is_well_formed, capacity_of, link_count};
-ghost use Rattle.best_blocks.specs.Conditions.{IsRoutingWithin};
-ghost use Rattle.best_blocks.specs.Metric.{IsMetric};
-ghost use Rattle.best_blocks.specs.Sharing.{IsSharedLink};
+ghost use Rattle.ratio_certificate.specs.Problems.{IsLinkOf, IsMetricOf, IsProblem};
 ghost use Rattle.ratio_certificate.specs.Rounds.{raised, AreRaised, IsNarrowest};
 ghost use Rattle.ratio_certificate.specs.Rising.{IsRoundAfter};
 ghost use Rattle.ratio_certificate.specs.Weighting.{AreWeights};
 
+use crate::problem::Problem;
 use best_blocks::{Metric, SharedLink, dearest_pair};
-use routing::Routing;
 use shortest_path::least_path;
 use std::alloc::Global;
-use te_model::{DemandSet, Items, Memory, Network};
+use te_model::{Items, Memory, Network};
 
 /// The least capacity of the links of the path, of which there is at least one.
 fn narrowest(net: &Network, path: &[u32]) -> u64
@@ -71,25 +69,22 @@ pub struct NextRound {
 /// greatest share by distance are raised.
 pub fn next_round(
     alloc: Global,
-    net: &Network,
-    routing: &Routing,
-    set: &DemandSet,
+    problem: &Problem,
     shared: &SharedLink,
     metric: &Metric,
 ) -> Result<NextRound, Memory>
-    requires network { IsTrue (is_well_formed net.now) }
-    requires routing { IsRoutingWithin net.now routing.now.routes }
-    requires shared { IsSharedLink net.now routing.now.routes set.now shared.now }
-    requires metric { IsMetric net.now routing.now.routes shared.now.marks metric.now }
-    requires weights { AreWeights net.now metric.now.weights }
-    ensures { IfOk result (IsRoundAfter net.now routing.now.routes shared.now.link metric.now.weights) }
+    requires problem { IsProblem problem.now }
+    requires shared { IsLinkOf problem.now shared.now }
+    requires metric { IsMetricOf problem.now shared.now metric.now }
+    requires weights { AreWeights problem.now.net.now metric.now.weights }
+    ensures { IfOk result (IsRoundAfter problem.now.net.now problem.now.routing.now.routes shared.now.link metric.now.weights) }
 {
     let weights = metric.weights.as_slice();
     let dearest = dearest_pair(shared.shares.as_slice(), metric.distances.as_slice());
-    let pair = routing.routes.as_slice()[dearest].pair;
-    match least_path(alloc, net, weights, pair.src, pair.dst)? {
+    let pair = problem.routing.routes.as_slice()[dearest].pair;
+    match least_path(alloc, problem.net, weights, pair.src, pair.dst)? {
         Some(path) => {
-            let next = raise(alloc, net, path.links.as_slice(), weights)?;
+            let next = raise(alloc, problem.net, path.links.as_slice(), weights)?;
             Ok(NextRound {
                 weights: Items::new(next),
                 path: path.links,

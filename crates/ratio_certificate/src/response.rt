@@ -1,18 +1,15 @@
 //! What the worst matrix for weights of a link puts on the links, where each pair takes a least way.
-ghost use Rattle.std.specs.Prelude.{◌≡◌, ◌*◌, ◌^◌, ◌<◌, ◌≤◌, ℕ, IfOk, IsTrue, length};
-ghost use Rattle.te_model.specs.declared.units.TheConstants.{SHARE_UNIT};
+ghost use Rattle.std.specs.Prelude.{◌≡◌, ◌^◌, ◌≤◌, IfOk, IsTrue, length};
 ghost use Rattle.te_model.specs.Demand.{lower_of, upper_of};
-ghost use Rattle.te_model.specs.Network.{is_well_formed, link_count, node_count};
-ghost use Rattle.best_blocks.specs.Conditions.{IsRoutingWithin, IsSetWithin};
-ghost use Rattle.best_blocks.specs.Metric.{IsMetric};
-ghost use Rattle.best_blocks.specs.Sharing.{IsSharedLink};
+ghost use Rattle.te_model.specs.Network.{is_well_formed, link_count};
 ghost use Rattle.centred_steps.specs.Loads.{AreLoads, AreSmall};
 ghost use Rattle.centred_steps.specs.Ways.{AreLastLinks};
-ghost use Rattle.ratio_certificate.specs.Response.{HasBounds, HasRow, IsNearness, IsSmallScale};
+ghost use Rattle.ratio_certificate.specs.Pricing.{IsPricing};
+ghost use Rattle.ratio_certificate.specs.Response.{HasBounds, HasRow, IsNearness};
 
+use crate::problem::Problem;
 use best_blocks::{Metric, Scale, SharedLink};
 use centred_steps::{add_along, clear_loads, last_links, narrowest_on};
-use routing::Routing;
 use std::alloc::Global;
 use te_model::{DemandSet, Memory, Network, SHARE_UNIT};
 
@@ -77,47 +74,6 @@ fn amount_of(capacity: u64, above: u128, most: u128) -> u128
     u128::from(capacity) * above * WHOLE / most.max(1)
 }
 
-/// Adds the loads of the worst of all matrices, in which the pairs send that are the dearest up to one part in `near`.
-fn add_dearest(
-    net: &Network,
-    routing: &Routing,
-    set: &DemandSet,
-    shared: &SharedLink,
-    metric: &Metric,
-    scale: Scale,
-    near: u128,
-    ways: &mut Ways,
-    loads: &mut [u128],
-)
-    requires network { IsTrue (is_well_formed net.now) }
-    requires routing { IsRoutingWithin net.now routing.now.routes }
-    requires set { IsSetWithin (length routing.now.routes) set.now }
-    requires shared { IsSharedLink net.now routing.now.routes set.now shared.now }
-    requires metric { IsMetric net.now routing.now.routes shared.now.marks metric.now }
-    requires scale { IsSmallScale scale }
-    requires near { IsNearness near }
-    requires ways { AreLastLinks net.now ways.old.lasts.items }
-    requires loads { AreLoads net.now loads.old }
-    ensures ways { AreLastLinks net.now ways.new.lasts.items }
-    ensures loads { AreSmall loads.new }
-{
-    let routes = routing.routes.as_slice();
-    let distances = metric.distances.as_slice();
-    for entry in shared.list.as_slice() {
-        let p = entry.pair as usize;
-        let worth = u128::from(entry.share) * u128::from(scale.b);
-        let most = u128::from(scale.a) * u128::from(distances[p]);
-        let above = nearness(worth, most, near);
-        if above > 0 {
-            let pair = routes[p].pair;
-            turn(net, metric, ways, pair.src);
-            let capacity = narrowest_on(net, &ways.lasts, pair.dst);
-            let amount = amount_of(capacity, above, most);
-            add_along(net, &ways.lasts, pair.dst, amount, loads);
-        }
-    }
-}
-
 /// What a pair sends in the worst matrix between the bounds: the upper one where its share asks for as much as its distance gives.
 fn demand_of(set: &DemandSet, pair: usize, share: u64, distance: u64, b: u64) -> u64
     requires lower { lower_of set.now pair ≤ 2 ^ 52 }
@@ -132,76 +88,85 @@ fn demand_of(set: &DemandSet, pair: usize, share: u64, distance: u64, b: u64) ->
     }
 }
 
-/// Adds the loads of the worst matrix between the bounds of the set.
-fn add_between(
-    net: &Network,
-    routing: &Routing,
-    set: &DemandSet,
-    shared: &SharedLink,
-    metric: &Metric,
-    b: u64,
-    ways: &mut Ways,
-    loads: &mut [u128],
-)
-    requires network { IsTrue (is_well_formed net.now) }
-    requires routing { IsRoutingWithin net.now routing.now.routes }
-    requires set { IsSetWithin (length routing.now.routes) set.now }
-    requires bounded { HasBounds set.now }
-    requires shared { IsSharedLink net.now routing.now.routes set.now shared.now }
-    requires metric { IsMetric net.now routing.now.routes shared.now.marks metric.now }
-    requires ways { AreLastLinks net.now ways.old.lasts.items }
-    requires loads { AreLoads net.now loads.old }
-    ensures ways { AreLastLinks net.now ways.new.lasts.items }
-    ensures loads { AreSmall loads.new }
-{
-    let routes = routing.routes.as_slice();
-    let shares = shared.shares.as_slice();
-    let distances = metric.distances.as_slice();
-    for p in 0..routes.len() {
-        let demand = demand_of(set, p, shares[p], distances[p], b);
-        if demand > 0 {
-            let pair = routes[p].pair;
-            turn(net, metric, ways, pair.src);
-            add_along(net, &ways.lasts, pair.dst, u128::from(demand), loads);
-        }
-    }
+/// Scaled weights of a link, to which the worst matrix is the response.
+#[derive(Clone, Copy)]
+pub struct Pricing<'a> {
+    pub problem: Problem<'a>,
+    pub shared: &'a SharedLink,
+    /// The metric of the weights.
+    pub metric: &'a Metric,
+    /// By what the weights are scaled.
+    pub scale: Scale,
+    /// Of all matrices, in the worst one the pairs send that are the dearest up to one part in so many.
+    pub near: u128,
 }
 
-/// Writes the loads of the worst matrix for the weights of the metric, which are scaled so. Takes no memory.
-///
-/// `ways` and `loads` are room for what is written: a link for each node, and a load for each link.
-pub fn respond(
-    net: &Network,
-    routing: &Routing,
-    set: &DemandSet,
-    shared: &SharedLink,
-    metric: &Metric,
-    scale: Scale,
-    near: u128,
-    ways: &mut Ways,
-    loads: &mut [u128],
-)
-    requires network { IsTrue (is_well_formed net.now) }
-    requires routing { IsRoutingWithin net.now routing.now.routes }
-    requires set { IsSetWithin (length routing.now.routes) set.now }
-    requires shared { IsSharedLink net.now routing.now.routes set.now shared.now }
-    requires metric { IsMetric net.now routing.now.routes shared.now.marks metric.now }
-    requires scale { IsSmallScale scale }
-    requires near { IsNearness near }
-    requires ways { AreLastLinks net.now ways.old.lasts.items }
-    requires loads { AreLoads net.now loads.old }
-    ensures ways { AreLastLinks net.now ways.new.lasts.items }
-    ensures loads { AreLoads net.now loads.new }
-{
-    clear_loads(loads);
-    ways.from = NO_NODE;
-    match set {
-        DemandSet::All => add_dearest(net, routing, set, shared, metric, scale, near, ways, loads),
-        DemandSet::Margin { .. } => {
-            add_between(net, routing, set, shared, metric, scale.b, ways, loads)
+impl<'a> Pricing<'a> {
+    /// Adds the loads of the worst of all matrices, in which the pairs send that are the dearest up to one part in `near`.
+    fn add_dearest(&self, ways: &mut Ways, loads: &mut [u128])
+        requires pricing { IsPricing self.now }
+        requires ways { AreLastLinks self.now.problem.net.now ways.old.lasts.items }
+        requires loads { AreLoads self.now.problem.net.now loads.old }
+        ensures ways { AreLastLinks self.now.problem.net.now ways.new.lasts.items }
+        ensures loads { AreSmall loads.new }
+    {
+        let (net, scale) = (self.problem.net, self.scale);
+        let routes = self.problem.routing.routes.as_slice();
+        let distances = self.metric.distances.as_slice();
+        for entry in self.shared.list.as_slice() {
+            let p = entry.pair as usize;
+            let worth = u128::from(entry.share) * u128::from(scale.b);
+            let most = u128::from(scale.a) * u128::from(distances[p]);
+            let above = nearness(worth, most, self.near);
+            if above > 0 {
+                let pair = routes[p].pair;
+                turn(net, self.metric, ways, pair.src);
+                let capacity = narrowest_on(net, &ways.lasts, pair.dst);
+                let amount = amount_of(capacity, above, most);
+                add_along(net, &ways.lasts, pair.dst, amount, loads);
+            }
         }
-        DemandSet::Box { .. } => {
-            add_between(net, routing, set, shared, metric, scale.b, ways, loads)
+    }
+
+    /// Adds the loads of the worst matrix between the bounds of the set.
+    fn add_between(&self, ways: &mut Ways, loads: &mut [u128])
+        requires pricing { IsPricing self.now }
+        requires bounded { HasBounds self.now.problem.set.now }
+        requires ways { AreLastLinks self.now.problem.net.now ways.old.lasts.items }
+        requires loads { AreLoads self.now.problem.net.now loads.old }
+        ensures ways { AreLastLinks self.now.problem.net.now ways.new.lasts.items }
+        ensures loads { AreSmall loads.new }
+    {
+        let (net, set, b) = (self.problem.net, self.problem.set, self.scale.b);
+        let routes = self.problem.routing.routes.as_slice();
+        let shares = self.shared.shares.as_slice();
+        let distances = self.metric.distances.as_slice();
+        for p in 0..routes.len() {
+            let demand = demand_of(set, p, shares[p], distances[p], b);
+            if demand > 0 {
+                let pair = routes[p].pair;
+                turn(net, self.metric, ways, pair.src);
+                add_along(net, &ways.lasts, pair.dst, u128::from(demand), loads);
+            }
+        }
+    }
+
+    /// Writes the loads of the worst matrix for the weights. Takes no memory.
+    ///
+    /// `ways` and `loads` are room for what is written: a link for each node, and a load for each link.
+    pub fn respond(&self, ways: &mut Ways, loads: &mut [u128])
+        requires pricing { IsPricing self.now }
+        requires ways { AreLastLinks self.now.problem.net.now ways.old.lasts.items }
+        requires loads { AreLoads self.now.problem.net.now loads.old }
+        ensures ways { AreLastLinks self.now.problem.net.now ways.new.lasts.items }
+        ensures loads { AreLoads self.now.problem.net.now loads.new }
+    {
+        clear_loads(loads);
+        ways.from = NO_NODE;
+        match self.problem.set {
+            DemandSet::All => self.add_dearest(ways, loads),
+            DemandSet::Margin { .. } => self.add_between(ways, loads),
+            DemandSet::Box { .. } => self.add_between(ways, loads),
         }
     }
 }

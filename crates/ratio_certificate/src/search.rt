@@ -1,18 +1,15 @@
 //! The search for better weights of the links whose weights need most.
-ghost use Rattle.std.specs.Prelude.{◌≡◌, ◌^◌, ◌<◌, ◌≤◌, All, IfOk, IsTrue, length, slice_set};
-ghost use Rattle.te_model.specs.Network.{is_well_formed};
-ghost use Rattle.best_blocks.specs.Conditions.{IsRoutingWithin, IsSetWithin};
-ghost use Rattle.best_blocks.specs.Sharing.{IsSharedLink};
+ghost use Rattle.std.specs.Prelude.{◌≡◌, ◌<◌, ◌≤◌, IfOk, length, slice_set};
 ghost use Rattle.ratio_certificate.specs.Places.{weighting_at};
-ghost use Rattle.ratio_certificate.specs.Steps.{AreWeightings};
+ghost use Rattle.ratio_certificate.specs.Problems.{AreLinksOf, AreWeightingsOf};
 
 use crate::polish::worst;
+use crate::problem::Problem;
 use crate::seek::seek;
 use crate::weighting::Weighting;
 use best_blocks::SharedLink;
-use routing::Routing;
 use std::alloc::Global;
-use te_model::{DemandSet, Memory, Network};
+use te_model::Memory;
 
 /// Puts the weights in place of those at the place, if they need less.
 fn take_lesser(list: &mut Vec<Weighting>, place: usize, found: Weighting)
@@ -31,18 +28,13 @@ fn take_lesser(list: &mut Vec<Weighting>, place: usize, found: Weighting)
 /// `Memory` comes where memory is wanting.
 pub fn search(
     alloc: Global,
-    net: &Network,
-    routing: &Routing,
-    set: &DemandSet,
+    problem: &Problem,
     links: &[SharedLink],
     start: Vec<Weighting>,
 ) -> Result<Vec<Weighting>, Memory>
-    requires network { IsTrue (is_well_formed net.now) }
-    requires routing { IsRoutingWithin net.now routing.now.routes }
-    requires set { IsSetWithin (length routing.now.routes) set.now }
-    requires links { All (IsSharedLink net.now routing.now.routes set.now) links.now }
-    requires start { AreWeightings net.now routing.now.routes set.now links.now start.items start.items }
-    ensures { IfOk result (λ l. AreWeightings net.now routing.now.routes set.now links.now start.items l.items) }
+    requires links { AreLinksOf problem.now links.now }
+    requires start { AreWeightingsOf problem.now links.now start.items start.items }
+    ensures { IfOk result (λ l. AreWeightingsOf problem.now links.now start.items l.items) }
 {
     let mut list = start;
     let mut searched = vec![in alloc; false; links.len()]?;
@@ -54,7 +46,7 @@ pub fn search(
                     return Ok(list);
                 }
                 searched[k] = true;
-                let found = seek(alloc, net, routing, set, &links[k], floor)?;
+                let found = seek(alloc, problem, &links[k], floor)?;
                 take_lesser(&mut list, k, found);
                 floor = floor.max(list[k].need);
             }

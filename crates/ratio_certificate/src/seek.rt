@@ -1,23 +1,20 @@
 //! The search for weights of a link that need little: sweeps, in each of which the worst matrix takes least ways, and the weights
 //! of the links that it uses most grow.
-ghost use Rattle.std.specs.Prelude.{◌≡◌, ◌^◌, ◌<◌, ◌≤◌, IfOk, IsTrue, length};
-ghost use Rattle.te_model.specs.Network.{is_well_formed, link_count};
-ghost use Rattle.best_blocks.specs.Conditions.{IsRoutingWithin, IsSetWithin};
-ghost use Rattle.best_blocks.specs.Metric.{IsMetric};
-ghost use Rattle.best_blocks.specs.Sharing.{IsSharedLink};
+ghost use Rattle.std.specs.Prelude.{◌≡◌, ◌^◌, ◌<◌, ◌≤◌, IfOk, length};
+ghost use Rattle.te_model.specs.Network.{link_count};
 ghost use Rattle.centred_steps.specs.Loads.{AreLoads};
 ghost use Rattle.centred_steps.specs.Weights.{AreWeightsUpTo};
-ghost use Rattle.ratio_certificate.specs.Searching.{IsSearch};
-ghost use Rattle.ratio_certificate.specs.Weighting.{IsWeighting};
+ghost use Rattle.ratio_certificate.specs.Problems.{IsLinkOf, IsMetricOf, IsProblem, IsWeightingOf};
+ghost use Rattle.ratio_certificate.specs.Searching.{IsSearchOf};
 
-use crate::response::{no_ways, respond};
+use crate::problem::Problem;
+use crate::response::{Pricing, no_ways};
 use crate::rounds::first_metric;
 use crate::weighting::{Weighting, lesser, weighting_of};
 use best_blocks::{Metric, Scale, SharedLink, metric_of};
 use centred_steps::{has_load, step};
-use routing::Routing;
 use std::alloc::Global;
-use te_model::{DemandSet, Memory, Network};
+use te_model::Memory;
 
 /// How many stages of sweeps there are. The steps of each are half as great as those of the one before.
 const STAGES: usize = 8;
@@ -37,21 +34,13 @@ pub struct Search {
 }
 
 /// A search at its start, where each weight is 2^20.
-fn start(
-    alloc: Global,
-    net: &Network,
-    routing: &Routing,
-    set: &DemandSet,
-    shared: &SharedLink,
-) -> Result<Search, Memory>
-    requires network { IsTrue (is_well_formed net.now) }
-    requires routing { IsRoutingWithin net.now routing.now.routes }
-    requires set { IsSetWithin (length routing.now.routes) set.now }
-    requires shared { IsSharedLink net.now routing.now.routes set.now shared.now }
-    ensures { IfOk result (IsSearch net.now routing.now.routes set.now shared.now) }
+fn start(alloc: Global, problem: &Problem, shared: &SharedLink) -> Result<Search, Memory>
+    requires problem { IsProblem problem.now }
+    requires shared { IsLinkOf problem.now shared.now }
+    ensures { IfOk result (IsSearchOf problem.now shared.now) }
 {
-    let metric = first_metric(alloc, net, routing, set, shared)?;
-    let best = weighting_of(alloc, net, routing, set, shared, &metric)?;
+    let metric = first_metric(alloc, problem, shared)?;
+    let best = weighting_of(alloc, problem, shared, &metric)?;
     let scale = Scale {
         a: best.a,
         b: best.b,
@@ -66,51 +55,51 @@ fn start(
 /// The metric of the weights after a step by the loads.
 fn metric_after_step(
     alloc: Global,
-    net: &Network,
-    routing: &Routing,
-    set: &DemandSet,
+    problem: &Problem,
     shared: &SharedLink,
     metric: &Metric,
     loads: &[u128],
     parts: u64,
 ) -> Result<Metric, Memory>
-    requires network { IsTrue (is_well_formed net.now) }
-    requires shared { IsSharedLink net.now routing.now.routes set.now shared.now }
-    requires count { length metric.now.weights ≡ link_count net.now }
+    requires problem { IsProblem problem.now }
+    requires shared { IsLinkOf problem.now shared.now }
+    requires count { length metric.now.weights ≡ link_count problem.now.net.now }
     requires weights { AreWeightsUpTo (2 ^ 27) metric.now.weights }
-    requires loads { AreLoads net.now loads.now }
+    requires loads { AreLoads problem.now.net.now loads.now }
     requires parts { (1 ≤ parts) × (parts ≤ 128) }
-    ensures metric { IfOk result (IsMetric net.now routing.now.routes shared.now.marks) }
+    ensures metric { IfOk result (IsMetricOf problem.now shared.now) }
     ensures weights { IfOk result (λ m. AreWeightsUpTo (2 ^ 27) m.weights) }
 {
     let mut weights = Vec::from_slice(alloc, metric.weights.as_slice())?;
-    step(net, &mut weights, loads, parts);
-    metric_of(alloc, net, routing, shared.marks.as_slice(), weights)
+    step(problem.net, &mut weights, loads, parts);
+    metric_of(
+        alloc,
+        problem.net,
+        problem.routing,
+        shared.marks.as_slice(),
+        weights,
+    )
 }
 
 /// The search after a sweep, whose loads these are.
 fn advance(
     alloc: Global,
-    net: &Network,
-    routing: &Routing,
-    set: &DemandSet,
+    problem: &Problem,
     shared: &SharedLink,
     search: Search,
     loads: &[u128],
     parts: u64,
 ) -> Result<Search, Memory>
-    requires network { IsTrue (is_well_formed net.now) }
-    requires routing { IsRoutingWithin net.now routing.now.routes }
-    requires set { IsSetWithin (length routing.now.routes) set.now }
-    requires shared { IsSharedLink net.now routing.now.routes set.now shared.now }
-    requires search { IsSearch net.now routing.now.routes set.now shared.now search }
-    requires loads { AreLoads net.now loads.now }
+    requires problem { IsProblem problem.now }
+    requires shared { IsLinkOf problem.now shared.now }
+    requires search { IsSearchOf problem.now shared.now search }
+    requires loads { AreLoads problem.now.net.now loads.now }
     requires parts { (1 ≤ parts) × (parts ≤ 128) }
-    ensures { IfOk result (IsSearch net.now routing.now.routes set.now shared.now) }
+    ensures { IfOk result (IsSearchOf problem.now shared.now) }
 {
     let old = &search.metric;
-    let metric = metric_after_step(alloc, net, routing, set, shared, old, loads, parts)?;
-    let found = weighting_of(alloc, net, routing, set, shared, &metric)?;
+    let metric = metric_after_step(alloc, problem, shared, old, loads, parts)?;
+    let found = weighting_of(alloc, problem, shared, &metric)?;
     let scale = Scale {
         a: found.a,
         b: found.b,
@@ -143,35 +132,35 @@ fn next_parts(parts: u64, sweep: usize, sweeps: usize) -> u64
 /// Whatever it finds, there is one weight for each link, from 1 to 2^28. `Memory` comes where memory is wanting.
 pub fn seek(
     alloc: Global,
-    net: &Network,
-    routing: &Routing,
-    set: &DemandSet,
+    problem: &Problem,
     shared: &SharedLink,
     floor: u128,
 ) -> Result<Weighting, Memory>
-    requires network { IsTrue (is_well_formed net.now) }
-    requires routing { IsRoutingWithin net.now routing.now.routes }
-    requires set { IsSetWithin (length routing.now.routes) set.now }
-    requires shared { IsSharedLink net.now routing.now.routes set.now shared.now }
+    requires problem { IsProblem problem.now }
+    requires shared { IsLinkOf problem.now shared.now }
     ensures link { IfOk result (λ w. w.link ≡ shared.now.link) }
-    ensures weighting { IfOk result (IsWeighting net.now routing.now.routes set.now) }
+    ensures weighting { IfOk result (IsWeightingOf problem.now) }
 {
-    let links = net.links.as_slice().len();
+    let links = problem.net.links.as_slice().len();
     let sweeps = SWEEPS + links / 2;
     let mut loads = vec![in alloc; 0; links]?;
-    let mut ways = no_ways(alloc, net)?;
-    let mut search = start(alloc, net, routing, set, shared)?;
+    let mut ways = no_ways(alloc, problem.net)?;
+    let mut search = start(alloc, problem, shared)?;
     let mut parts = 1;
     for i in 0..STAGES * sweeps {
         let near = 2 * u128::from(parts);
-        let (metric, scale) = (&search.metric, search.scale);
-        respond(
-            net, routing, set, shared, metric, scale, near, &mut ways, &mut loads,
-        );
+        let pricing = Pricing {
+            problem: *problem,
+            shared,
+            metric: &search.metric,
+            scale: search.scale,
+            near,
+        };
+        pricing.respond(&mut ways, &mut loads);
         if search.best.need <= floor || !has_load(&loads) {
             return Ok(search.best);
         }
-        search = advance(alloc, net, routing, set, shared, search, &loads, parts)?;
+        search = advance(alloc, problem, shared, search, &loads, parts)?;
         parts = next_parts(parts, i, sweeps);
     }
     Ok(search.best)

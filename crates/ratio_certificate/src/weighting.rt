@@ -1,16 +1,13 @@
 //! Weights of a link, and what they need.
-ghost use Rattle.std.specs.Prelude.{◌≡◌, ◌^◌, ◌<◌, ◌≤◌, IfOk, IsTrue, length};
-ghost use Rattle.te_model.specs.Network.{is_well_formed};
-ghost use Rattle.best_blocks.specs.Conditions.{IsRoutingWithin, IsSetWithin};
-ghost use Rattle.best_blocks.specs.Metric.{IsMetric};
-ghost use Rattle.best_blocks.specs.Sharing.{IsSharedLink};
+ghost use Rattle.std.specs.Prelude.{◌≡◌, ◌^◌, ◌<◌, ◌≤◌, IfOk};
 ghost use Rattle.best_blocks.specs.Under.{IsScaleUnder};
-ghost use Rattle.ratio_certificate.specs.Weighting.{AreWeights, IsWeighting};
+ghost use Rattle.ratio_certificate.specs.Problems.{IsLinkOf, IsMetricOf, IsProblem, IsWeightingOf};
+ghost use Rattle.ratio_certificate.specs.Weighting.{AreWeights};
 
+use crate::problem::Problem;
 use best_blocks::{Metric, Scale, SharedLink, need_by, scale_under};
-use routing::Routing;
 use std::alloc::Global;
-use te_model::{DemandSet, Items, Memory, Network};
+use te_model::{Items, Memory};
 
 /// Weights for the certificate of a link, by what they are scaled, and what they need.
 #[derive(Drop)]
@@ -27,24 +24,16 @@ pub struct Weighting {
 }
 
 /// The best scale of weights of 1 and more, which always have one.
-fn scale_of(
-    net: &Network,
-    routing: &Routing,
-    set: &DemandSet,
-    shared: &SharedLink,
-    metric: &Metric,
-) -> Scale
-    requires network { IsTrue (is_well_formed net.now) }
-    requires routing { IsRoutingWithin net.now routing.now.routes }
-    requires set { IsSetWithin (length routing.now.routes) set.now }
-    requires shared { IsSharedLink net.now routing.now.routes set.now shared.now }
-    requires metric { IsMetric net.now routing.now.routes shared.now.marks metric.now }
-    requires weights { AreWeights net.now metric.now.weights }
-    ensures scale { IsScaleUnder net.now routing.now.routes set.now shared.now.link metric.now.weights result.a result.b }
+fn scale_of(problem: &Problem, shared: &SharedLink, metric: &Metric) -> Scale
+    requires problem { IsProblem problem.now }
+    requires shared { IsLinkOf problem.now shared.now }
+    requires metric { IsMetricOf problem.now shared.now metric.now }
+    requires weights { AreWeights problem.now.net.now metric.now.weights }
+    ensures scale { IsScaleUnder problem.now.net.now problem.now.routing.now.routes problem.now.set.now shared.now.link metric.now.weights result.a result.b }
     ensures a { result.a ≤ 2 ^ 36 }
     ensures b { (1 ≤ result.b) × (result.b ≤ 2 ^ 36) }
 {
-    match scale_under(net, routing, set, shared, metric) {
+    match scale_under(problem.net, problem.routing, problem.set, shared, metric) {
         Some(scale) => scale,
         None => Scale { a: 0, b: 1 },
     }
@@ -53,24 +42,20 @@ fn scale_of(
 /// The weights of the metric, and what they need on the link.
 pub fn weighting_of(
     alloc: Global,
-    net: &Network,
-    routing: &Routing,
-    set: &DemandSet,
+    problem: &Problem,
     shared: &SharedLink,
     metric: &Metric,
 ) -> Result<Weighting, Memory>
-    requires network { IsTrue (is_well_formed net.now) }
-    requires routing { IsRoutingWithin net.now routing.now.routes }
-    requires set { IsSetWithin (length routing.now.routes) set.now }
-    requires shared { IsSharedLink net.now routing.now.routes set.now shared.now }
-    requires metric { IsMetric net.now routing.now.routes shared.now.marks metric.now }
-    requires weights { AreWeights net.now metric.now.weights }
+    requires problem { IsProblem problem.now }
+    requires shared { IsLinkOf problem.now shared.now }
+    requires metric { IsMetricOf problem.now shared.now metric.now }
+    requires weights { AreWeights problem.now.net.now metric.now.weights }
     ensures link { IfOk result (λ w. w.link ≡ shared.now.link) }
     ensures weights { IfOk result (λ w. w.weights ≡ metric.now.weights) }
-    ensures weighting { IfOk result (IsWeighting net.now routing.now.routes set.now) }
+    ensures weighting { IfOk result (IsWeightingOf problem.now) }
 {
-    let scale = scale_of(net, routing, set, shared, metric);
-    let need = need_by(net, shared.link, metric.weights.as_slice(), scale);
+    let scale = scale_of(problem, shared, metric);
+    let need = need_by(problem.net, shared.link, metric.weights.as_slice(), scale);
     let weights = Vec::from_slice(alloc, metric.weights.as_slice())?;
     Ok(Weighting {
         link: shared.link,

@@ -38,6 +38,7 @@ use Rattle.best_blocks.proofs.BlockValid.{best_valid}
 use Rattle.best_blocks.proofs.SharesListed.{link_within}
 use Rattle.ratio_certificate.specs.Form.{made_set}
 use Rattle.ratio_certificate.specs.Made.{IsMade, IsOwnBest}
+use Rattle.ratio_certificate.proofs.Certificates.{head_of_set}
 
 -- the rules of paths hold of each pair
 path_rules : (c : Certificate) → first_rule c ≡ None → KeepsPathRules c.head
@@ -161,15 +162,11 @@ shared_block routes blocks listed k b shared same below is =
     let here : HasShare routes (get_or listed k b).link = rw same (shared k b (rw same at below)) in
     subst (λ (x : Block). HasShare routes x.link) (sym is) here
 
--- what a certificate of a best block begins with, in the format that has room for every network
-abbrev head_of : Network → List PairRoutes → DemandSet → Head
-head_of net routes wanted = record { format = 2; network = net; routes = routes; set = wanted; ratio = 0 }
-
 pub best_numbers : (net : Network) (routes : List PairRoutes) (wanted : DemandSet) (e : ℕ) (weights : List ℕ) (block : Block) → is_well_formed net ≡ true →
     IsRoutingWithin net routes → HasShare routes e → length weights ≡ link_count net → All (λ w. w ≤ 2 ^ 28) weights →
     IsBestBlock net routes wanted e weights block → HasNumbers net block
 best_numbers net routes wanted e weights block formed within share count small best =
-    let valid = best_valid (head_of net routes wanted) e weights block formed within (few_nodes net formed) (link_within net routes e within.splits share) count small best in
+    let valid = best_valid (head_of_set net routes wanted) e weights block formed within (few_nodes net formed) (link_within net routes e within.splits share) count small best in
     record {
       numbers = valid.numbers;
       small = valid.small;

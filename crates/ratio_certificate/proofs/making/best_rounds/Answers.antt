@@ -8,9 +8,9 @@ use Rattle.ratio_certificate.proofs.making.best_rounds.Goals as goal
 
 pub loop-shared-preserved : goal.loop-shared-preserved
 loop-shared-preserved c =
-    let net = c.args.net.now in
-    let routes = c.args.routing.now.routes in
-    let wanted = c.args.set.now in
+    let net = c.args.problem.now.net.now in
+    let routes = c.args.problem.now.routing.now.routes in
+    let wanted = c.args.problem.now.set.now in
     let links = c.args.links.now in
     let n = c.loop-shared.shared-index in
     let inside : n < length links = omega arith in
@@ -25,4 +25,4 @@ loop-shared-preserved c =
 pub returns : goal.returns
 returns c =
     let all : c.loop-shared.shared-index ≡ length c.args.links.now = omega arith in
-    subst (λ n. AreRounds n c.args.net.now c.args.routing.now.routes c.args.set.now c.args.links.now c.loop-shared.list.items) all c.loop-shared.invariant
+    subst (λ n. AreRounds n c.args.problem.now.net.now c.args.problem.now.routing.now.routes c.args.problem.now.set.now c.args.links.now c.loop-shared.list.items) all c.loop-shared.invariant

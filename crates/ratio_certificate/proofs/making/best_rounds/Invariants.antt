@@ -2,4 +2,4 @@ use Rattle.ratio_certificate.specs.Rising.{AreRounds}
 use Rattle.ratio_certificate.proofs.making.best_rounds.Given as goal
 
 abbrev pub invariant-loop-shared : goal.invariant-loop-shared
-invariant-loop-shared l = AreRounds l.shared-index l.net l.routing.routes l.set l.links l.list.items
+invariant-loop-shared l = AreRounds l.shared-index l.problem.net.now l.problem.routing.now.routes l.problem.set.now l.links l.list.items

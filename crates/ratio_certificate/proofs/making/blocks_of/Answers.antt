@@ -14,13 +14,13 @@ block_of-requires-clause-weighting c =
     let k = c.loop-k.k in
     let inside : k < length list = omega arith in
     let at : c.index-list-k.result ≡ weighting_at list k = get_or_read list k c.index-list-k.result inside c.index-list-k.is no_weighting in
-    subst (IsWeighting c.args.net.now c.args.routing.now.routes c.args.set.now) (sym at) (c.requires.list.each k (omega (arith, inside, c.requires.list.count)))
+    subst (IsWeighting c.args.problem.now.net.now c.args.problem.now.routing.now.routes c.args.problem.now.set.now) (sym at) (c.requires.list.each k (omega (arith, inside, c.requires.list.count)))
 
 pub loop-k-preserved : goal.loop-k-preserved
 loop-k-preserved c =
-    let net = c.args.net.now in
-    let routes = c.args.routing.now.routes in
-    let wanted = c.args.set.now in
+    let net = c.args.problem.now.net.now in
+    let routes = c.args.problem.now.routing.now.routes in
+    let wanted = c.args.problem.now.set.now in
     let list = c.args.list.now in
     let k = c.loop-k.k in
     let inside : k < length list = omega arith in

@@ -3,7 +3,7 @@ use Rattle.std.specs.Prelude.{All}
 use Rattle.te_model.specs.declared.certificate.Block.{Block}
 use Rattle.best_blocks.specs.Need.{HasNumbers, IsGreatestNeed}
 use Rattle.ratio_certificate.proofs.Certificates.{blocks_numbers, made_certificate}
-use Rattle.ratio_certificate.proofs.MadeBlocks.{blocks_polished, made_blocks, making_read, need_within, within_start}
+use Rattle.ratio_certificate.proofs.MadeBlocks.{blocks_polished, made_blocks, making_read, need_read, within_start}
 use Rattle.ratio_certificate.proofs.making.certify.Goals as goal
 
 pub greatest_need-ratio-requires-clause-numbers : goal.greatest_need-ratio-requires-clause-numbers
@@ -26,16 +26,13 @@ overflow_cast-ratio c =
     let routes = c.args.routing.now.routes in
     let set = c.args.set in
     let links = c.in_ok-links.links.items in
-    let start = c.in_ok-start.start.items in
-    let list = c.in_ok-list.list.items in
-    let blocks = c.in_ok-blocks.blocks.items in
-    let all = making_read net routes set links c.deref.result.now c.deref-2.result.now c.deref-3.result.now start list c.deref-4.result.now blocks
-    c.deref.ensures.value c.deref-2.ensures.value c.deref-3.ensures.value c.deref-4.ensures.value c.in_ok-links.ensures c.in_ok-start.ensures
+    let all = making_read net routes set links c.deref.result.now c.deref-2.result.now c.deref-3.result.now c.in_ok-start.start.items c.in_ok-list.list.items c.deref-4.result.now
+    c.in_ok-blocks.blocks.items c.deref.ensures.value c.deref-2.ensures.value c.deref-3.ensures.value c.deref-4.ensures.value c.in_ok-links.ensures c.in_ok-start.ensures
     c.in_ok-list.ensures.list c.in_ok-list.ensures.done c.in_ok-blocks.ensures
     in
-    let numbers = blocks_numbers net routes set blocks c.requires.network c.requires.routing (made_blocks net routes set links start list blocks all) in
-    let greatest = subst (λ (bs : List Block). IsGreatestNeed net bs c.greatest_need-ratio.result) c.deref-5.ensures.value c.greatest_need-ratio.ensures in
-    let bound = need_within net routes set links start list blocks c.greatest_need-ratio.result c.requires.network numbers all greatest in
+    let bound = need_read net routes set links c.in_ok-start.start.items c.in_ok-list.list.items c.in_ok-blocks.blocks.items c.deref-5.result.now c.greatest_need-ratio.result
+    c.requires.network c.requires.routing all c.deref-5.ensures.value c.greatest_need-ratio.ensures
+    in
     omega (arith, bound)
 
 pub returns : goal.returns
@@ -52,9 +49,10 @@ returns c =
     c.in_ok-list.ensures.list c.in_ok-list.ensures.done c.in_ok-blocks.ensures
     in
     let made = made_blocks net routes set links start list blocks all in
-    let numbers = blocks_numbers net routes set blocks c.requires.network c.requires.routing made in
     let greatest = subst (λ (bs : List Block). IsGreatestNeed net bs c.greatest_need-ratio.result) c.deref-5.ensures.value c.greatest_need-ratio.ensures in
-    let bound = need_within net routes set links start list blocks c.greatest_need-ratio.result c.requires.network numbers all greatest in
+    let bound = need_read net routes set links start list blocks c.deref-5.result.now c.greatest_need-ratio.result c.requires.network c.requires.routing all
+    c.deref-5.ensures.value c.greatest_need-ratio.ensures
+    in
     let polished = blocks_polished net routes set links start list blocks c.requires.network all in
     let small : c.greatest_need-ratio.result < 10 ^ 19 = omega (arith, bound) in
     made_certificate c.args.format net routes set blocks c.greatest_need-ratio.result _ _ _ c.in_ok-network.ensures c.in_ok-routes.ensures c.new-2.ensures c.requires.network

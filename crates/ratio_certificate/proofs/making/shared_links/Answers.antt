@@ -10,14 +10,14 @@ use Rattle.ratio_certificate.proofs.making.shared_links.Goals.{then-list-gt0+in_
 
 pub shared_link-requires-clause-list : goal.shared_link-requires-clause-list
 shared_link-requires-clause-list c =
-    let inside : c.loop-e.e < link_count c.args.net.now = omega (arith, c.loop-e-test.true, ap (λ (ls : List Link). length ls) c.as_slice-e-end.ensures) in
-    subst (AreSharesOn c.args.routing.now.routes c.loop-e.e) (sym c.on-list.ensures) (c.requires.shares.each c.loop-e.e inside)
+    let inside : c.loop-e.e < link_count c.args.problem.now.net.now = omega (arith, c.loop-e-test.true, ap (λ (ls : List Link). length ls) c.as_slice-e-end.ensures) in
+    subst (AreSharesOn c.args.problem.now.routing.now.routes c.loop-e.e) (sym c.on-list.ensures) (c.requires.shares.each c.loop-e.e inside)
 
 pub loop-e-preserved : goal.loop-e-preserved
 loop-e-preserved c =
-    let net = c.args.net.now in
-    let routes = c.args.routing.now.routes in
-    let wanted = c.args.set.now in
+    let net = c.args.problem.now.net.now in
+    let routes = c.args.problem.now.routing.now.routes in
+    let wanted = c.args.problem.now.set.now in
     let e = c.loop-e.e in
     let links = c.loop-e.links.items in
     let so_far = c.loop-e.invariant in

@@ -9,15 +9,15 @@ use Rattle.ratio_certificate.proofs.polish.double.Goals as goal
 
 pub returns : goal.returns
 returns c =
-    let net = c.args.net.now in
-    let routes = c.args.routing.now.routes in
-    let wanted = c.args.set.now in
+    let net = c.args.problem.now.net.now in
+    let routes = c.args.problem.now.routing.now.routes in
+    let wanted = c.args.problem.now.set.now in
     let old = c.args.weighting.now in
     let twice = subst (λ (ws : List ℕ). AreDoubled ws c.in_ok-weights.weights.items) c.as_slice.ensures c.in_ok-weights.ensures in
     let inside : old.link < link_count net = omega (arith, c.requires.link, c.requires.shared.within) in
     value_gives c.weighting_of.result (λ (w : Weighting). w.link ≡ c.args.shared.now.link) (λ (w : Weighting). w.weights ≡ c.in_ok-metric.metric.weights)
     (IsWeighting net routes wanted) (IsProgress net routes wanted old)
     (λ w link_is weights_are is.
-    doubled_progress net routes wanted old w c.in_ok-weights.weights.items c.requires.network inside c.requires.weighting twice c.requires.small c.requires.room
+    doubled_progress net routes wanted old w c.in_ok-weights.weights.items c.requires.problem.network inside c.requires.weighting twice c.requires.small c.requires.room
     (link_is ∙ sym c.requires.link) (weights_are ∙ c.in_ok-metric.ensures.weights) is)
     c.weighting_of.ensures.link c.weighting_of.ensures.weights c.weighting_of.ensures.weighting

@@ -15,14 +15,14 @@ step_at-requires-clause-weighting c =
     let k = c.in-Some.k in
     let inside : k < length c.args.list.now = c.in-Some.ensures.some.within in
     let at : c.index-list-k.result ≡ weighting_at c.args.list.now k = get_or_read c.args.list.now k c.index-list-k.result inside c.index-list-k.is no_weighting in
-    subst (IsWeighting c.args.net.now c.args.routing.now.routes c.args.set.now) (sym at)
+    subst (IsWeighting c.args.problem.now.net.now c.args.problem.now.routing.now.routes c.args.problem.now.set.now) (sym at)
     (c.requires.list.each k (omega (arith, inside, c.requires.list.count)))
 
 pub returns-in-Some-clause-none : goal.returns-in-Some-clause-none
 returns-in-Some-clause-none c =
-    let net = c.args.net.now in
-    let routes = c.args.routing.now.routes in
-    let wanted = c.args.set.now in
+    let net = c.args.problem.now.net.now in
+    let routes = c.args.problem.now.routing.now.routes in
+    let wanted = c.args.problem.now.set.now in
     let list = c.args.list.now in
     let k = c.in-Some.k in
     let w = c.index-list-k.result in

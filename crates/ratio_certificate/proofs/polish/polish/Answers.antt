@@ -7,9 +7,9 @@ use Rattle.ratio_certificate.proofs.polish.polish.Goals as goal
 
 pub loop-list-preserved : goal.loop-list-preserved
 loop-list-preserved c =
-    let net = c.args.net.now in
-    let routes = c.args.routing.now.routes in
-    let wanted = c.args.set.now in
+    let net = c.args.problem.now.net.now in
+    let routes = c.args.problem.now.routing.now.routes in
+    let wanted = c.args.problem.now.set.now in
     let list = c.loop-list.list.items in
     let step = c.in-Some.step in
     let place = rw c.in-Some.is at c.in_ok-step.ensures.place in

@@ -5,7 +5,7 @@ use Rattle.ratio_certificate.specs.Weighting.{left_in}
 use Rattle.ratio_certificate.proofs.polish.polish.Given as goal
 
 abbrev pub invariant-loop-list : goal.invariant-loop-list
-invariant-loop-list l = AreWeightings l.net l.routing.routes l.set l.links l.fn.start.items l.list.items × (l.from ≤ link_count l.net)
+invariant-loop-list l = AreWeightings l.problem.net.now l.problem.routing.now.routes l.problem.set.now l.links l.fn.start.items l.list.items × (l.from ≤ link_count l.problem.net.now)
 
 abbrev pub decreases-loop-list : goal.decreases-loop-list
 decreases-loop-list l = left_in l.list.items

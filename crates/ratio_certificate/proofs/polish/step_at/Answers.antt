@@ -1,13 +1,22 @@
 use Rattle.std.proofs.Common.{◌<◌, ℕ, List, sym, subst}
 use Rattle.te_model.specs.Network.{link_count}
 use Rattle.ratio_certificate.specs.Steps.{IsSettledAt}
+use Rattle.ratio_certificate.specs.Weighting.{AreWeights}
 use Rattle.ratio_certificate.proofs.polish.step_at.Goals as goal
+
+pub find-requires-clause-changes : goal.find-requires-clause-changes
+find-requires-clause-changes c = record {
+  problem = c.requires.problem;
+  shared = c.requires.shared;
+  metric = c.in_ok-metric.ensures.metric;
+  weights = subst (AreWeights c.args.problem.now.net.now) (sym c.in_ok-metric.ensures.weights) c.requires.weighting.weights_are;
+}
 
 pub returns-clause-none : goal.returns-clause-none
 returns-clause-none c =
-    let net = c.args.net.now in
-    let routes = c.args.routing.now.routes in
-    let wanted = c.args.set.now in
+    let net = c.args.problem.now.net.now in
+    let routes = c.args.problem.now.routing.now.routes in
+    let wanted = c.args.problem.now.set.now in
     let w = c.args.weighting.now in
     let settled = rw c.in-None.is at c.in_ok-change.ensures.none in
     let own =

@@ -1,42 +1,30 @@
 use Rattle.std.proofs.Common.{Some, None, ◌∙◌}
-use Rattle.ratio_certificate.proofs.NextRounds.{dearest_links, dearest_path, no_round_after, raised_read, round_after, shared_far}
+use Rattle.ratio_certificate.proofs.NextRounds.{dearest_path, links_read, no_round_after, raised_read, round_after, shared_far}
 use Rattle.ratio_certificate.proofs.raising.next_round.Goals as goal
 
 pub dearest_pair-dearest-requires-clause-apart : goal.dearest_pair-dearest-requires-clause-apart
 dearest_pair-dearest-requires-clause-apart c =
     rw (c.as_slice.ensures, c.as_slice-2.ensures)
-    (shared_far c.args.net.now c.args.routing.now.routes c.args.set.now c.args.shared.now c.args.metric.now c.requires.routing c.requires.shared c.requires.metric c.requires.weights)
+    (shared_far c.args.problem.now.net.now c.args.problem.now.routing.now.routes c.args.problem.now.set.now c.args.shared.now c.args.metric.now c.requires.problem.routing c.requires.shared c.requires.metric c.requires.weights)
 
 pub raise-requires-clause-links : goal.raise-requires-clause-links
 raise-requires-clause-links c =
-    let net = c.args.net.now in
-    let routes = c.args.routing.now.routes in
-    let l = c.args.shared.now in
-    let m = c.args.metric.now in
-    let d = c.dearest_pair-dearest.result in
-    let is = dearest_path net routes c.as_slice-3.result.now l m c.as_slice.result.now c.as_slice-2.result.now c.as_slice-weights.result.now d
-    c.index-as_slice-dearest.result c.in_ok-path.field-0 (Some c.in-Some.path) c.as_slice.ensures c.as_slice-2.ensures c.as_slice-weights.ensures c.as_slice-3.ensures
-    c.in-Some.is c.requires.shared.shares_are.count c.dearest_pair-dearest.ensures c.in_ok-path.ensures
-    in
-    rw c.as_slice-in-Some.ensures (dearest_links net routes l m d c.in-Some.path c.requires.routing is).0
+    (links_read c.args.problem.now.net.now c.args.problem.now.routing.now.routes c.as_slice-3.result.now c.args.shared.now c.args.metric.now c.as_slice.result.now
+    c.as_slice-2.result.now c.as_slice-weights.result.now c.as_slice-in-Some.result.now c.dearest_pair-dearest.result c.index-as_slice-dearest.result c.in_ok-path.field-0
+    c.in-Some.path c.as_slice.ensures c.as_slice-2.ensures c.as_slice-weights.ensures c.as_slice-in-Some.ensures c.as_slice-3.ensures c.in-Some.is
+    c.requires.shared.shares_are.count c.dearest_pair-dearest.ensures c.in_ok-path.ensures c.requires.problem.routing).0
 
 pub raise-requires-clause-some : goal.raise-requires-clause-some
 raise-requires-clause-some c =
-    let net = c.args.net.now in
-    let routes = c.args.routing.now.routes in
-    let l = c.args.shared.now in
-    let m = c.args.metric.now in
-    let d = c.dearest_pair-dearest.result in
-    let is = dearest_path net routes c.as_slice-3.result.now l m c.as_slice.result.now c.as_slice-2.result.now c.as_slice-weights.result.now d
-    c.index-as_slice-dearest.result c.in_ok-path.field-0 (Some c.in-Some.path) c.as_slice.ensures c.as_slice-2.ensures c.as_slice-weights.ensures c.as_slice-3.ensures
-    c.in-Some.is c.requires.shared.shares_are.count c.dearest_pair-dearest.ensures c.in_ok-path.ensures
-    in
-    rw c.as_slice-in-Some.ensures (dearest_links net routes l m d c.in-Some.path c.requires.routing is).1
+    (links_read c.args.problem.now.net.now c.args.problem.now.routing.now.routes c.as_slice-3.result.now c.args.shared.now c.args.metric.now c.as_slice.result.now
+    c.as_slice-2.result.now c.as_slice-weights.result.now c.as_slice-in-Some.result.now c.dearest_pair-dearest.result c.index-as_slice-dearest.result c.in_ok-path.field-0
+    c.in-Some.path c.as_slice.ensures c.as_slice-2.ensures c.as_slice-weights.ensures c.as_slice-in-Some.ensures c.as_slice-3.ensures c.in-Some.is
+    c.requires.shared.shares_are.count c.dearest_pair-dearest.ensures c.in_ok-path.ensures c.requires.problem.routing).1
 
 pub returns-in_ok-next-in-Some : goal.returns-in_ok-next-in-Some
 returns-in_ok-next-in-Some c =
-    let net = c.args.net.now in
-    let routes = c.args.routing.now.routes in
+    let net = c.args.problem.now.net.now in
+    let routes = c.args.problem.now.routing.now.routes in
     let l = c.args.shared.now in
     let m = c.args.metric.now in
     let d = c.dearest_pair-dearest.result in
@@ -47,12 +35,12 @@ returns-in_ok-next-in-Some c =
     let raised = raised_read net c.as_slice-in-Some.result.now c.in-Some.path.links c.as_slice-weights.result.now m.weights c.in_ok-next-in-Some.next.items c.new.result
     c.as_slice-in-Some.ensures c.as_slice-weights.ensures c.new.ensures c.in_ok-next-in-Some.ensures.raised
     in
-    round_after net routes c.args.set.now l m c.new.result c.in-Some.path d c.requires.network c.requires.routing c.requires.shared c.requires.metric is raised
+    round_after net routes c.args.problem.now.set.now l m c.new.result c.in-Some.path d c.requires.problem.network c.requires.problem.routing c.requires.shared c.requires.metric is raised
 
 pub returns-in_ok-same-in-None : goal.returns-in_ok-same-in-None
 returns-in_ok-same-in-None c =
-    let net = c.args.net.now in
-    let routes = c.args.routing.now.routes in
+    let net = c.args.problem.now.net.now in
+    let routes = c.args.problem.now.routing.now.routes in
     let l = c.args.shared.now in
     let m = c.args.metric.now in
     let d = c.dearest_pair-dearest.result in
@@ -60,5 +48,5 @@ returns-in_ok-same-in-None c =
     c.index-as_slice-dearest.result c.in_ok-path.field-0 None c.as_slice.ensures c.as_slice-2.ensures c.as_slice-weights.ensures c.as_slice-3.ensures
     c.in-None.is c.requires.shared.shares_are.count c.dearest_pair-dearest.ensures c.in_ok-path.ensures
     in
-    no_round_after net routes c.args.set.now l m c.new-in-None.result c.new-in-None-3.result d c.requires.routing c.requires.shared c.requires.metric is
+    no_round_after net routes c.args.problem.now.set.now l m c.new-in-None.result c.new-in-None-3.result d c.requires.problem.routing c.requires.shared c.requires.metric is
     (c.new-in-None.ensures ∙ c.in_ok-same-in-None.ensures.items ∙ c.as_slice-weights.ensures) (c.new-in-None-3.ensures ∙ c.new-in-None-2.ensures.items)

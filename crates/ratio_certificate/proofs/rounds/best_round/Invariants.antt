@@ -5,8 +5,8 @@ use Rattle.ratio_certificate.proofs.rounds.best_round.Given as goal
 
 abbrev pub invariant-loop-k : goal.invariant-loop-k
 invariant-loop-k l =
-    IsRoundMetric l.net l.routing.routes l.shared l.k l.metric
+    IsRoundMetric l.problem.net.now l.problem.routing.now.routes l.shared l.k l.metric
     × (l.best.link ≡ l.shared.link)
-    × IsWeighting l.net l.routing.routes l.set l.best
-    × NeedsNoMore l.net l.routing.routes l.set l.shared.link l.k l.best
+    × IsWeighting l.problem.net.now l.problem.routing.now.routes l.problem.set.now l.best
+    × NeedsNoMore l.problem.net.now l.problem.routing.now.routes l.problem.set.now l.shared.link l.k l.best
     × (l.best.need ≤ 1000000 * 2 ^ 42)

@@ -17,7 +17,7 @@ loop-preserved c =
     let within : k < length links = omega (arith, inside, so_far.count) in
     let at : c.index-links-k.result ≡ shared_at links k = get_or_read links k c.index-links-k.result within c.index-links-k.is no_shared in
     let link_is = c.in_ok-found-in-Some.ensures.link ∙ ap (λ (l : SharedLink). l.link) at ∙ sym (so_far.links_are k within) in (
-      lesser_taken c.args.net.now c.args.routing.now.routes c.args.set.now links c.args.start.items list c.take_lesser.new.list.items k found inside so_far link_is
+      lesser_taken c.args.problem.now.net.now c.args.problem.now.routing.now.routes c.args.problem.now.set.now links c.args.start.items list c.take_lesser.new.list.items k found inside so_far link_is
           c.in_ok-found-in-Some.ensures.weighting c.take_lesser.ensures.lesser c.take_lesser.ensures.same,
       length-set c.loop.searched.items k true ∙ c.loop.invariant.1,
     )

@@ -6,13 +6,13 @@ use Rattle.ratio_certificate.proofs.seek.advance.Goals as goal
 
 pub weighting_of-requires-clause-weights : goal.weighting_of-requires-clause-weights
 weighting_of-requires-clause-weights c =
-    step_weights c.args.net.now c.in_ok-metric.metric.weights c.in_ok-metric.ensures.metric.count c.in_ok-metric.ensures.weights
+    step_weights c.args.problem.now.net.now c.in_ok-metric.metric.weights c.in_ok-metric.ensures.metric.count c.in_ok-metric.ensures.weights
 
 pub returns : goal.returns
 returns c =
-    let net = c.args.net.now in
-    let routes = c.args.routing.now.routes in
-    let set = c.args.set.now in
+    let net = c.args.problem.now.net.now in
+    let routes = c.args.problem.now.routing.now.routes in
+    let set = c.args.problem.now.set.now in
     let found = c.in_ok-found.found in
     let best = c.args.search.best in
     let lesser = c.lesser-best.result in
@@ -21,7 +21,7 @@ returns c =
     record {
       metric = c.in_ok-metric.ensures.metric;
       weights = c.in_ok-metric.ensures.weights;
-      scale = small_scale net routes set found c.requires.network c.requires.routing c.in_ok-found.ensures.weighting;
+      scale = small_scale net routes set found c.requires.problem.network c.requires.problem.routing c.in_ok-found.ensures.weighting;
       link = lesser_is (λ w. w.link ≡ c.args.shared.now.link) best found lesser keeps takes c.requires.search.link c.in_ok-found.ensures.link;
       best = lesser_is (IsWeighting net routes set) best found lesser keeps takes c.requires.search.best c.in_ok-found.ensures.weighting;
     }

@@ -1,6 +1,15 @@
-use Rattle.std.proofs.Common.{◌≡◌, ℕ, List, length, ap, ◌∙◌}
+use Rattle.std.proofs.Common.{◌≡◌, ℕ, List, length, arith, ap, ◌∙◌}
 use Rattle.te_model.proofs.Lists.{written_whole}
 use Rattle.ratio_certificate.proofs.seek.seek.Goals as goal
+
+pub respond-requires-clause-pricing : goal.respond-requires-clause-pricing
+respond-requires-clause-pricing c = record {
+  problem = c.requires.problem;
+  shared = c.requires.shared;
+  metric = c.loop-i.invariant.0.metric;
+  scale = c.loop-i.invariant.0.scale;
+  near = (omega arith, omega arith);
+}
 
 pub loop-i-preserved : goal.loop-i-preserved
 loop-i-preserved c =

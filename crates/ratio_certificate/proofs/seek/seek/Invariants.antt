@@ -6,7 +6,7 @@ use Rattle.ratio_certificate.proofs.seek.seek.Given as goal
 
 abbrev pub invariant-loop-i : goal.invariant-loop-i
 invariant-loop-i l =
-    IsSearch l.net l.routing.routes l.set l.shared l.search
-    × AreLoads l.net l.loads.items
-    × AreLastLinks l.net l.ways.lasts.items
+    IsSearch l.problem.net.now l.problem.routing.now.routes l.problem.set.now l.shared l.search
+    × AreLoads l.problem.net.now l.loads.items
+    × AreLastLinks l.problem.net.now l.ways.lasts.items
     × (1 ≤ l.parts) × (l.parts ≤ 128)

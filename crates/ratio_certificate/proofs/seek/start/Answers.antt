@@ -3,19 +3,19 @@ use Rattle.ratio_certificate.proofs.seek.start.Goals as goal
 
 pub weighting_of-requires-clause-weights : goal.weighting_of-requires-clause-weights
 weighting_of-requires-clause-weights c =
-    let net = c.args.net.now in
+    let net = c.args.problem.now.net.now in
     let m = c.in_ok-metric.metric in
-    step_weights net m.weights c.in_ok-metric.ensures.metric.count (first_weights net c.args.routing.now.routes c.args.shared.now m c.in_ok-metric.ensures)
+    step_weights net m.weights c.in_ok-metric.ensures.metric.count (first_weights net c.args.problem.now.routing.now.routes c.args.shared.now m c.in_ok-metric.ensures)
 
 pub returns : goal.returns
 returns c =
-    let net = c.args.net.now in
-    let routes = c.args.routing.now.routes in
+    let net = c.args.problem.now.net.now in
+    let routes = c.args.problem.now.routing.now.routes in
     let best = c.in_ok-best.best in
     record {
       metric = c.in_ok-metric.ensures.metric;
       weights = first_weights net routes c.args.shared.now c.in_ok-metric.metric c.in_ok-metric.ensures;
-      scale = small_scale net routes c.args.set.now best c.requires.network c.requires.routing c.in_ok-best.ensures.weighting;
+      scale = small_scale net routes c.args.problem.now.set.now best c.requires.problem.network c.requires.problem.routing c.in_ok-best.ensures.weighting;
       link = c.in_ok-best.ensures.link;
       best = c.in_ok-best.ensures.weighting;
     }

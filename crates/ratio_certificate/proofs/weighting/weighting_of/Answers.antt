@@ -9,12 +9,12 @@ need_by-need-requires-clause-weights c = λ h.
 
 pub returns-clause-weighting : goal.returns-clause-weighting
 returns-clause-weighting c =
-    let net = c.args.net.now in
+    let net = c.args.problem.now.net.now in
     let e = c.args.shared.now.link in
     let scale = c.scale_of-scale.result in
     let weights = c.args.metric.now.weights in
     let need : c.need_by-need.result ≡ need_by net e weights scale.a scale.b =
     subst (λ (ws : List ℕ). c.need_by-need.result ≡ need_by net e ws scale.a scale.b) c.as_slice.ensures c.need_by-need.ensures
     in
-    weighting_is net c.args.routing.now.routes c.args.set.now e scale.a scale.b c.need_by-need.result weights c.new.result
+    weighting_is net c.args.problem.now.routing.now.routes c.args.problem.now.set.now e scale.a scale.b c.need_by-need.result weights c.new.result
     (c.new.ensures ∙ c.in_ok-weights.ensures.items ∙ c.as_slice-2.ensures) c.requires.weights c.scale_of-scale.ensures.scale need

@@ -2,7 +2,7 @@ use Rattle.std.proofs.Common.{List, length, ap, arith, inl, inr}
 use Rattle.std.proofs.lemmas.Bool.{cases_lt}
 use Rattle.te_model.specs.declared.network.Link.{Link}
 use Rattle.ratio_certificate.proofs.Trying.{none_gives}
-use Rattle.ratio_certificate.proofs.changes.find_change.Goals as goal
+use Rattle.ratio_certificate.proofs.changes.Changes.find.Goals as goal
 
 pub returns-in-None-clause-none : goal.returns-in-None-clause-none
 returns-in-None-clause-none c =

@@ -1,9 +1,10 @@
 use Rattle.ratio_certificate.proofs.Trying.{none_gives, settled_at}
-use Rattle.ratio_certificate.proofs.changes.try_link.Goals as goal
+use Rattle.ratio_certificate.proofs.changes.Changes.try_link.Goals as goal
 
 pub returns-in-None-clause-none : goal.returns-in-None-clause-none
 returns-in-None-clause-none c =
+    let it = c.args.self.now in
     let double = rw c.in-None.is at c.in_ok-other.ensures.none in
     none_gives c.try_half.result _ _
-    (λ half. settled_at c.args.net.now c.args.routing.now.routes c.args.set.now c.args.shared.now.link c.args.need c.args.metric.now.weights c.args.link double half)
+    (λ half. settled_at it.problem.net.now it.problem.routing.now.routes it.problem.set.now it.shared.now.link it.need it.metric.now.weights c.args.link double half)
     c.try_half.ensures.none

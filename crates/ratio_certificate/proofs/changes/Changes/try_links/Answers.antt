@@ -1,7 +1,7 @@
 use Rattle.std.proofs.Common.{◌≡◌, arith, sym, subst, inl, inr}
 use Rattle.std.proofs.lemmas.Bool.{cases_lt}
-use Rattle.ratio_certificate.specs.Steps.{IsSettledAt}
-use Rattle.ratio_certificate.proofs.changes.try_links.Goals as goal
+use Rattle.ratio_certificate.specs.Changing.{IsSettledIn}
+use Rattle.ratio_certificate.proofs.changes.Changes.try_links.Goals as goal
 
 pub loop-h-preserved : goal.loop-h-preserved
 loop-h-preserved c = λ h first below.
@@ -10,7 +10,7 @@ loop-h-preserved c = λ h first below.
       | inl lt ↦ c.loop-h.invariant h first lt
       | inr ge ↦
           let last : h ≡ c.loop-h.h = omega arith in
-          subst (IsSettledAt c.args.net.now c.args.routing.now.routes c.args.set.now c.args.shared.now.link c.args.need c.args.metric.now.weights) (sym last) here
+          subst (IsSettledIn c.args.self.now) (sym last) here
     ]
 
 pub returns-clause-none : goal.returns-clause-none

@@ -1,0 +1,11 @@
+//! What a certificate is made for.
+use routing::Routing;
+use te_model::{DemandSet, Network};
+
+/// A network, a routing of it, and the demand matrices for which a certificate is to hold.
+#[derive(Clone, Copy)]
+pub struct Problem<'a> {
+    pub net: &'a Network,
+    pub routing: &'a Routing,
+    pub set: &'a DemandSet,
+}
