@@ -1,11 +1,12 @@
 -- Laws of queues.
-use Rattle.std.proofs.Common.{◌≡◌, ℕ, zero, suc, ◌+◌, ◌*◌, ◌<◌, ◌≤◌, Bool, true, false, List, [], ◌∷◌, ◌++◌, length, map, take, slice_index, arith, refl, ap, sym, ◌∙◌, inl, inr, ◌==◌, ◌&&◌, add-one, subst, length-append}
+use Rattle.std.proofs.Common.{◌≡◌, ℕ, zero, suc, ◌+◌, ◌*◌, ◌^◌, ◌<◌, ◌≤◌, Bool, true, false, List, [], ◌∷◌, ◌++◌, length, map, take, slice_index, arith, refl, ap, sym, ◌∙◌, inl, inr, ◌==◌, ◌&&◌, add-one, subst, length-append}
 use Rattle.std.specs.Prelude.{if◌then◌else◌, nat_lt, slice_index_or, All}
 use Rattle.std.proofs.Math.ListN.{set}
 use Rattle.std.proofs.lemmas.Bool.{cases_eq, cases_lt}
 use Rattle.std.proofs.lemmas.Bool.Decides.{nat_tests}
 use Rattle.std.proofs.lemmas.List.{append-nil, append_assoc, map-append, length-set, get_or-set_same, get_or-set_other, get_or_append_left, get_or-append-add, get_or_default, get_or_past, length-take-le, take_more}
 use Rattle.std.proofs.lemmas.List.Elements.{All-get_or}
+use Rattle.te_model.specs.declared.limits.TheConstants.{FORMAT_2}
 use Rattle.te_model.specs.declared.route.PathShare.{PathShare}
 use Rattle.te_model.specs.declared.route.PairRoutes.{PairRoutes}
 use Rattle.te_model.specs.Path.{routes_at, no_routes}
@@ -269,6 +270,21 @@ few_flows (suc n) piece few =
       length-append (concat_below n piece) (piece n),
       few_flows n piece (λ p below. few p (omega arith)),
       few n (omega arith),
+    )
+
+-- up to the paths of a pair there are few flows
+pub flows_within : (rates : List PairRoutes) (p first : ℕ) (paths : List PathShare) → p < length rates →
+    length rates ≤ FORMAT_2.nodes * FORMAT_2.nodes → ((q : ℕ) → q < length rates → length (paths_of rates q) ≤ 4096) →
+    first ≡ length (concat_below p (paths_of rates)) → paths ≡ paths_of rates p → first + length paths ≤ 2 ^ 31
+flows_within rates p first paths inside pairs few before is =
+    omega (
+      arith,
+      before,
+      flows_next p (paths_of rates),
+      ap length is,
+      few_flows (p + 1) (paths_of rates) (λ q below. few q (omega arith)),
+      pairs,
+      inside,
     )
 
 -- the paths of a pair, as the code lends them

@@ -1,3 +1,4 @@
+use crate::thirds::assert_thirds;
 use ecmp_split::*;
 use routing::decompose;
 use sample_networks::{network, pairs, three_ways};
@@ -57,13 +58,7 @@ fn paths_of_equal_splits(rt: HostRuntime) -> Result<(), Fail> {
     match Ecmp.prepare(alloc, &net, &there) {
         Ok(plan) => {
             let paths = Ecmp.fixed(&plan).routes.as_slice()[0].paths.as_slice();
-            assert_eq!(rt; paths.len(), 3);
-            assert!(rt; paths[0].links.as_slice() == [0, 3].as_slice());
-            assert_eq!(rt; paths[0].weight, 333_334);
-            assert!(rt; paths[1].links.as_slice() == [1, 4].as_slice());
-            assert_eq!(rt; paths[1].weight, 333_333);
-            assert!(rt; paths[2].links.as_slice() == [2, 5].as_slice());
-            assert_eq!(rt; paths[2].weight, 333_333);
+            assert_thirds(&rt, paths);
         }
         Err(_) => assert!(rt; false),
     }

@@ -13,3 +13,5 @@ mod routing_tests;
 mod scheme_tests;
 #[cfg(test)]
 mod shortest_path_tests;
+#[cfg(test)]
+mod thirds;

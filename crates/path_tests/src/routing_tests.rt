@@ -1,6 +1,7 @@
 ghost use Rattle.std.specs.Prelude.{◌≡◌, IfOk, length};
 ghost use Rattle.path_tests.specs.RoutingSamples.{fork, halves, three_middles, three_nodes};
 
+use crate::thirds::assert_thirds;
 use routing::*;
 use sample_networks::{matrix, network, weighted_paths, weighted_routes};
 use std::alloc::{AllocError, Global};
@@ -85,13 +86,7 @@ fn a_flow_comes_apart_into_paths(rt: HostRuntime) -> Result<(), Fail> {
     let net = three_middles(alloc)?;
     match thirds_apart(alloc, &net) {
         Ok(paths) => {
-            assert_eq!(rt; paths.len(), 3);
-            assert!(rt; paths[0].links.as_slice() == [0, 3].as_slice());
-            assert_eq!(rt; paths[0].weight, 333_334);
-            assert!(rt; paths[1].links.as_slice() == [1, 4].as_slice());
-            assert_eq!(rt; paths[1].weight, 333_333);
-            assert!(rt; paths[2].links.as_slice() == [2, 5].as_slice());
-            assert_eq!(rt; paths[2].weight, 333_333);
+            assert_thirds(&rt, &paths);
         }
         Err(_) => assert!(rt; false),
     }

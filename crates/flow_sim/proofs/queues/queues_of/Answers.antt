@@ -3,7 +3,7 @@ use Rattle.std.specs.Prelude.{slice_index_or}
 use Rattle.te_model.specs.declared.route.PairRoutes.{PairRoutes}
 use Rattle.flow_sim.specs.Queues.{HasRoom, AreAdded, AreQueues}
 use Rattle.flow_sim.specs.Traffic.{concat_below, paths_of}
-use Rattle.flow_sim.proofs.QueueLaws.{concat_next, flows_next, few_flows, paths_read, room_for, queues_more}
+use Rattle.flow_sim.proofs.QueueLaws.{concat_next, flows_next, flows_within, paths_read, room_for, queues_more}
 use Rattle.flow_sim.proofs.TableLaws.{written}
 use Rattle.flow_sim.proofs.queues.queues_of.Goals as goal
 
@@ -25,15 +25,7 @@ add_paths-requires-clause-numbers c =
     let inside : p < length rates = subst (λ (rs : List PairRoutes). p < length rs) c.as_slice-pairs.ensures c.loop-p-test.true in
     let paths = paths_read rates c.as_slice-pairs.result.now p c.index-pairs-p.result c.as_slice-paths.result.now
     c.as_slice-pairs.ensures c.loop-p-test.true c.as_slice-paths.ensures in
-    omega (
-      arith,
-      c.loop-p.invariant.first,
-      flows_next p (paths_of rates),
-      ap length paths,
-      few_flows (p + 1) (paths_of rates) (λ q below. c.requires.few q (omega arith)),
-      c.requires.pairs,
-      inside,
-    )
+    flows_within rates p c.loop-p.first c.as_slice-paths.result.now inside c.requires.pairs c.requires.few c.loop-p.invariant.first paths
 
 pub overflow_cast-first : goal.overflow_cast-first
 overflow_cast-first c =
@@ -51,15 +43,7 @@ overflow_add-first c =
     let inside : p < length rates = subst (λ (rs : List PairRoutes). p < length rs) c.as_slice-pairs.ensures c.loop-p-test.true in
     let paths = paths_read rates c.as_slice-pairs.result.now p c.index-pairs-p.result c.as_slice-paths.result.now
     c.as_slice-pairs.ensures c.loop-p-test.true c.as_slice-paths.ensures in
-    omega (
-      arith,
-      c.loop-p.invariant.first,
-      flows_next p (paths_of rates),
-      ap length paths,
-      few_flows (p + 1) (paths_of rates) (λ q below. c.requires.few q (omega arith)),
-      c.requires.pairs,
-      inside,
-    )
+    omega (arith, flows_within rates p c.loop-p.first c.as_slice-paths.result.now inside c.requires.pairs c.requires.few c.loop-p.invariant.first paths)
 
 pub loop-p-preserved : goal.loop-p-preserved
 loop-p-preserved c =
