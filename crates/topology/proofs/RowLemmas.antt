@@ -1,10 +1,12 @@
 -- What a row does to the network so far, and the network once no row is left.
-use Rattle.std.proofs.Common.{ℕ, ◌≡◌, ◌==◌, refl, List, length, true, false, Result, Ok, Err, nat_lt, arith}
+use Rattle.std.proofs.Common.{ℕ, ◌≡◌, ◌∙◌, ◌==◌, ap, refl, List, ◌∷◌, length, true, false, Result, Ok, Err, nat_lt, arith}
 use Rattle.std.proofs.lemmas.Bool.Decides.{nat_tests}
 use Rattle.te_model.specs.declared.network.Network.{Network}
+use Rattle.csv_records.specs.Rows.{and_then, fold_rows, records_of}
+use Rattle.csv_records.proofs.RowFacts.{after-header}
 use Rattle.topology.specs.declared.fault.TopologyFault.{TopologyFault}
 use Rattle.topology.specs.declared.fault.TopologyFault.TheVariants as fault
-use Rattle.topology.specs.Topology.{Entry, entry_of, with_link, within, with_row, closed}
+use Rattle.topology.specs.Topology.{Entry, entry_of, with_link, within, with_row, is_header, no_links, closed, topology_of}
 
 module _ (net : Network) (row : ℕ) (r : List (List ℕ)) where
   -- a row with a fault of its own
@@ -14,6 +16,11 @@ module _ (net : Network) (row : ℕ) (r : List (List ℕ)) where
   -- what a row does that says a link
   pub row-link : (o : Result Network TopologyFault) (e : Entry) → entry_of row r ≡ Ok e → within row (with_link net e) ≡ o → with_row net row r ≡ o
   row-link o e said is = rw (said, is) refl
+
+-- a file that begins with the header is the network of its rows
+pub made-of-rows : (bytes : List ℕ) (header : List (List ℕ)) (rows : List (List (List ℕ))) (o : Result Network TopologyFault)
+    → records_of bytes ≡ header ∷ rows → is_header header ≡ true → fold_rows with_row no_links 1 rows ≡ o → topology_of bytes ≡ and_then closed o
+made-of-rows bytes header rows o first is all = ap (and_then closed) (after-header with_row is_header fault.Header no_links (records_of bytes) header rows first is ∙ all)
 
 -- no row is left
 pub closed-empty : (net : Network) → length net.links ≡ 0 → closed net ≡ Err fault.Empty

@@ -1,6 +1,7 @@
 //! Topologies: the network that the rows of a CSV file make.
 #![tactic(auto)]
 
+mod draft;
 mod entry;
 mod fault;
 mod nodes;

@@ -1,17 +1,17 @@
 //! Reading a topology.
 
-ghost use Rattle.std.specs.Prelude.{◌≡◌, ◌≢◌, ◌≤◌, ◌+◌, OnOk, IfErr, Ok, Err, length, IfOk, IsTrue};
+ghost use Rattle.std.specs.Prelude.{◌≡◌, ◌≢◌, ◌≤◌, ◌∷◌, OnOk, IfErr, Ok, Err, IfOk, IsTrue};
 ghost use Rattle.te_model.specs.Network.{is_well_formed, link_count};
-ghost use Rattle.topology.specs.declared.fault.TopologyFault.{TopologyFault};
+ghost use Rattle.csv_records.specs.Rows.{fold_rows, fold_table};
 ghost use Rattle.topology.specs.declared.fault.TopologyFault.TheVariants as fault;
-ghost use Rattle.topology.specs.Topology.{topology_of, with_link, within, is_header};
+ghost use Rattle.topology.specs.Topology.{topology_of, with_row, is_header, no_links};
 
-use crate::entry::{Entry, read_entry};
+use crate::draft::Draft;
+use crate::entry::read_entry;
 use crate::fault::TopologyFault;
-use crate::nodes::Nodes;
 use csv_records::Rows;
 use std::alloc::Global;
-use te_model::{Items, Link, MAX_LINKS, MAX_NODES, Network};
+use te_model::Network;
 
 /// Reads a topology: the header `source,target,capacity,cost`, and then a row for each link.
 ///
@@ -27,24 +27,22 @@ pub fn read(alloc: Global, bytes: &[u8]) -> Result<Network, TopologyFault>
     ensures refused { IfErr result (λ e. e ≢ fault.Memory → topology_of bytes.now ≡ Err e) }
 {
     let mut rows = Rows::new(alloc, bytes);
-    if !rows.advance()? || !has_header(&rows) {
+    read_header(&mut rows)?;
+    let mut draft = Draft::new(alloc);
+    read_links(alloc, &mut rows, &mut draft)?;
+    draft.close(alloc)
+}
+
+// Reads the first record, which is the header.
+fn read_header(rows: &mut Rows<'_>) -> Result<(), TopologyFault>
+    ensures first { OnOk result (rows.old.rest ≡ rows.new.current ∷ rows.new.rest) }
+    ensures header { OnOk result (IsTrue (is_header rows.new.current)) }
+    ensures refused { IfErr result (λ e. e ≢ fault.Memory → fold_table is_header fault.Header with_row no_links rows.old.rest ≡ Err e) }
+{
+    if !rows.advance()? || !has_header(rows) {
         return Err(TopologyFault::Header);
     }
-    let mut nodes = Nodes::new(alloc);
-    let mut links = Vec::new(alloc);
-    let mut row = 1u64;
-    while rows.advance()? {
-        let entry = read_entry(&rows, row)?;
-        add_link(alloc, &mut nodes, &mut links, entry, row)?;
-        row += 1;
-    }
-    if links.is_empty() {
-        return Err(TopologyFault::Empty);
-    }
-    Ok(Network {
-        names: nodes.into_names(alloc)?,
-        links: Items::new(links),
-    })
+    Ok(())
 }
 
 // Whether the record that was read last is the header.
@@ -62,34 +60,17 @@ fn has_header(rows: &Rows<'_>) -> bool
     }
 }
 
-// Adds a link, where the network stays within its limits.
-fn add_link(
-    alloc: Global,
-    nodes: &mut Nodes,
-    links: &mut Vec<Link>,
-    link: Entry<'_>,
-    row: u64,
-) -> Result<(), TopologyFault>
-    requires nodes { length nodes.old ≤ MAX_NODES }
-    ensures added { OnOk result (within row (with_link (record { names = nodes.old; links = links.old.items }) (record { source = link.entry.source.now; target = link.entry.target.now; capacity = link.entry.capacity; cost = link.entry.cost })) ≡ Ok (record { names = nodes.new; links = links.new.items })) }
-    ensures nodes { OnOk result (length nodes.new ≤ MAX_NODES) }
-    ensures links { OnOk result (length links.new.items ≡ length links.old.items + 1) }
-    ensures few { OnOk result (length links.new.items ≤ MAX_LINKS) }
-    ensures refused { IfErr result (λ e. e ≢ fault.Memory → within row (with_link (record { names = nodes.old; links = links.old.items }) (record { source = link.entry.source.now; target = link.entry.target.now; capacity = link.entry.capacity; cost = link.entry.cost })) ≡ Err e) }
+// Reads the rows that are left, a link from each, into a draft that has none yet.
+fn read_links(alloc: Global, rows: &mut Rows<'_>, draft: &mut Draft) -> Result<(), TopologyFault>
+    requires { draft.old ≡ no_links }
+    ensures links { OnOk result (fold_rows with_row no_links 1 rows.old.rest ≡ Ok draft.new) }
+    ensures refused { IfErr result (λ e. e ≢ fault.Memory → fold_rows with_row no_links 1 rows.old.rest ≡ Err e) }
 {
-    let tail = nodes.number(alloc, link.source)? as u32;
-    let head = nodes.number(alloc, link.target)? as u32;
-    if nodes.len() > MAX_NODES || links.len() >= MAX_LINKS {
-        return Err(TopologyFault::TooMany(row));
-    }
-    let added = Link {
-        tail,
-        head,
-        capacity: link.capacity,
-        cost: link.cost,
-    };
-    if links.push(added).is_err() {
-        return Err(TopologyFault::Memory);
+    let mut row = 1u64;
+    while rows.advance()? {
+        let entry = read_entry(rows, row)?;
+        draft.add_link(alloc, entry, row)?;
+        row += 1;
     }
     Ok(())
 }

@@ -1,72 +1,34 @@
-use Rattle.std.proofs.Common.{◌≡◌, ◌≢◌, ◌∙◌, ap, sym, refl, true, arith, Ok, Err, nat_lt, vec_len}
-use Rattle.std.proofs.lemmas.Grind.{common_steps}
-use Rattle.csv_records.specs.Rows.{and_then, records_of}
-use Rattle.csv_records.proofs.RowFacts.{rows-end, rows-fault, rows-more, no-record, no-header, after-header, passed}
-use Rattle.topology.specs.Topology.{topology_of, with_row, is_header, no_links, closed}
+use Rattle.std.proofs.Common.{◌≡◌, ◌≢◌, ◌∙◌, ◌≤◌, Ok, Err, true, ap}
+use Rattle.std.proofs.lemmas.Result.{IfOk-weaker, IfErr-weaker}
+use Rattle.te_model.specs.Network.{is_well_formed, link_count}
+use Rattle.csv_records.specs.Rows.{and_then}
+use Rattle.csv_records.proofs.RowFacts.{passed}
+use Rattle.topology.specs.Topology.{topology_of, closed}
 use Rattle.topology.specs.declared.fault.TopologyFault.{TopologyFault}
 use Rattle.topology.specs.declared.fault.TopologyFault.TheVariants as fault
-use Rattle.topology.proofs.RowLemmas.{row-fault, row-link, closed-empty, closed-done, empty-links, some-links}
+use Rattle.topology.proofs.RowLemmas.{made-of-rows}
 use Rattle.topology.proofs.SoundLemmas.{topology-sound, topology-has-links}
 use Rattle.topology.proofs.reader.read.Goals as goal
-use Rattle.topology.proofs.reader.read.Goals.{then-not-branch-via-then-not-branch, then-not-branch-via-else-not-branch+then-not-has_header}
 
-pub returns-then-not-branch-clause-refused : goal.returns-then-not-branch-clause-refused
-returns-then-not-branch-clause-refused c = λ _. elim c.then-not-branch.branch [
-  | then-not-branch-via-then-not-branch w ↦
-      ap (and_then closed) (no-record with_row is_header fault.Header no_links (records_of c.args.bytes.now)
-      (rw c.new-rows.ensures at (c.in_ok-advance.ensures.ended w.if-not-branch.true)))
-  | then-not-branch-via-else-not-branch+then-not-has_header w ↦
-      ap (and_then closed) (no-header with_row is_header fault.Header no_links (records_of c.args.bytes.now) c.advance.new.self.current c.advance.new.self.rest
-      (rw c.new-rows.ensures at (c.in_ok-advance.ensures.found w.if-not-branch.false)) (sym w.if-not-has_header.ensures))
-]
+pub returns-in_err-read_header-clause-refused : goal.returns-in_err-read_header-clause-refused
+returns-in_err-read_header-clause-refused c =
+    passed _ c.in_err-read_header.field-0.0 (λ (e : TopologyFault). e ≢ fault.Memory → topology_of c.args.bytes.now ≡ Err e) c.from_residual.ensures.1
+    (λ n. ap (and_then closed) (rw c.new-rows.ensures at (c.in_err-read_header.ensures.refused n)))
 
-pub loop-links-init : goal.loop-links-init
-loop-links-init c = rw (c.new-nodes.ensures, c.new-links.ensures.items) (
-  ap (and_then closed) (after-header with_row is_header fault.Header no_links (records_of c.args.bytes.now) c.advance.new.self.current c.advance.new.self.rest
-      (rw c.new-rows.ensures at (c.in_ok-advance.ensures.found c.if-not-branch.false)) (sym c.if-not-has_header.ensures)),
-  refl,
-  omega arith,
-  omega arith,
-)
+pub returns-in_err-read_links-clause-refused : goal.returns-in_err-read_links-clause-refused
+returns-in_err-read_links-clause-refused c =
+    passed _ c.in_err-read_links.field-0.0 (λ (e : TopologyFault). e ≢ fault.Memory → topology_of c.args.bytes.now ≡ Err e) c.from_residual-in_err-read_links.ensures.1
+    (λ n. made-of-rows c.args.bytes.now _ _ _ (rw c.new-rows.ensures at c.in_ok-read_header.ensures.first) c.in_ok-read_header.ensures.header (c.in_err-read_links.ensures.refused n))
 
-pub returns-in_err-entry-clause-refused : goal.returns-in_err-entry-clause-refused
-returns-in_err-entry-clause-refused c =
-    passed _ c.in_err-entry.field-0.0 (λ (e : TopologyFault). e ≢ fault.Memory → topology_of c.args.bytes.now ≡ Err e) c.from_residual-in_err-entry.ensures.1
-    (λ _. c.loop-links.invariant.0 ∙ ap (and_then closed) (rows-fault with_row _ _ _ _ _ _ (c.in_ok-advance-2.ensures.found c.if-branch.true)
-    (row-fault (record { names = c.loop-links.nodes; links = c.loop-links.links.items }) _ _ _ c.in_err-entry.ensures.refused)))
-
-pub returns-in_err-add_link-clause-refused : goal.returns-in_err-add_link-clause-refused
-returns-in_err-add_link-clause-refused c =
-    passed _ c.in_err-add_link.field-0.0 (λ (e : TopologyFault). e ≢ fault.Memory → topology_of c.args.bytes.now ≡ Err e) c.from_residual-in_err-add_link.ensures.1
-    (λ n. c.loop-links.invariant.0 ∙ ap (and_then closed) (rows-fault with_row _ _ _ _ _ _ (c.in_ok-advance-2.ensures.found c.if-branch.true)
-    (row-link (record { names = c.loop-links.nodes; links = c.loop-links.links.items }) _ _ _ _ c.in_ok-entry.ensures.entry (c.in_err-add_link.ensures.refused n))))
-
-pub loop-links-preserved : goal.loop-links-preserved
-loop-links-preserved c =
-    let i = c.loop-links.invariant in
-    let e = c.in_ok-add_link.ensures in (
-      i.0 ∙ ap (and_then closed) (rows-more with_row _ _ _ _ _ _ (c.in_ok-advance-2.ensures.found c.if-branch.true) (row-link (record { names = c.loop-links.nodes; links = c.loop-links.links.items }) _ _ _ _ c.in_ok-entry.ensures.entry e.added)),
-      omega (arith, i.1, e.links),
-      e.nodes,
-      e.few,
-    )
-
-pub returns-then-is_empty-clause-refused : goal.returns-then-is_empty-clause-refused
-returns-then-is_empty-clause-refused c =
-    λ _. c.loop-links.invariant.0 ∙ ap (and_then closed) (rows-end with_row _ _ _ (c.in_ok-advance-2.ensures.ended c.if-branch.false))
-    ∙ closed-empty _ (let n : vec_len c.loop-links.links ≡ 0 = empty-links _ (sym c.if-is_empty.ensures) in grind (arith, common_steps))
-
-made : (c : goal.After-drop-rows-inside-7) → topology_of c.args.bytes.now ≡ Ok (record { names = c.in_ok-into_names.field-0; links = c.new.result })
-made c =
-    rw (c.in_ok-into_names.ensures, c.new.ensures) (c.loop-links.invariant.0
-    ∙ ap (and_then closed) (rows-end with_row _ _ _ (c.in_ok-advance-2.ensures.ended c.if-branch.false))
-    ∙ closed-done _ (let n : nat_lt 0 (vec_len c.loop-links.links) ≡ true = some-links _ (sym c.if-is_empty.ensures) in grind (arith, common_steps)))
-
-pub returns-clause-network : goal.returns-clause-network
-returns-clause-network c = made c
-
-pub returns-clause-well_formed : goal.returns-clause-well_formed
-returns-clause-well_formed c = topology-sound c.args.bytes.now _ (made c)
-
-pub returns-clause-links : goal.returns-clause-links
-returns-clause-links c = topology-has-links c.args.bytes.now _ (made c)
+pub returns : goal.returns
+returns c =
+    let bytes = c.args.bytes.now in
+    let made : topology_of bytes ≡ closed c.read_links.new.draft =
+    made-of-rows bytes _ _ _ (rw c.new-rows.ensures at c.in_ok-read_header.ensures.first) c.in_ok-read_header.ensures.header c.in_ok-read_links.ensures.links in
+    let network = IfOk-weaker c.close.result _ (λ net. topology_of bytes ≡ Ok net) (λ net h. made ∙ h) c.close.ensures.network in
+    record {
+      network = network;
+      well_formed = IfOk-weaker c.close.result _ (λ net. is_well_formed net ≡ true) (topology-sound bytes) network;
+      links = IfOk-weaker c.close.result _ (λ net. 1 ≤ link_count net) (topology-has-links bytes) network;
+      refused = IfErr-weaker c.close.result _ (λ e. e ≢ fault.Memory → topology_of bytes ≡ Err e) (λ e h n. made ∙ h n) c.close.ensures.refused;
+    }
