@@ -2,10 +2,14 @@
 use Rattle.std.proofs.Common.{ℕ, ◌≤◌, ◌<◌, ◌≡◌, ◌≢◌, ◌∙◌, refl, List, [], ◌∷◌, ◌++◌, length, Bool, true, false, ◌&&◌, nat_lt, Result, Ok, Err, arith, if◌then◌else◌}
 use Rattle.std.proofs.lemmas.Bool.Decides.{nat_tests}
 use Rattle.csv_records.specs.Field.{is_number, digits_from}
+use Rattle.csv_records.specs.Rows.{fold_rows, records_of}
+use Rattle.csv_records.proofs.RowFacts.{after-header}
 use Rattle.failure.specs.declared.outage.Outage.{Outage}
+use Rattle.failure.specs.declared.outage.Failures.{Failures}
 use Rattle.failure.specs.declared.fault.FailureFault.{FailureFault}
 use Rattle.failure.specs.declared.fault.FailureFault.TheVariants as fault
-use Rattle.failure.specs.File.{outage_of, outage_of_fields, outage_within, with_row}
+use Rattle.failure.specs.File.{outage_of, outage_of_fields, outage_within, with_row, is_header, failures_of}
+use Rattle.failure.specs.Series.{no_failures}
 
 pub other-fields : (links steps row : ℕ) (xs : List (List ℕ)) → length xs ≢ 3 → outage_of links steps row xs ≡ Err (fault.Fields row)
 unfolding outage_of
@@ -79,3 +83,8 @@ row-added links steps row list r o e = rw e refl
 pub row-refused : (links steps row : ℕ) (list : List Outage) (r : List (List ℕ)) (f : FailureFault) → outage_of links steps row r ≡ Err f
     → with_row links steps (record { list = list }) row r ≡ Err f
 row-refused links steps row list r f e = rw e refl
+
+-- a file that begins with the header says what its rows say
+pub failures-of-rows : (links steps : ℕ) (bytes : List ℕ) (header : List (List ℕ)) (rows : List (List (List ℕ))) (o : Result Failures FailureFault)
+    → records_of bytes ≡ header ∷ rows → is_header header ≡ true → fold_rows (with_row links steps) no_failures 1 rows ≡ o → failures_of links steps bytes ≡ o
+failures-of-rows links steps bytes header rows o first is all = after-header (with_row links steps) is_header fault.Header no_failures (records_of bytes) header rows first is ∙ all

@@ -1,9 +1,11 @@
 //! Reading a failure file.
 
-ghost use Rattle.std.specs.Prelude.{◌≡◌, ◌≢◌, ◌<◌, ◌^◌, All, IfErr, IfOk, IsTrue, Ok, Err};
+ghost use Rattle.std.specs.Prelude.{◌≡◌, ◌≢◌, ℕ, ◌<◌, ◌^◌, ◌∷◌, All, IfErr, IfOk, IsTrue, OnOk, Ok, Err};
 ghost use Rattle.te_model.specs.Network.{is_well_formed, link_count};
+ghost use Rattle.csv_records.specs.Rows.{fold_rows, fold_table};
 ghost use Rattle.failure.specs.declared.fault.FailureFault.TheVariants as fault;
-ghost use Rattle.failure.specs.File.{failures_of, outage_of, is_header, IsOutage};
+ghost use Rattle.failure.specs.File.{failures_of, outage_of, with_row, is_header, IsOutage};
+ghost use Rattle.failure.specs.Series.{no_failures};
 
 use crate::fault::FailureFault;
 use crate::outage::{Failures, Outage};
@@ -29,20 +31,21 @@ pub fn read(
     ensures refused { IfErr result (λ e. e ≢ fault.Memory → failures_of (link_count net.now) steps bytes.now ≡ Err e) }
 {
     let mut rows = Rows::new(alloc, bytes);
-    if !rows.advance()? || !has_header(&rows) {
+    read_header(&mut rows)?;
+    let links = net.links.as_slice().len();
+    read_outages(alloc, &mut rows, links, steps)
+}
+
+// Reads the first record, which is the header.
+fn read_header(rows: &mut Rows<'_>) -> Result<(), FailureFault>
+    ensures first { OnOk result (rows.old.rest ≡ rows.new.current ∷ rows.new.rest) }
+    ensures header { OnOk result (IsTrue (is_header rows.new.current)) }
+    ensures refused { IfErr result (λ e. e ≢ fault.Memory → (links steps : ℕ) → fold_table is_header fault.Header (with_row links steps) no_failures rows.old.rest ≡ Err e) }
+{
+    if !rows.advance()? || !has_header(rows) {
         return Err(FailureFault::Header);
     }
-    let links = net.links.as_slice().len();
-    let mut list = Vec::new(alloc);
-    let mut row = 1u64;
-    while rows.advance()? {
-        let outage = read_outage(&rows, row, links, steps)?;
-        list.push(outage)?;
-        row += 1;
-    }
-    Ok(Failures {
-        list: Items::new(list),
-    })
+    Ok(())
 }
 
 // Whether the record that was read last is the header.
@@ -55,6 +58,30 @@ fn has_header(rows: &Rows<'_>) -> bool
         }
         None => false,
     }
+}
+
+// Reads the rows that are left, an outage from each.
+fn read_outages(
+    alloc: Global,
+    rows: &mut Rows<'_>,
+    links: usize,
+    steps: u32,
+) -> Result<Failures, FailureFault>
+    requires { links < 2 ^ 32 }
+    ensures failures { IfOk result (λ f. fold_rows (with_row links steps) no_failures 1 rows.old.rest ≡ Ok f) }
+    ensures in_range { IfOk result (λ f. All (IsOutage links steps) f.list) }
+    ensures refused { IfErr result (λ e. e ≢ fault.Memory → fold_rows (with_row links steps) no_failures 1 rows.old.rest ≡ Err e) }
+{
+    let mut list = Vec::new(alloc);
+    let mut row = 1u64;
+    while rows.advance()? {
+        let outage = read_outage(rows, row, links, steps)?;
+        list.push(outage)?;
+        row += 1;
+    }
+    Ok(Failures {
+        list: Items::new(list),
+    })
 }
 
 // What the row says that was read last, or the first of its faults.
