@@ -1,23 +1,17 @@
--- What a table holds after a row more, and the series that it gives.
-use Rattle.std.proofs.Common.{ℕ, ◌+◌, ◌*◌, ◌/◌, ◌≤◌, ◌<◌, ◌≡◌, ◌∙◌, refl, sym, ap, List, [], ◌∷◌, ◌++◌, map, filter, cond, length, vec_len, append-nil, Bool, true, false, ◌&&◌, ◌||◌, ◌==◌, nat_lt, nat_le, is_some, Option, Some, Result, Ok, Err, arith, inl, inr, max, if◌then◌else◌}
+-- What a table holds after a row more, and the pairs that it declares.
+use Rattle.std.proofs.Common.{ℕ, ◌+◌, ◌*◌, ◌/◌, ◌≤◌, ◌<◌, ◌≡◌, ◌∙◌, refl, ap, List, [], ◌∷◌, ◌++◌, map, filter, cond, length, vec_len, append-nil, Bool, true, false, ◌&&◌, ◌||◌, ◌==◌, nat_lt, nat_le, is_some, Option, Some, Ok, Err, arith, inl, inr, max, if◌then◌else◌}
 use Rattle.std.proofs.lemmas.Bool.Decides.{nat_tests}
 use Rattle.std.specs.List.{range_with_len}
 use Rattle.std.proofs.lemmas.List.FromFn.{filter_of_map_range_with_len_more}
 use Rattle.std.proofs.lemmas.Bool.{cases_lt}
 use Rattle.std.proofs.Math.Nat.{mul-le-mul_left}
-use Rattle.te_model.specs.declared.network.Network.{Network}
 use Rattle.te_model.specs.declared.route.Pair.{Pair}
-use Rattle.te_model.specs.Network.{node_count}
-use Rattle.csv_records.specs.Rows.{and_then, fold_rows}
-use Rattle.csv_records.proofs.RowFacts.{rows-end, rows-fault, rows-more}
-use Rattle.traffic_matrix.specs.declared.series.Series.{Series}
 use Rattle.traffic_matrix.specs.declared.entry.Entry.{Entry}
 use Rattle.traffic_matrix.specs.declared.demands.Demands.{Demands}
-use Rattle.traffic_matrix.specs.declared.fault.MatrixFault.{MatrixFault}
 use Rattle.traffic_matrix.specs.declared.fault.MatrixFault.TheVariants as fault
 use Rattle.traffic_matrix.specs.Pairs.{IsWithin, same_pair, pair_of_place}
-use Rattle.traffic_matrix.specs.Series.{demand_in, series_of}
-use Rattle.traffic_matrix.specs.Rows.{latest_step, accepted, entry_of, with_row, entries_in, series_in}
+use Rattle.traffic_matrix.specs.Series.{demand_in}
+use Rattle.traffic_matrix.specs.Rows.{latest_step, accepted}
 use Rattle.traffic_matrix.specs.Table.{declared_at, IsPut}
 use Rattle.traffic_matrix.specs.Shows.{Shows}
 
@@ -82,43 +76,6 @@ pair-within n k low =
       }
       | inr none ↦ absurd (let e : n ≡ 0 = omega arith in let f : k < 0 = rw e at low in omega arith)
     ]
-
-step-in : (names : List (List ℕ)) (row : ℕ) (r : List (List ℕ)) (e : Entry) (entries : List Entry) (answer : Result (List Entry) MatrixFault)
-    → entry_of names row r ≡ Ok e → accepted entries row e ≡ answer → with_row names entries row r ≡ answer
-step-in names row r e entries answer said next = rw said next
-
--- the table stands for the rows so far, and these lead to the answer with the rows that are left
-pub record Standing (names : List (List ℕ)) (answer : Result (List Entry) MatrixFault) (d : Demands) (row : ℕ) (rest : List (List (List ℕ))) : Type 0 where
-  pub entries : List Entry
-  pub shows : Shows entries d
-  pub goes : answer ≡ fold_rows (with_row names) entries row rest
-
-module _ (net : Network) (bytes : List ℕ) (d : Demands) (row : ℕ) (rows : List (List (List ℕ))) (s : Standing net.names (entries_in net bytes) d row rows) where
-  pub entry-refused : (r : List (List ℕ)) (rest : List (List (List ℕ))) (f : MatrixFault) → rows ≡ r ∷ rest → entry_of net.names row r ≡ Err f → series_in net bytes ≡ Err f
-  entry-refused r rest f e h = ap (and_then (λ es. Ok (series_of (node_count net) es))) (s.goes ∙ rows-fault (with_row net.names) s.entries row rows r rest f e (ap (and_then (accepted s.entries row)) h))
-
-  pub row-refused : (r : List (List ℕ)) (rest : List (List (List ℕ))) (e : Entry) (f : MatrixFault) → rows ≡ r ∷ rest → entry_of net.names row r ≡ Ok e
-      → ((entries : List Entry) → Shows entries d → accepted entries row e ≡ Err f) → series_in net bytes ≡ Err f
-  row-refused r rest e f at said h =
-      ap (and_then (λ es. Ok (series_of (node_count net) es)))
-      (s.goes ∙ rows-fault (with_row net.names) s.entries row rows r rest f at (step-in net.names row r e s.entries (Err f) said (h s.entries s.shows)))
-
-  pub row-added : (r : List (List ℕ)) (rest : List (List (List ℕ))) (e : Entry) (more : Demands) → rows ≡ r ∷ rest → entry_of net.names row r ≡ Ok e
-      → ((entries : List Entry) → Shows entries d → accepted entries row e ≡ Ok (e ∷ entries)) → ((entries : List Entry) → Shows entries d → Shows (e ∷ entries) more)
-      → Standing net.names (entries_in net bytes) more (row + 1) rest
-  row-added r rest e more at said h g = record {
-    entries = e ∷ s.entries;
-    shows = g s.entries s.shows;
-    goes = s.goes ∙ rows-more (with_row net.names) s.entries (e ∷ s.entries) row rows r rest at (step-in net.names row r e s.entries (Ok (e ∷ s.entries)) said (h s.entries s.shows));
-  }
-
-  pub rows-done : (series : Series) → rows ≡ [] → d.table.nodes ≡ node_count net → ((entries : List Entry) → Shows entries d → series ≡ series_of d.table.nodes entries) → series_in net bytes ≡ Ok series
-  rows-done series none nodes is =
-      ap (and_then (λ es. Ok (series_of (node_count net) es))) (s.goes ∙ rows-end (with_row net.names) s.entries row rows none)
-      ∙ ap (λ (n : ℕ). Ok (series_of n s.entries)) (sym nodes) ∙ ap (λ (x : Series). Ok x) (sym (is s.entries s.shows))
-
-pub header-refused : (net : Network) (bytes : List ℕ) (f : MatrixFault) → entries_in net bytes ≡ Err f → series_in net bytes ≡ Err f
-header-refused net bytes f e = ap (and_then (λ es. Ok (series_of (node_count net) es))) e
 
 -- the pair of the next place passes a test, or it does not
 pub pairs-more : (test : Pair → Bool) (n k : ℕ) (b : Bool) → test (pair_of_place n k) ≡ b

@@ -2,6 +2,7 @@ mod RowLemmas
 mod NodeLemmas
 mod TableLemmas
 mod DemandLemmas
+mod Reading
 mod LimitLemmas
 mod GravityLemmas
 mod TextLemmas

@@ -5,7 +5,7 @@ use Rattle.std.specs.Str.{bytes_eq}
 use Rattle.te_model.specs.declared.network.Network.{Network}
 use Rattle.te_model.specs.Network.{node_count}
 use Rattle.csv_records.specs.Field.{is_number, is_number_within, digits_from}
-use Rattle.csv_records.specs.Rows.{and_then, fold_table, records_of}
+use Rattle.csv_records.specs.Rows.{and_then, fold_rows, fold_table, records_of}
 use Rattle.traffic_matrix.specs.declared.entry.Entry.{Entry}
 use Rattle.traffic_matrix.specs.declared.series.Series.{Series}
 use Rattle.traffic_matrix.specs.declared.fault.MatrixFault.{MatrixFault}
@@ -51,9 +51,22 @@ abbrev pub is_header : List (List ℕ) → Bool
 is_header (a ∷ b ∷ c ∷ d ∷ []) = bytes_eq a (codes "step") && bytes_eq b (codes "source") && bytes_eq c (codes "target") && bytes_eq d (codes "demand")
 is_header _ = false
 
+-- whether the first record is the header
+abbrev pub begins_with_header : List (List (List ℕ)) → Bool
+begins_with_header [] = false
+begins_with_header (h ∷ rows) = is_header h
+
+-- the rows below the header, the latest first
+abbrev pub entries_below : List (List ℕ) → List (List (List ℕ)) → Result (List Entry) MatrixFault
+entries_below names rows = fold_rows (with_row names) [] 1 rows
+
+-- the rows of a table, the latest first
+abbrev pub entries_of : List (List ℕ) → List (List (List ℕ)) → Result (List Entry) MatrixFault
+entries_of names records = fold_table is_header fault.Header (with_row names) [] records
+
 -- the rows of a file, the latest first
 abbrev pub entries_in : Network → List ℕ → Result (List Entry) MatrixFault
-entries_in net bytes = fold_table is_header fault.Header (with_row net.names) [] (records_of bytes)
+entries_in net bytes = entries_of net.names (records_of bytes)
 
 -- the series of a file for a network
 abbrev pub series_in : Network → List ℕ → Result Series MatrixFault
