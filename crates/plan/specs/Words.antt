@@ -62,10 +62,18 @@ word key.Trees = codes "trees"
 word key.Seed = codes "seed"
 word key.Envelope = codes "envelope"
 
--- a key that a plan may have
-abbrev pub is_key : List ℕ → Bool
-is_key text =
+-- a key of names: of files, of schemes or of a recovery
+abbrev pub is_name_key : List ℕ → Bool
+is_name_key text =
     bytes_eq text (codes "topology") || bytes_eq text (codes "matrices") || bytes_eq text (codes "failures")
     || bytes_eq text (codes "schemes") || bytes_eq text (codes "recovery") || bytes_eq text (codes "publish")
-    || bytes_eq text (codes "margin") || bytes_eq text (codes "k") || bytes_eq text (codes "budget")
+
+-- a key of a count, or of the set of matrices that is certified
+abbrev pub is_count_or_set_key : List ℕ → Bool
+is_count_or_set_key text =
+    bytes_eq text (codes "margin") || bytes_eq text (codes "k") || bytes_eq text (codes "budget")
     || bytes_eq text (codes "trees") || bytes_eq text (codes "seed") || bytes_eq text (codes "envelope")
+
+-- a key that a plan may have
+abbrev pub is_key : List ℕ → Bool
+is_key text = is_name_key text || is_count_or_set_key text

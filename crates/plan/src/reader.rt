@@ -4,7 +4,7 @@ ghost use Rattle.std.specs.Prelude.{◌≡◌, ◌≢◌, ◌≤◌, ◌-◌, �
 ghost use Rattle.serde_json.specs.View.{view, members_view};
 ghost use Rattle.serde_json.specs.Find.{get};
 ghost use Rattle.plan.specs.declared.fault.PlanFault.TheVariants as fault;
-ghost use Rattle.plan.specs.Words.{word, is_key, is_oblivious};
+ghost use Rattle.plan.specs.Words.{word, is_key, is_name_key, is_count_or_set_key, is_oblivious};
 ghost use Rattle.plan.specs.Plan.{plan_of, plan_of_object, json_of, knows_all, required, count_at, files_of, choices_of, counts_of, envelope_at, InRange};
 
 use crate::experiment::Experiment;
@@ -56,13 +56,26 @@ fn parse(alloc: Global, bytes: &[u8]) -> Result<Value, PlanFault>
 fn is_key(text: &str) -> bool
     ensures { result ≡ is_key text.now }
 {
+    is_name_key(text) || is_count_or_set_key(text)
+}
+
+// Names stand at these keys: of files, of schemes and of a recovery.
+fn is_name_key(text: &str) -> bool
+    ensures { result ≡ is_name_key text.now }
+{
     text == "topology"
         || text == "matrices"
         || text == "failures"
         || text == "schemes"
         || text == "recovery"
         || text == "publish"
-        || text == "margin"
+}
+
+// At these keys stand counts, and the set of matrices that is certified.
+fn is_count_or_set_key(text: &str) -> bool
+    ensures { result ≡ is_count_or_set_key text.now }
+{
+    text == "margin"
         || text == "k"
         || text == "budget"
         || text == "trees"
