@@ -10,3 +10,5 @@ pub mod ServeLaws
 pub mod StateLaws
 pub mod ResultLaws
 pub mod RatesLaws
+pub mod ResultSums
+pub mod LossLaws

@@ -1,5 +1,5 @@
 -- What became of the traffic of a step, for each pair and in total.
-use Rattle.std.specs.Prelude.{ℕ, ◌≡◌, ◌+◌, Bool, List, length, map, slice_index, sum_by}
+use Rattle.std.specs.Prelude.{ℕ, ◌≡◌, ◌+◌, ◌^◌, ◌<◌, Bool, List, length, map, slice_index, sum_by}
 use Rattle.std.specs.List.{range_with_len}
 use Rattle.te_model.specs.declared.network.Network.{Network}
 use Rattle.te_model.specs.declared.route.PairRoutes.{PairRoutes}
@@ -12,6 +12,34 @@ use Rattle.flow_sim.specs.Traffic.{step_setting, lost_no_path}
 -- all that was offered was delivered or lost
 abbrev pub IsConserved : PairResult → Type 0
 IsConserved p = p.offered ≡ p.delivered + p.lost_full + p.lost_failed + p.lost_no_path
+
+-- each amount is below 2^64
+pub record FitsWords (p : PairResult) : Type 0 where
+  pub offered : p.offered < 2 ^ 64
+  pub delivered : p.delivered < 2 ^ 64
+  pub lost_full : p.lost_full < 2 ^ 64
+  pub lost_failed : p.lost_failed < 2 ^ 64
+  pub lost_no_path : p.lost_no_path < 2 ^ 64
+
+-- the sums of two results, field by field
+abbrev pub plus : PairResult → PairResult → PairResult
+plus a b = record {
+  offered = a.offered + b.offered;
+  delivered = a.delivered + b.delivered;
+  lost_full = a.lost_full + b.lost_full;
+  lost_failed = a.lost_failed + b.lost_failed;
+  lost_no_path = a.lost_no_path + b.lost_no_path;
+}
+
+-- the sums over the pairs, field by field
+abbrev pub sums_of : List PairResult → PairResult
+sums_of pairs = record {
+  offered = sum_by (λ p. p.offered) pairs;
+  delivered = sum_by (λ p. p.delivered) pairs;
+  lost_full = sum_by (λ p. p.lost_full) pairs;
+  lost_failed = sum_by (λ p. p.lost_failed) pairs;
+  lost_no_path = sum_by (λ p. p.lost_no_path) pairs;
+}
 
 -- the five amounts are the sums over the pairs
 pub record IsSummed (served : List ℕ) (pairs : List PairResult) (result : StepResult) : Type 0 where

@@ -18,9 +18,13 @@ pub record IsState (s : Setting) (r : ℕ) (state : State) : Type 0 where
   pub failed_is : (f : ℕ) → f < s.flows → slice_index state.lost_failed.items f ≡ lost_failed_before s f r
   pub left_is : (e : ℕ) → e < s.links → slice_index state.left.items e ≡ (before_round s r).left e
 
--- the tables of a step that has not begun
-pub record IsStart (net : Network) (rates : List PairRoutes) (demand : List ℕ) (state : State) : Type 0 where
-  pub units : state.units.items ≡ flow_starts rates demand
+-- the tables of a step with these units and these capacities, of which nothing was lost or served
+pub record HasBegun (starts capacities : List ℕ) (state : State) : Type 0 where
+  pub units : state.units.items ≡ starts
   pub full : state.lost_full.items ≡ map (λ i. 0) (range_with_len 0 (length state.units.items))
   pub failed : state.lost_failed.items ≡ map (λ i. 0) (range_with_len 0 (length state.units.items))
-  pub left : state.left.items ≡ map (λ l. l.capacity) net.links
+  pub left : state.left.items ≡ capacities
+
+-- the tables of a step that has not begun
+abbrev pub IsStart : Network → List PairRoutes → List ℕ → State → Type 0
+IsStart net rates demand state = HasBegun (flow_starts rates demand) (map (λ l. l.capacity) net.links) state

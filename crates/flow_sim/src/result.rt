@@ -1,6 +1,6 @@
 //! What became of the traffic of a step.
-ghost use Rattle.std.specs.Prelude.{◌^◌, ◌<◌, sum_by};
-ghost use Rattle.flow_sim.specs.Result.{IsSummed};
+ghost use Rattle.std.specs.Prelude.{◌≡◌, ◌^◌, ◌<◌, sum_by};
+ghost use Rattle.flow_sim.specs.Result.{plus, sums_of, FitsWords, IsSummed};
 
 use te_model::Items;
 
@@ -38,6 +38,38 @@ pub struct StepResult {
     pub per_pair: Items<PairResult>,
 }
 
+// The sums of two results, field by field.
+fn plus(a: PairResult, b: &PairResult) -> PairResult
+    requires { FitsWords (plus a b.now) }
+    ensures { result ≡ plus a b.now }
+{
+    PairResult {
+        offered: a.offered + b.offered,
+        delivered: a.delivered + b.delivered,
+        lost_full: a.lost_full + b.lost_full,
+        lost_failed: a.lost_failed + b.lost_failed,
+        lost_no_path: a.lost_no_path + b.lost_no_path,
+    }
+}
+
+// The sums over the pairs, field by field.
+fn sums_of(pairs: &Items<PairResult>) -> PairResult
+    requires { FitsWords (sums_of pairs.now) }
+    ensures { result ≡ sums_of pairs.now }
+{
+    let mut sums = PairResult {
+        offered: 0,
+        delivered: 0,
+        lost_full: 0,
+        lost_failed: 0,
+        lost_no_path: 0,
+    };
+    for pair in pairs.as_slice() {
+        sums = plus(sums, pair);
+    }
+    sums
+}
+
 // The sums over the pairs.
 pub fn summed(carried: Items<u64>, per_pair: Items<PairResult>) -> StepResult
     requires offered { sum_by (λ p. p.offered) per_pair < 2 ^ 64 }
@@ -47,13 +79,13 @@ pub fn summed(carried: Items<u64>, per_pair: Items<PairResult>) -> StepResult
     requires lost_no_path { sum_by (λ p. p.lost_no_path) per_pair < 2 ^ 64 }
     ensures { IsSummed carried per_pair result }
 {
-    let pairs = per_pair.as_slice();
+    let sums = sums_of(&per_pair);
     StepResult {
-        offered: pairs.iter().map(|pair| pair.offered).sum(),
-        delivered: pairs.iter().map(|pair| pair.delivered).sum(),
-        lost_full: pairs.iter().map(|pair| pair.lost_full).sum(),
-        lost_failed: pairs.iter().map(|pair| pair.lost_failed).sum(),
-        lost_no_path: pairs.iter().map(|pair| pair.lost_no_path).sum(),
+        offered: sums.offered,
+        delivered: sums.delivered,
+        lost_full: sums.lost_full,
+        lost_failed: sums.lost_failed,
+        lost_no_path: sums.lost_no_path,
         carried,
         per_pair,
     }

@@ -3,7 +3,7 @@ ghost use Rattle.std.specs.Prelude.{◌≡◌, ℕ, ◌+◌, ◌*◌, ◌^◌, �
 ghost use Rattle.te_model.specs.declared.limits.TheConstants.{FORMAT_2};
 ghost use Rattle.te_model.specs.Network.{link_count};
 ghost use Rattle.flow_sim.specs.Traffic.{step_setting, longest, flow_paths, paths_of, CanSplit};
-ghost use Rattle.flow_sim.specs.State.{IsState, IsStart};
+ghost use Rattle.flow_sim.specs.State.{HasBegun, IsState, IsStart};
 
 use crate::queues::queues_of;
 use crate::serve::serve_round;
@@ -46,6 +46,20 @@ fn longest_of_all(rates: &Items<PairRoutes>) -> usize
     most
 }
 
+// How a step begins in which the flows have these units, and the links can serve so much.
+fn begin_with(alloc: Global, units: Vec<u64>, left: Vec<u64>) -> Result<State, Memory>
+    ensures { IfOk result (HasBegun units.items left.items) }
+{
+    let lost_full = zeros(alloc, units.len())?;
+    let lost_failed = zeros(alloc, units.len())?;
+    Ok(State {
+        units,
+        lost_full,
+        lost_failed,
+        left,
+    })
+}
+
 // How the step stands before its first round.
 fn begin(
     alloc: Global,
@@ -59,15 +73,8 @@ fn begin(
     ensures { IfOk result (IsStart net.now rates.now matrix.now.demand) }
 {
     let units = starts(alloc, rates, matrix)?;
-    let lost_full = zeros(alloc, units.len())?;
-    let lost_failed = zeros(alloc, units.len())?;
     let left = capacities(alloc, net)?;
-    Ok(State {
-        units,
-        lost_full,
-        lost_failed,
-        left,
-    })
+    begin_with(alloc, units, left)
 }
 
 // All rounds of the step: how it stands at the end.

@@ -35,6 +35,19 @@ fn shares_of(alloc: Global, failed: bool, left: u64, arrivals: &[u64]) -> Result
     Ok(served)
 }
 
+// A flow has what it was served, and has lost the rest.
+fn book_loss(flow: usize, served: u64, units: &mut [u64], lost: &mut [u64])
+    requires flow { (flow < length units.old) × (flow < length lost.old) }
+    requires within { served ≤ slice_index units.old flow }
+    requires room { slice_index lost.old flow + slice_index units.old flow < 2 ^ 64 }
+    ensures served { slice_index units.new flow ≡ served }
+    ensures lost { slice_index lost.new flow ≡ slice_index lost.old flow + (slice_index units.old flow - served) }
+    ensures others { (f : ℕ) → (f ≡ flow → ⊥) → (slice_index units.new f ≡ slice_index units.old f) × (slice_index lost.new f ≡ slice_index lost.old f) }
+{
+    lost[flow] += units[flow] - served;
+    units[flow] = served;
+}
+
 // Each flow of a queue has what it was served, and has lost the rest.
 fn book_losses(queue: &[u32], served: &[u64], units: &mut [u64], lost: &mut [u64])
     requires lengths { (length served.now ≡ length queue.now) × (length lost.old ≡ length units.old) }
@@ -48,9 +61,7 @@ fn book_losses(queue: &[u32], served: &[u64], units: &mut [u64], lost: &mut [u64
     ensures others { (f : ℕ) → IsAbsent queue.now f → (slice_index units.new f ≡ slice_index units.old f) × (slice_index lost.new f ≡ slice_index lost.old f) }
 {
     for i in 0..queue.len() {
-        let flow = queue[i] as usize;
-        lost[flow] += units[flow] - served[i];
-        units[flow] = served[i];
+        book_loss(queue[i] as usize, served[i], units, lost);
     }
 }
 

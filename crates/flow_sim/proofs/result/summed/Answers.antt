@@ -1,16 +1,23 @@
-use Rattle.std.proofs.Common.{rules, refl}
-use Rattle.std.proofs.lemmas.Iterator.{YieldsList-from_map, YieldsList-from_slice}
-use Rattle.std.proofs.lemmas.Iterator.Consumers.{sum_by_from_yields_List}
+use Rattle.std.proofs.Common.{refl, ap}
+use Rattle.flow_sim.specs.declared.result.PairResult.{PairResult}
 use Rattle.flow_sim.proofs.result.summed.Goals as goal
+
+pub sums_of-sums-requires : goal.sums_of-sums-requires
+sums_of-sums-requires c = record {
+  offered = c.requires.offered;
+  delivered = c.requires.delivered;
+  lost_full = c.requires.lost_full;
+  lost_failed = c.requires.lost_failed;
+  lost_no_path = c.requires.lost_no_path;
+}
 
 pub returns : goal.returns
 returns c = record {
   carried = refl;
   per_pair = refl;
-  offered = search rules;
-  delivered = search rules;
-  lost_full = search rules;
-  lost_failed = search rules;
-  lost_no_path = sum_by_from_yields_List (λ p. p.lost_no_path) c.args.per_pair c.map-5.result c.sum-5.result c.sum-5.ensures.ran
-      (YieldsList-from_map _ (λ p. p.lost_no_path) (YieldsList-from_slice c.args.per_pair cc) c.map-5.ensures.closure (λ x r q k. search rules));
+  offered = ap (λ (p : PairResult). p.offered) c.sums_of-sums.ensures;
+  delivered = ap (λ (p : PairResult). p.delivered) c.sums_of-sums.ensures;
+  lost_full = ap (λ (p : PairResult). p.lost_full) c.sums_of-sums.ensures;
+  lost_failed = ap (λ (p : PairResult). p.lost_failed) c.sums_of-sums.ensures;
+  lost_no_path = ap (λ (p : PairResult). p.lost_no_path) c.sums_of-sums.ensures;
 }
