@@ -17,6 +17,16 @@ pub struct DrawnNode {
     pub node: u32,
 }
 
+// The node with the next word.
+fn draw_node(rng: &mut ChaCha8Rng, node: u32) -> DrawnNode
+    requires { rng.old.word_pos + 1 < 2 ^ 68 }
+    ensures drawn { result ≡ record { word = word_on rng.old 0; node = node } }
+    ensures state { rng.new ≡ record rng.old { word_pos = rng.old.word_pos + 1 } }
+{
+    let word = draw(rng);
+    DrawnNode { word, node }
+}
+
 /// The nodes with the words that are drawn for them, one after the other.
 fn draw_nodes(alloc: Global, rng: &mut ChaCha8Rng, nodes: usize) -> Result<Vec<DrawnNode>, Memory>
     requires few { nodes ≤ FORMAT_2.nodes }
@@ -26,11 +36,7 @@ fn draw_nodes(alloc: Global, rng: &mut ChaCha8Rng, nodes: usize) -> Result<Vec<D
 {
     let mut drawn = Vec::with_capacity(alloc, nodes)?;
     for node in 0..nodes {
-        let word = draw(rng);
-        drawn.push(DrawnNode {
-            word,
-            node: node as u32,
-        })?;
+        drawn.push(draw_node(rng, node as u32))?;
     }
     Ok(drawn)
 }
@@ -39,10 +45,7 @@ fn draw_nodes(alloc: Global, rng: &mut ChaCha8Rng, nodes: usize) -> Result<Vec<D
 fn nodes_of(alloc: Global, drawn: &[DrawnNode]) -> Result<Vec<u32>, Memory>
     ensures { IfOk result (λ v. v.items ≡ map (λ d. d.node) drawn.now) }
 {
-    let mut nodes = Vec::with_capacity(alloc, drawn.len())?;
-    for drawn_node in drawn {
-        nodes.push(drawn_node.node)?;
-    }
+    let nodes = drawn.iter().map(|d| d.node).collect(alloc)?;
     Ok(nodes)
 }
 

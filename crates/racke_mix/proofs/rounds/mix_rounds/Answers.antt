@@ -1,20 +1,9 @@
-use Rattle.std.proofs.Common.{◌≡◌, ℕ, ◌+◌, ◌++◌, ◌∷◌, [], List, length, arith, ap, sym, ◌∙◌, subst, rules}
+use Rattle.std.proofs.Common.{◌≡◌, ℕ, ◌+◌, ◌++◌, ◌∷◌, [], List, arith, ap, sym, ◌∙◌, subst, rules}
 use Rattle.multiplicative_lengths.specs.Growth.{greatest_usage, grown}
 use Rattle.racke_mix.specs.declared.round.Round.{Round}
 use Rattle.racke_mix.specs.Mix.{IsTreeRound}
-use Rattle.racke_mix.proofs.Loading.{loads_count}
 use Rattle.racke_mix.proofs.Mixing.{MixSoFar, mix_done, mix_more, mix_none}
 use Rattle.racke_mix.proofs.rounds.mix_rounds.Goals as goal
-
-pub greatest_usage-most-requires-clause-count : goal.greatest_usage-most-requires-clause-count
-greatest_usage-most-requires-clause-count c =
-    ap (λ (l : List ℕ). length l) c.deref-in-loop-tree.ensures.value
-    ∙ loads_count c.args.net.now c.in_ok-round.round.tree c.in_ok-loads.loads.items c.in_ok-loads.ensures
-
-pub grow-requires-clause-loads : goal.grow-requires-clause-loads
-grow-requires-clause-loads c =
-    ap (λ (l : List ℕ). length l) c.deref-in-loop-tree-2.ensures.value
-    ∙ loads_count c.args.net.now c.in_ok-round.round.tree c.in_ok-loads.loads.items c.in_ok-loads.ensures
 
 pub loop-tree-preserved : goal.loop-tree-preserved
 loop-tree-preserved c =
@@ -23,23 +12,16 @@ loop-tree-preserved c =
     let j = c.loop-tree._tree in
     let multipliers = c.loop-tree.multipliers.items in
     let next = c.in_ok-multipliers-2.multipliers.items in
-    let loads = c.in_ok-loads.loads.items in
     let rounds = c.loop-tree.rounds.items in
     let round = c.in_ok-round.round in
-    let most : c.greatest_usage-most.result ≡ greatest_usage net loads =
-    c.greatest_usage-most.ensures.usage ∙ ap (λ (l : List ℕ). greatest_usage net l) c.deref-in-loop-tree.ensures.value
-    in
+    let (loads, put, grows) = c.in_ok-multipliers-2.ensures in
     let grows : next ≡ grown net loads (greatest_usage net loads) multipliers =
-    c.in_ok-multipliers-2.ensures
-    ∙ (ap (λ (l : List ℕ). grown net l c.greatest_usage-most.result c.deref-in-loop-tree-3.result.now) c.deref-in-loop-tree-2.ensures.value
-    ∙ (ap (λ (x : ℕ). grown net loads x c.deref-in-loop-tree-3.result.now) most
-    ∙ ap (λ (m : List ℕ). grown net loads (greatest_usage net loads) m) c.deref-in-loop-tree-3.ensures.value))
+    grows ∙ ap (λ (m : List ℕ). grown net loads (greatest_usage net loads) m) c.deref-in-loop-tree.ensures.value
     in
     let is = subst (λ (m : List ℕ). IsTreeRound net c.loop-tree.rng m round) c.deref.ensures.value c.in_ok-round.ensures.round in
     let pushed : c.push.new.self.items ≡ rounds ++ round ∷ [] = search rules in
     subst (λ (rs : List Round). MixSoFar net seed (j + 1) c.draw_round.new.rng next rs) (sym pushed)
-    (mix_more net seed j c.loop-tree.rng c.draw_round.new.rng multipliers loads next rounds round c.loop-tree.invariant is c.in_ok-round.ensures.state
-    c.in_ok-loads.ensures grows)
+    (mix_more net seed j c.loop-tree.rng c.draw_round.new.rng multipliers loads next rounds round c.loop-tree.invariant is c.in_ok-round.ensures.state put grows)
 
 pub loop-tree-init : goal.loop-tree-init
 loop-tree-init c =
