@@ -15,6 +15,7 @@ use Rattle.routing.specs.Utilisation.{parts}
 use Rattle.local_search.specs.Loads.{IsPeakBelow, load_after}
 use Rattle.local_search.specs.Moves.{CanMove, HaveFewTogether, Improves, IsMoved, IsStable, UsesOnly}
 use Rattle.local_search.specs.Search.{FitsAt, loads_moved}
+use Rattle.local_search.specs.Settling.{SettledSoFar}
 use Rattle.routing.proofs.FewPaths.{few_among}
 use Rattle.local_search.proofs.MovedLoads.{moved_load}
 use Rattle.routing.proofs.InOrder.{same_count}
@@ -76,14 +77,6 @@ stable_from_none net demand routes candidates loads x times formed are is_x impr
       };
     })
 
--- what holds while moves are made
-pub record SettledSoFar (net : Network) (demand : List ℕ) (before candidates routes : List PairRoutes) (loads : List ℕ) : Type 0 where
-  pub routing : IsPathRouting net routes
-  pub pairs : map (λ r. r.pair) routes ≡ map (λ r. r.pair) before
-  pub lower : parts net routes demand ≤ parts net before demand
-  pub only : UsesOnly before candidates routes
-  pub are_loads : AreLoads net demand routes loads
-
 pub settled_begin : (net : Network) (demand : List ℕ) (before candidates : List PairRoutes) (loads : List ℕ) → IsPathRouting net before →
     AreLoads net demand before loads → SettledSoFar net demand before candidates before loads
 settled_begin net demand before candidates loads routing are = record {
@@ -112,6 +105,14 @@ settled_more net demand before candidates routes moved loads carried p k to size
         ∙ sym (loads_of_move net demand routes moved loads p k to size so.are_loads can.pair is e below);
   };
 }
+
+-- the same of routes that were lent, and of those that come back
+pub settled_back : (net : Network) (demand : List ℕ) (before lent candidates others back routes : List PairRoutes) (loads : List ℕ) → lent ≡ before → others ≡ candidates →
+    back ≡ routes → SettledSoFar net demand lent others routes loads → SettledSoFar net demand before candidates back loads
+settled_back net demand before lent candidates others back routes loads start same whole so =
+    subst (λ (l : List PairRoutes). SettledSoFar net demand before candidates l loads) (sym whole)
+    (subst (λ (l : List PairRoutes). SettledSoFar net demand before l routes loads) same
+    (subst (λ (l : List PairRoutes). SettledSoFar net demand l others routes loads) start so))
 
 -- no pair has more paths than it had together with its candidates
 pub settled_few : (net : Network) (before candidates routes : List PairRoutes) (limit : ℕ) → HaveFewTogether limit before candidates →

@@ -3,3 +3,4 @@ pub mod Loads
 pub mod Search
 pub mod Shifting
 pub mod Pairs
+pub mod Settling

@@ -1,16 +1,18 @@
 //! Moves, until no more of them helps.
-ghost use Rattle.std.specs.Prelude.{◌≡◌, ◌↔◌, ◌<◌, ◌≤◌, ◌^◌, ℕ, List, IfNone, IfOk, IfSome, IsTrue, length};
+ghost use Rattle.std.specs.Prelude.{◌≡◌, ◌↔◌, ◌<◌, ◌≤◌, ◌^◌, ℕ, List, IfNone, IfOk, IfSome, IsTrue, OnOk, length, map};
 ghost use Rattle.te_model.specs.declared.network.Network.{Network};
 ghost use Rattle.te_model.specs.declared.route.Pair.{Pair};
 ghost use Rattle.te_model.specs.declared.route.PairRoutes.{PairRoutes};
 ghost use Rattle.te_model.specs.Network.{is_well_formed, link_count};
 ghost use Rattle.te_model.specs.Path.{routes_at};
+ghost use Rattle.te_model.specs.PathRouting.{IsPathRouting};
 ghost use Rattle.routing.specs.Merge.{links_at};
 ghost use Rattle.routing.specs.Routes.{AreDemands, AreLoads, HasFewPaths, IsRoutingOf};
 ghost use Rattle.routing.specs.Split.{are_splits};
 ghost use Rattle.routing.specs.Utilisation.{parts};
 ghost use Rattle.local_search.specs.Moves.{CanMove, HaveFewTogether, Improves, IsMoved, IsStable, UsesOnly};
-ghost use Rattle.local_search.specs.Pairs.{HaveHolders};
+ghost use Rattle.local_search.specs.Pairs.{ArePairs, HaveHolders};
+ghost use Rattle.local_search.specs.Settling.{SettledSoFar};
 
 use crate::greatest::peak_of;
 use crate::pairs::PairsOnLinks;
@@ -70,6 +72,39 @@ fn next_move(
     Ok(fitting_move(net, matrix, loads, &aim, routes, candidates, pairs))
 }
 
+// Makes one move after another among the routes, until none helps, and keeps the loads in step. `holders` has the pairs of
+// which a path of the routes or of the candidates holds each link.
+//
+// `Memory` comes where memory is wanting.
+fn make_moves(
+    alloc: Global,
+    net: &Network,
+    matrix: &Matrix,
+    candidates: &[PairRoutes],
+    holders: &PairsOnLinks,
+    routes: &mut [PairRoutes],
+    loads: &mut [u128],
+) -> Result<(), Memory>
+    requires network { IsTrue (is_well_formed net.now) }
+    requires few { length routes.old < 2 ^ 32 }
+    requires demands { AreDemands (length routes.old) matrix.now.demand }
+    requires routing { IsPathRouting net.now routes.old }
+    requires others { IsPathRouting net.now candidates.now }
+    requires pairs { map (λ r. r.pair) candidates.now ≡ map (λ r. r.pair) routes.old }
+    requires holders { ArePairs (link_count net.now) routes.old candidates.now holders.now }
+    requires loads { AreLoads net.now matrix.now.demand routes.old loads.old }
+    ensures settled { OnOk result (SettledSoFar net.now matrix.now.demand routes.old candidates.now routes.new loads.new) }
+    ensures stable { OnOk result (IsStable net.now matrix.now.demand candidates.now routes.new) }
+{
+    'moves: while let Some(step) = next_move(
+        alloc, net, matrix, routes, candidates, holders, loads,
+    )? {
+        carry_move(matrix, routes, candidates, loads, step);
+        take_move(alloc, routes, candidates, step)?;
+    }
+    Ok(())
+}
+
 /// The routing after moves of weight between the paths of single pairs, until no move helps any
 /// more: an approximate local optimum (Orlin, Punnen and Schulz, 2004).
 ///
@@ -101,10 +136,15 @@ pub fn settle(
     let others = candidates.routes.as_slice();
     let holders = PairsOnLinks::new(alloc, net, routing.routes.as_slice(), others)?;
     let mut routes = routing.routes.into_vec();
-    while let Some(step) = next_move(alloc, net, matrix, &routes, others, &holders, &loads)? {
-        carry_move(matrix, &routes, others, &mut loads, step);
-        take_move(alloc, &mut routes, others, step)?;
-    }
+    make_moves(
+        alloc,
+        net,
+        matrix,
+        others,
+        &holders,
+        &mut routes,
+        &mut loads,
+    )?;
     Ok(Routing {
         routes: Items::new(routes),
     })
