@@ -1,5 +1,5 @@
 -- How a window goes on in what reads gave, and in a content.
-use Rattle.std.proofs.Common.{◌≡◌, ◌∙◌, ℕ, ◌+◌, ◌≤◌, ◌<◌, List, [], ◌++◌, length, take, drop, refl, sym, ap, subst, arith, append_assoc, append-nil, length-append, length-take, length-drop}
+use Rattle.std.proofs.Common.{◌≡◌, ◌∙◌, ℕ, ◌+◌, ◌≤◌, List, [], ◌++◌, length, take, drop, refl, sym, ap, subst, arith, append_assoc, append-nil, length-append, length-take, length-drop}
 use Rattle.std.proofs.lemmas.List.{take_all}
 use Rattle.std.proofs.Math.Seq.{take-add}
 use Rattle.te_ports.specs.Record.{IsPiece, HasGiven, nothing, more, IsRead, IsReadPastAllowed}
@@ -56,23 +56,8 @@ pub in_failed : (content : List ℕ) (w w' : Window) (passed : List ℕ) → rea
 in_failed content w w' passed same at is =
     in_still content w w' passed same at (subst (IsStateOf content w'.limit w'.fetched) (sym is) tt)
 
--- a read gave nothing
-pub at_ended : (old new : ℕ → List ℕ → Type 0) (w w' : Window) (passed : List ℕ) →
-    ((at : ℕ) (piece : List ℕ) → old at piece → new at piece) → ready w' ≡ ready w → fetched_of w' ≡ fetched_of w →
-    state_of w' ≡ Ended → new (fetched_of w) [] → StandsAt old w passed → StandsAt new w' passed
-at_ended old new w w' passed grows same at is none =
-    at_still old new w w' passed grows same at
-    (subst (IsEndOf new w'.limit w'.fetched) (sym is) (subst (λ k. new k []) (sym at) none))
-
-pub in_ended : (content : List ℕ) (w w' : Window) (passed : List ℕ) → ready w' ≡ ready w → fetched_of w' ≡ fetched_of w →
-    state_of w' ≡ Ended → IsPiece content (fetched_of w) [] → StandsIn content w passed → StandsIn content w' passed
-in_ended content w w' passed same at is none =
-    let short : length content ≤ w.fetched = none.ends refl in
-    in_still content w w' passed same at
-    (subst (IsStateOf content w'.limit w'.fetched) (sym is) (subst (λ k. length content ≤ k) (sym at) short))
-
 -- a piece more was read
-at_more : (old new : ℕ → List ℕ → Type 0) (w w' : Window) (passed piece : List ℕ) →
+pub at_more : (old new : ℕ → List ℕ → Type 0) (w w' : Window) (passed piece : List ℕ) →
     ((at : ℕ) (piece : List ℕ) → old at piece → new at piece) → ready w' ≡ ready w ++ piece →
     fetched_of w' ≡ fetched_of w + length piece → new (fetched_of w) piece →
     IsEndOf new (limit_of w') (fetched_of w') (state_of w') → StandsAt old w passed → StandsAt new w' passed
@@ -84,7 +69,7 @@ at_more old new w w' passed piece grows next at gave state s =
       ends = state;
     }
 
-in_more : (content : List ℕ) (w w' : Window) (passed piece : List ℕ) → ready w' ≡ ready w ++ piece →
+pub in_more : (content : List ℕ) (w w' : Window) (passed piece : List ℕ) → ready w' ≡ ready w ++ piece →
     fetched_of w' ≡ fetched_of w + length piece → IsPiece content (fetched_of w) piece →
     (fetched_of w' ≤ length content → IsStateOf content (limit_of w') (fetched_of w') (state_of w')) →
     StandsIn content w passed → StandsIn content w' passed
@@ -100,33 +85,6 @@ in_more content w w' passed piece next at is state s =
       count = count;
       ends = state (omega (arith, count, ap length front, length-take w'.fetched content));
     }
-
-pub at_open : (old new : ℕ → List ℕ → Type 0) (w w' : Window) (passed piece : List ℕ) →
-    ((at : ℕ) (piece : List ℕ) → old at piece → new at piece) → ready w' ≡ ready w ++ piece →
-    fetched_of w' ≡ fetched_of w + length piece → new (fetched_of w) piece → state_of w' ≡ Open →
-    StandsAt old w passed → StandsAt new w' passed
-at_open old new w w' passed piece grows next at gave is =
-    at_more old new w w' passed piece grows next at gave (subst (IsEndOf new w'.limit w'.fetched) (sym is) tt)
-
-pub in_open : (content : List ℕ) (w w' : Window) (passed piece : List ℕ) → ready w' ≡ ready w ++ piece →
-    fetched_of w' ≡ fetched_of w + length piece → IsPiece content (fetched_of w) piece → state_of w' ≡ Open →
-    StandsIn content w passed → StandsIn content w' passed
-in_open content w w' passed piece next at given is =
-    in_more content w w' passed piece next at given (λ fits. subst (IsStateOf content w'.limit w'.fetched) (sym is) tt)
-
-pub at_long : (old new : ℕ → List ℕ → Type 0) (w w' : Window) (passed piece : List ℕ) →
-    ((at : ℕ) (piece : List ℕ) → old at piece → new at piece) → ready w' ≡ ready w ++ piece →
-    fetched_of w' ≡ fetched_of w + length piece → new (fetched_of w) piece → state_of w' ≡ TooLong → fetched_of w' ≡ limit_of w' + 1 →
-    StandsAt old w passed → StandsAt new w' passed
-at_long old new w w' passed piece grows next at gave is long =
-    at_more old new w w' passed piece grows next at gave (subst (IsEndOf new w'.limit w'.fetched) (sym is) long)
-
-pub in_long : (content : List ℕ) (w w' : Window) (passed piece : List ℕ) → ready w' ≡ ready w ++ piece →
-    fetched_of w' ≡ fetched_of w + length piece → IsPiece content (fetched_of w) piece → state_of w' ≡ TooLong →
-    fetched_of w' ≡ limit_of w' + 1 → StandsIn content w passed → StandsIn content w' passed
-in_long content w w' passed piece next at given is long =
-    in_more content w w' passed piece next at given
-    (λ fits. let past : w'.limit < length content = omega (arith, fits, long) in subst (IsStateOf content w'.limit w'.fetched) (sym is) past)
 
 -- bytes were passed
 pub at_pass : (gave : ℕ → List ℕ → Type 0) (w w' : Window) (passed front : List ℕ) → ready w ≡ front ++ ready w' →

@@ -1,5 +1,6 @@
 pub mod Bytes
 pub mod Going
+pub mod Fetching
 pub mod Limits
 pub mod Ahead
 pub mod Sizes

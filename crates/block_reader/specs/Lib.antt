@@ -1,4 +1,5 @@
 pub mod Standing
+pub mod Fetching
 pub mod Ahead
 pub mod Sizes
 pub mod Step

@@ -5,22 +5,14 @@ ghost use Rattle.block_reader.specs.declared.stream_fault.StreamFault.{StreamFau
 ghost use Rattle.block_reader.specs.Standing.{state_of};
 
 use crate::blocks::Blocks;
-use crate::file_limit::FileLimit;
 use crate::lines::Lines;
 use crate::opening::{block_size, opening};
 use crate::room::Room;
 use crate::stream_fault::StreamFault;
-use crate::window::Window;
 use cert_text::grammar::counts_of_head;
 use std::alloc::Global;
 use te_model::{Block, Head, head_fault, limits_of};
 use te_ports::Depot;
-
-// How many bytes of a file stand ready at most: more than reading of any part of it looks at.
-const ROOM: usize = 1_310_720;
-
-// How many bytes reading of the first line looks at.
-const FIRST_LINE: usize = 14;
 
 /// Reads the file of a certificate of either format one block at a time. It keeps one block, and some bytes of the file.
 #[derive(Drop)]
@@ -36,7 +28,7 @@ pub struct BlockReader {
 }
 
 impl BlockReader {
-    ghost use Rattle.std.specs.Prelude.{◌≤◌, ◌<◌, ◌⊎◌, ◌++◌, ◌∷◌, [], ℕ, List, Ok, Err, IfOk, IsErrOf, IsTrue, false, string_bytes};
+    ghost use Rattle.std.specs.Prelude.{◌≤◌, ◌<◌, ◌⊎◌, ◌++◌, ◌∷◌, [], ℕ, List, Ok, Err, IfOk, IsErrOf, IsTrue, false};
     ghost use Rattle.te_model.specs.declared.certificate.Block.{Block};
     ghost use Rattle.te_model.specs.declared.certificate.Head.{Head};
     ghost use Rattle.te_model.specs.Formats.{limits_of};
@@ -44,8 +36,10 @@ impl BlockReader {
     ghost use Rattle.cert_text.specs.Fits.{FitsHead};
     ghost use Rattle.te_ports.specs.Ports.{Rose};
     ghost use Rattle.te_ports.specs.Record.{Grows};
+    ghost use Rattle.te_ports.specs.Shown.{shown};
     ghost use Rattle.block_reader.specs.Answers.{IsWell};
-    ghost use Rattle.block_reader.specs.Blocks.{HasRead, IsReaderOf, IsFaultOf, IsTextOf, IsBehindHead, name_of, block_of, last_link, blocks_left, holds_block, fault_of, is_over};
+    ghost use Rattle.block_reader.specs.Depots.{Reads};
+    ghost use Rattle.block_reader.specs.Blocks.{AreBehind, HasRead, IsReaderOf, IsFaultOf, IsTextOf, IsBehindHead, name_of, block_of, last_link, blocks_left, holds_block, fault_of, is_over};
 
     /// Reads what stands before the blocks of the file of this name.
     ///
@@ -74,21 +68,37 @@ impl BlockReader {
         ensures kept { Grows (D.gave depot.old) (D.gave depot.new) }
         ensures content { D.content depot.new ≡ D.content depot.old }
     {
-        let key = String::from_str(alloc, name)?;
-        let window = Window::at_start(alloc, depot, name, &FileLimit, FIRST_LINE, ROOM)?;
-        let mut lines = Lines::at_start(window)?;
-        let (head, count) = opening(alloc, depot, name, &mut lines)?;
-        let mut reader = BlockReader::behind(alloc, key, lines, &head, count)?;
+        let (mut reader, head) = BlockReader::read_head(alloc, depot, name)?;
         match head_fault(&head) {
             None => Ok((reader, head)),
             Some(fault) => Err(reader.blocks.judge_rest(depot, fault)),
         }
     }
 
+    // Reads what stands before the blocks, and stands behind it.
+    fn read_head<D: Depot>(
+        alloc: Global,
+        depot: &mut D,
+        name: &str,
+    ) -> Result<(BlockReader, Head), StreamFault>
+        ensures stands { IfOk result (λ r. AreBehind (D.gave depot.new name.now) r.0.blocks r.1 []) }
+        ensures fresh { IfOk result (λ r. (fault_of r.0 ≡ None) × (is_over r.0 ≡ false)) }
+        ensures start { IfOk result (λ r. last_link r.0 ≡ None) }
+        ensures name { IfOk result (λ r. name_of r.0 ≡ name.now) }
+        ensures refused { (fault : StreamFault) → result ≡ Err fault → IsFaultOf (D.gave depot.new name.now) fault }
+        ensures reads { Reads (shown D.content D.gave D.faults depot.old) (shown D.content D.gave D.faults depot.new)
+            name.now result }
+    {
+        let mut lines = Lines::open(alloc, depot, name)?;
+        let (head, count) = opening(alloc, depot, name, &mut lines)?;
+        let reader = BlockReader::behind(alloc, name, lines, &head, count)?;
+        Ok((reader, head))
+    }
+
     // Stands behind what stands before the blocks.
     fn behind(
         alloc: Global,
-        name: String,
+        name: &str,
         lines: Lines,
         head: &Head,
         count: u64,
@@ -96,7 +106,7 @@ impl BlockReader {
         requires well { IsWell lines }
         requires fits { FitsHead (limits_of head.now.format) head.now }
         requires count { count ≤ (limits_of head.now.format).links }
-        ensures behind { IfOk result (λ r. IsBehindHead r (string_bytes name) lines head.now count) }
+        ensures behind { IfOk result (λ r. IsBehindHead r name.now lines head.now count) }
         ensures memory { (fault : StreamFault) → result ≡ Err fault → fault ≡ StreamFault.Memory }
     {
         let limits = limits_of(head.format);
@@ -104,7 +114,7 @@ impl BlockReader {
         let room = Room::new(alloc, &limits, &counts)?;
         Ok(BlockReader {
             blocks: Blocks {
-                name,
+                name: String::from_str(alloc, name)?,
                 lines,
                 room,
                 size: block_size(&limits, &counts),

@@ -12,8 +12,6 @@ mod parts;
 mod room;
 mod stream_fault;
 mod taking;
-#[cfg(test)]
-mod tests;
 mod window;
 
 pub use block_reader::BlockReader;

@@ -1,13 +1,21 @@
 //! The lines of a file that stand ready.
-ghost use Rattle.std.specs.Prelude.{◌≡◌, ◌≢◌, ◌≤◌, ◌+◌, ◌++◌, ℕ, List, length, IfOk, OnOk, Ok, Err};
+ghost use Rattle.std.specs.Prelude.{◌≡◌, ◌≢◌, ◌⊎◌, ◌≤◌, ◌+◌, ◌++◌, ℕ, List, [], length, IfOk, OnOk, Ok, Err};
 ghost use Rattle.block_reader.specs.Standing.{ready, fetched_of, state_of, limit_of, room_of};
 
+use crate::file_limit::FileLimit;
 use crate::stream_fault::StreamFault;
 use crate::window::{State, Window};
 use cert_text::Stop;
 use cert_text::cursor::Bytes;
 use cert_text::reader::Reader;
+use std::alloc::Global;
 use te_ports::Depot;
+
+// How many bytes of a file stand ready at most: more than reading of any part of it looks at.
+const ROOM: usize = 1_310_720;
+
+// How many bytes reading of the first line looks at.
+const FIRST_LINE: usize = 14;
 
 /// The bytes of a file that stand ready, and the line in which they begin.
 #[derive(Drop)]
@@ -23,6 +31,27 @@ impl Lines {
     ghost use Rattle.block_reader.specs.Answers.{IsBehind, IsWell, HasEnough, IsClosedBy, Passes, IsDrained};
     ghost use Rattle.te_ports.specs.Shown.{shown};
     ghost use Rattle.block_reader.specs.Depots.{Reads, ReadsTo};
+
+    /// The first bytes of the file of this name.
+    ///
+    /// # Errors
+    ///
+    /// `Failed` where a read failed, and `Memory` where memory is short.
+    pub(crate) fn open<D: Depot>(
+        alloc: Global,
+        depot: &mut D,
+        name: &str,
+    ) -> Result<Lines, StreamFault>
+        ensures behind { IfOk result (λ lines. IsBehind (D.gave depot.new name.now) lines []) }
+        ensures line { IfOk result (λ lines. lines.line ≡ 1) }
+        ensures well { IfOk result IsWell }
+        ensures refused { (fault : StreamFault) → result ≡ Err fault → (fault ≡ StreamFault.Failed) ⊎ (fault ≡ StreamFault.Memory) }
+        ensures reads { Reads (shown D.content D.gave D.faults depot.old) (shown D.content D.gave D.faults depot.new)
+            name.now result }
+    {
+        let window = Window::at_start(alloc, depot, name, &FileLimit, FIRST_LINE, ROOM)?;
+        Lines::at_start(window)
+    }
 
     /// The first bytes of a file. `Failed` where a read failed.
     pub(crate) fn at_start(window: Window) -> Result<Lines, StreamFault>

@@ -4,6 +4,7 @@ ghost use Rattle.te_ports.specs.Ports.{Rose, Told};
 ghost use Rattle.te_ports.specs.Limit.{IsLimit};
 ghost use Rattle.te_ports.specs.Record.{Grows};
 ghost use Rattle.block_reader.specs.declared.window.State.{State};
+ghost use Rattle.block_reader.specs.Fetching.{state_after};
 
 use std::alloc::{AllocError, Global};
 use te_ports::{Depot, Failed, Limit};
@@ -19,6 +20,18 @@ pub enum State {
     Failed,
     /// One byte more was fetched than the limit allows.
     TooLong,
+}
+
+// What a read with this answer makes of a file that was open, of which so many bytes are fetched by then.
+fn state_after(answer: Result<usize, Failed>, fetched: u64, limit: u64) -> State
+    ensures { result ≡ state_after answer fetched limit }
+{
+    match answer {
+        Err(Failed) => State::Failed,
+        Ok(0) => State::Ended,
+        Ok(_) if fetched > limit => State::TooLong,
+        Ok(_) => State::Open,
+    }
 }
 
 /// The bytes of a file that stand ready: those that were fetched and not yet passed.
@@ -195,17 +208,11 @@ impl Window {
         let left = (self.limit + 1 - self.fetched) as usize;
         let space = (self.bytes.len() - self.end).min(left);
         let end = self.end;
-        match depot.fetch(name, self.fetched, &mut self.bytes[end..end + space]) {
-            Err(Failed) => self.state = State::Failed,
-            Ok(0) => self.state = State::Ended,
-            Ok(count) => {
-                self.end += count;
-                self.fetched += count as u64;
-                if self.fetched > self.limit {
-                    self.state = State::TooLong;
-                }
-            }
-        }
+        let answer = depot.fetch(name, self.fetched, &mut self.bytes[end..end + space]);
+        let count = answer.unwrap_or(0);
+        self.end += count;
+        self.fetched += count as u64;
+        self.state = state_after(answer, self.fetched, self.limit);
     }
 
     /// Makes as many bytes stand ready as are asked for, or all that are left. Past the limit nothing is read, and nothing

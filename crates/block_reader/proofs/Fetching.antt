@@ -1,0 +1,71 @@
+-- What a read with one answer or another makes of a window.
+use Rattle.std.proofs.Common.{◌≡◌, ◌∙◌, ℕ, ◌+◌, ◌≤◌, ◌<◌, Bool, true, false, List, [], ◌++◌, length, take, Result, Ok, Err, refl, sym, ap, subst, arith, append-nil, length-take-le}
+use Rattle.std.specs.Prelude.{◌==◌, nat_lt, if◌then◌else◌, IfOk}
+use Rattle.std.specs.Result.{result_unwrap_or}
+use Rattle.std.proofs.lemmas.Bool.Decides.{nat_tests}
+use Rattle.te_ports.specs.Record.{IsPiece}
+use Rattle.block_reader.specs.declared.window.Window.{Window}
+use Rattle.block_reader.specs.declared.window.State.{State}
+use Rattle.block_reader.specs.declared.window.State.TheVariants.{Open, Ended, TooLong}
+use Rattle.block_reader.specs.Fetching.{state_after}
+use Rattle.block_reader.specs.Standing.{ready, fetched_of, state_of, limit_of, IsEndOf, IsStateOf, StandsAt, StandsIn}
+use Rattle.block_reader.proofs.Going.{at_failed, at_more, in_failed, in_more}
+
+-- the state by whether nothing was read and whether too much was
+abbrev by_tests : Bool → Bool → State
+by_tests none long = if none then Ended else (if long then TooLong else Open)
+
+-- a read that failed counts nothing
+pub count_fits : {E : Type 0} (r : Result ℕ E) (count room : ℕ) → count ≡ result_unwrap_or r 0 → IfOk r (λ n. n ≤ room) → count ≤ room
+count_fits (Ok n) count room is fits = omega (arith, is, fits)
+count_fits (Err fault) count room is fits = omega (arith, is)
+
+ends_by : (gave : ℕ → List ℕ → Type 0) (limit fetched : ℕ) (none long : Bool) → (none ≡ true → gave fetched []) → (long ≡ true → fetched ≡ limit + 1) →
+    IsEndOf gave limit fetched (by_tests none long)
+ends_by gave limit fetched true long ended past = ended refl
+ends_by gave limit fetched false true ended past = past refl
+ends_by gave limit fetched false false ended past = tt
+
+pub at_answer : {E : Type 0} (old new : ℕ → List ℕ → Type 0) (w w' : Window) (passed buf : List ℕ) (r : Result ℕ E) (count : ℕ) →
+    ((at : ℕ) (piece : List ℕ) → old at piece → new at piece) → count ≡ result_unwrap_or r 0 → count ≤ length buf →
+    ready w' ≡ ready w ++ take count buf → fetched_of w' ≡ fetched_of w + count → fetched_of w' ≤ limit_of w' + 1 →
+    state_of w' ≡ state_after r (fetched_of w') (limit_of w') → IfOk r (λ n. new (fetched_of w) (take n buf)) →
+    StandsAt old w passed → StandsAt new w' passed
+at_answer old new w w' passed buf (Ok n) count grows is_count room next at below is gave s =
+    let given : new w.fetched (take count buf) = subst (λ k. new w.fetched (take k buf)) (sym is_count) gave in
+    let ended : (n == 0) ≡ true → new w'.fetched [] = (λ e.
+    let zero : count ≡ 0 = grind (arith, nat_tests) in
+    let same : w.fetched ≡ w'.fetched = omega (arith, zero, at) in
+    subst (λ k. new k []) same (subst (λ k. new w.fetched (take k buf)) zero given)) in
+    let past : nat_lt w'.limit w'.fetched ≡ true → w'.fetched ≡ w'.limit + 1 = (λ e. grind (arith, nat_tests)) in
+    at_more old new w w' passed (take count buf) grows next (omega (arith, at, length-take-le count buf room)) given
+    (subst (IsEndOf new w'.limit w'.fetched) (sym is) (ends_by new w'.limit w'.fetched (n == 0) (nat_lt w'.limit w'.fetched) ended past)) s
+at_answer old new w w' passed buf (Err fault) count grows is_count room next at below is gave s =
+    let same : ready w' ≡ ready w = next ∙ ap (λ k. ready w ++ take k buf) is_count ∙ append-nil (ready w) in
+    at_failed old new w w' passed grows same (omega (arith, at, is_count)) is s
+
+state_by : (content : List ℕ) (limit fetched : ℕ) (none long : Bool) → (none ≡ true → length content ≤ fetched) → (long ≡ true → limit < length content) →
+    IsStateOf content limit fetched (by_tests none long)
+state_by content limit fetched true long ended past = ended refl
+state_by content limit fetched false true ended past = past refl
+state_by content limit fetched false false ended past = tt
+
+pub in_answer : {E : Type 0} (content : List ℕ) (w w' : Window) (passed buf : List ℕ) (r : Result ℕ E) (count : ℕ) →
+    count ≡ result_unwrap_or r 0 → count ≤ length buf →
+    ready w' ≡ ready w ++ take count buf → fetched_of w' ≡ fetched_of w + count →
+    state_of w' ≡ state_after r (fetched_of w') (limit_of w') → IfOk r (λ n. IsPiece content (fetched_of w) (take n buf)) →
+    StandsIn content w passed → StandsIn content w' passed
+in_answer content w w' passed buf (Ok n) count is_count room next at is pieces s =
+    let piece : IsPiece content w.fetched (take count buf) = subst (λ k. IsPiece content w.fetched (take k buf)) (sym is_count) pieces in
+    let size : length (take count buf) ≡ count = length-take-le count buf room in
+    let ended : (n == 0) ≡ true → length content ≤ w'.fetched = (λ e.
+    let zero : count ≡ 0 = grind (arith, nat_tests) in
+    let short : length content ≤ w.fetched = piece.ends (size ∙ zero) in
+    omega (arith, short, at)) in
+    in_more content w w' passed (take count buf) next (omega (arith, at, size)) piece
+    (λ fits.
+    let past : nat_lt w'.limit w'.fetched ≡ true → w'.limit < length content = (λ e. grind (arith, nat_tests)) in
+    subst (IsStateOf content w'.limit w'.fetched) (sym is) (state_by content w'.limit w'.fetched (n == 0) (nat_lt w'.limit w'.fetched) ended past)) s
+in_answer content w w' passed buf (Err fault) count is_count room next at is pieces s =
+    let same : ready w' ≡ ready w = next ∙ ap (λ k. ready w ++ take k buf) is_count ∙ append-nil (ready w) in
+    in_failed content w w' passed same (omega (arith, at, is_count)) is s

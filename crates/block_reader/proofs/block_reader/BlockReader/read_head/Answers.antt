@@ -1,0 +1,21 @@
+use Rattle.std.proofs.Common.{[], subst}
+use Rattle.std.proofs.lemmas.Result.{err_from_is_err_and}
+use Rattle.block_reader.specs.Blocks.{IsFaultOf}
+use Rattle.block_reader.proofs.Handing.{opening_refused}
+use Rattle.block_reader.proofs.Advancing.{fault_is}
+use Rattle.block_reader.proofs.Starting.{opened_reader}
+use Rattle.block_reader.proofs.block_reader.BlockReader.read_head.Goals as goal
+
+pub returns-in_err-head-clause-refused : goal.returns-in_err-head-clause-refused
+returns-in_err-head-clause-refused g c =
+    let p = err_from_is_err_and c.from_residual-in_err-head.result c.from_residual-in_err-head.ensures.1 in
+    let f = c.in_err-head.field-0.0 in
+    let lines = c.in_ok-lines.ensures in
+    rw (p.1, p.2) (λ fault is.
+    subst (IsFaultOf _) (fault_is f fault is) (opening_refused _ c.in_ok-lines.lines f lines.line (c.in_err-head.ensures.answers [] lines.behind)))
+
+pub returns-clause-stands : goal.returns-clause-stands
+returns-clause-stands g c =
+    let lines = c.in_ok-lines.ensures in
+    opened_reader _ _ c.in_ok-lines.lines c.opening.new.lines c.in_ok-reader.reader _ c.in_ok-head.head c.in_ok-head.count lines.line lines.behind
+    c.in_ok-head.ensures.answers c.in_ok-head.ensures.fits c.in_ok-reader.ensures.behind
