@@ -10,17 +10,14 @@ use Rattle.te_model.specs.Validity.{IsValid}
 use Rattle.te_model.proofs.Failures.{none_from_holds}
 use Rattle.random_network.specs.Drawn.{network_of}
 use Rattle.random_network.proofs.Formed.{nodes_are}
-use Rattle.failure.specs.declared.outage.Failures.{Failures}
 use Rattle.traffic_matrix.specs.declared.series.Series.{Series}
 use Rattle.traffic_matrix.specs.Gravity.{every_pair, gravity_of}
-use Rattle.plan.specs.declared.recovery.Recovery.TheVariants.{Keep}
+use Rattle.ratio_checker.specs.declared.finding.Finding.{Finding}
 use Rattle.ratio_checker.specs.declared.finding.Finding.TheVariants.{Yes}
 use Rattle.ratio_checker.specs.Finding.{finding_of}
 use Rattle.series_simulation.specs.declared.step_row.StepRow.{StepRow}
-use Rattle.series_simulation.specs.Rows.{AreStepRows}
 use Rattle.generation.specs.declared.lines.Summary.{Summary}
-use Rattle.failure.specs.Series.{no_failures}
-use Rattle.generation.specs.Summary.{AreDrawnRows, IsDrawnFile, IsSummary, least_paths}
+use Rattle.generation.specs.Summary.{AreDrawnRows, AreLeastRows, IsDrawnFile, IsJudgedDraw, IsSummary, IsTotal, summary_text}
 use Rattle.generation.specs.Text.{lines_of}
 
 -- a drawn file spells its certificate
@@ -34,9 +31,28 @@ pub drawn_valid : (seed : ℕ) (net : Network) (pairs : List Pair) (file bytes :
 drawn_valid seed net pairs file bytes read is same reads =
     subst IsValid (sym (reads is.made.certificate (drawn_spells seed net pairs file bytes is same))) is.made.made.valid
 
--- the network, the series and the failures of a run
-module _ (n seed : ℕ) (net : Network) (series : Series) (failures : Failures) (drawn : net ≡ network_of n seed)
-    (gravity : series ≡ gravity_of (node_count net) seed 3) (none : failures ≡ no_failures) where
+-- what is read of it and judged has its ratio, and the verdict is yes
+pub judged_draw : (seed : ℕ) (net : Network) (pairs : List Pair) (file bytes : List ℕ) (read : Certificate) (ratio : ℕ) (finding : Finding) →
+    IsDrawnFile seed net pairs file → bytes ≡ file → ((c : Certificate) → Spells bytes c → read ≡ c) → ratio ≡ read.head.ratio →
+    finding ≡ finding_of (first_failure read) → IsJudgedDraw seed net pairs ratio finding
+judged_draw seed net pairs file bytes read ratio finding is same reads ratio_of found =
+    let certificate = is.made.certificate in
+    let back : read ≡ certificate = reads certificate (drawn_spells seed net pairs file bytes is same) in
+    record {
+      file = file;
+      published = is;
+      ratio_is = ratio_of ∙ ap (λ (c : Certificate). c.head.ratio) back;
+      yes = found ∙ ap (λ (c : Certificate). finding_of (first_failure c)) back ∙ ap finding_of (none_from_holds certificate is.made.made.holds);
+    }
+
+-- equal numbers have equal lines
+same_lines : (s : Summary) (net : Network) (pairs ratio : ℕ) (rows : List StepRow) → s.nodes ≡ node_count net → s.links ≡ link_count net → s.pairs ≡ pairs →
+    s.ratio ≡ ratio → s.finding ≡ Yes → s.offered ≡ sum_by (λ (row : StepRow). row.result.offered) rows →
+    s.delivered ≡ sum_by (λ (row : StepRow). row.result.delivered) rows → lines_of s ≡ summary_text net pairs ratio rows
+same_lines s net pairs ratio rows nodes links of_pairs of_ratio found offered delivered = rw (nodes, links, of_pairs, of_ratio, found, offered, delivered) refl
+
+-- the network and the series of a run
+module _ (n seed : ℕ) (net : Network) (series : Series) (drawn : net ≡ network_of n seed) (gravity : series ≡ gravity_of (node_count net) seed 3) where
   nodes : node_count net ≡ n
   nodes = ap node_count drawn ∙ nodes_are n seed
 
@@ -46,39 +62,29 @@ module _ (n seed : ℕ) (net : Network) (series : Series) (failures : Failures) 
   pairs_are : series.pairs.list ≡ every_pair n
   pairs_are = ap (λ (s : Series). s.pairs.list) series_is
 
-  published : (file : List ℕ) → IsDrawnFile seed net series.pairs.list file → IsDrawnFile seed (network_of n seed) (every_pair n) file
-  published file is =
-      subst (λ (pairs : List Pair). IsDrawnFile seed (network_of n seed) pairs file) pairs_are
-      (subst (λ (w : Network). IsDrawnFile seed w series.pairs.list file) drawn is)
+  judged : (ratio : ℕ) (finding : Finding) → IsJudgedDraw seed net series.pairs.list ratio finding → IsJudgedDraw seed (network_of n seed) (every_pair n) ratio finding
+  judged ratio finding is =
+      subst (λ (pairs : List Pair). IsJudgedDraw seed (network_of n seed) pairs ratio finding) pairs_are
+      (subst (λ (w : Network). IsJudgedDraw seed w series.pairs.list ratio finding) drawn is)
 
-  abbrev AreRows : Network → Series → Failures → List StepRow → Type 0
-  AreRows w s f rows = AreStepRows least_paths.limit least_paths.is_plan least_paths.relates least_paths.low w s f Keep rows
-
-  driven : (rows : List StepRow) → AreRows net series failures rows → AreDrawnRows n seed rows
+  driven : (rows : List StepRow) → AreLeastRows net series rows → AreDrawnRows n seed rows
   driven rows are =
-      subst (λ (f : Failures). AreRows (network_of n seed) (gravity_of n seed 3) f rows) none
-      (subst (λ (s : Series). AreRows (network_of n seed) s failures rows) series_is
-      (subst (λ (w : Network). AreRows w series failures rows) drawn are))
+      subst (λ (s : Series). AreLeastRows (network_of n seed) s rows) series_is
+      (subst (λ (w : Network). AreLeastRows w series rows) drawn are)
 
-  -- the lines of what was counted, read, found and added up
-  pub summed : (file bytes : List ℕ) (read : Certificate) (rows : List StepRow) (s : Summary) (text : List ℕ) →
-      IsDrawnFile seed net series.pairs.list file → bytes ≡ file → ((c : Certificate) → Spells bytes c → read ≡ c) →
-      AreRows net series failures rows → s.nodes ≡ node_count net → s.links ≡ link_count net → s.pairs ≡ length series.pairs.list →
-      s.ratio ≡ read.head.ratio → s.finding ≡ finding_of (first_failure read) → s.offered ≡ sum_by (λ (row : StepRow). row.result.offered) rows →
-      s.delivered ≡ sum_by (λ (row : StepRow). row.result.delivered) rows → text ≡ lines_of s → IsSummary n seed text
-  summed file bytes read rows s text is same reads are nodes_of links_of pairs_of ratio_of found offered delivered lines =
-      let at = published file is in
-      let certificate = at.made.certificate in
-      let back : read ≡ certificate = reads certificate (drawn_spells seed (network_of n seed) (every_pair n) file bytes at same) in
-      let ratio : s.ratio ≡ certificate.head.ratio = ratio_of ∙ ap (λ (c : Certificate). c.head.ratio) back in
-      let yes : s.finding ≡ Yes = found ∙ ap (λ (c : Certificate). finding_of (first_failure c)) back ∙ ap finding_of (none_from_holds certificate at.made.made.holds) in
+  -- the lines of what was counted, judged and added up
+  pub summed : (s : Summary) (text : List ℕ) → IsJudgedDraw seed net series.pairs.list s.ratio s.finding → IsTotal net series s.offered s.delivered →
+      s.nodes ≡ node_count net → s.links ≡ link_count net → s.pairs ≡ length series.pairs.list → text ≡ lines_of s → IsSummary n seed text
+  summed s text of_draw total nodes_of links_of pairs_of lines =
+      let at = judged s.ratio s.finding of_draw in
       let count : s.nodes ≡ node_count (network_of n seed) = nodes_of ∙ ap node_count drawn in
       let links : s.links ≡ link_count (network_of n seed) = links_of ∙ ap link_count drawn in
       let pairs : s.pairs ≡ length (every_pair n) = pairs_of ∙ ap (λ (ps : List Pair). length ps) pairs_are in
       record {
-        file = file;
-        published = at;
-        rows = rows;
-        driven = driven rows are;
-        text_is = lines ∙ rw (count, links, pairs, ratio, yes, offered, delivered) refl;
+        file = at.file;
+        published = at.published;
+        rows = total.rows;
+        driven = driven total.rows total.driven;
+        text_is = lines ∙ same_lines s (network_of n seed) (length (every_pair n)) at.published.made.certificate.head.ratio total.rows count links pairs
+            at.ratio_is at.yes total.offered_is total.delivered_is;
       }

@@ -8,11 +8,13 @@ use Rattle.te_model.specs.Network.{link_count, node_count}
 use Rattle.te_model.specs.Ratio.{IsObliviousRatio}
 use Rattle.random_network.specs.Drawn.{network_of}
 use Rattle.failure.specs.Series.{no_failures}
+use Rattle.traffic_matrix.specs.declared.series.Series.{Series}
 use Rattle.traffic_matrix.specs.Gravity.{every_pair, gravity_of}
 use Rattle.plan.specs.declared.recovery.Recovery.TheVariants.{Keep}
 use Rattle.path_budget.specs.Budget.{trimmed}
 use Rattle.racke_mix.specs.declared.round.Round.{Round}
 use Rattle.racke_mix.specs.Racke.{IsRackePlan}
+use Rattle.ratio_checker.specs.declared.finding.Finding.{Finding}
 use Rattle.ratio_checker.specs.declared.finding.Finding.TheVariants.{Yes}
 use Rattle.scheme.specs.Least.{IsLeastSplit}
 use Rattle.scheme.specs.declared.spf.SpfPlan.{SpfPlan}
@@ -34,10 +36,28 @@ pub record IsDrawnFile (seed : ℕ) (net : Network) (pairs : List Pair) (file : 
 abbrev pub least_paths : SchemeMeaning
 least_paths = rule_scheme (λ (p : SpfPlan). p.routing.routes) spf_paths IsLeastSplit
 
--- the rows of least paths over three drawn matrices, in which no link fails
+-- the rows of least paths over the matrices, in which no link fails
+abbrev pub AreLeastRows : Network → Series → List StepRow → Type 0
+AreLeastRows net series rows =
+    AreStepRows least_paths.limit least_paths.is_plan least_paths.relates least_paths.low net series no_failures Keep rows
+
+-- the rows of least paths over three drawn matrices
 abbrev pub AreDrawnRows : ℕ → ℕ → List StepRow → Type 0
-AreDrawnRows n seed rows =
-    AreStepRows least_paths.limit least_paths.is_plan least_paths.relates least_paths.low (network_of n seed) (gravity_of n seed 3) no_failures Keep rows
+AreDrawnRows n seed rows = AreLeastRows (network_of n seed) (gravity_of n seed 3) rows
+
+-- the ratio of the certificate in a drawn file, to which the verdict is yes
+pub record IsJudgedDraw (seed : ℕ) (net : Network) (pairs : List Pair) (ratio : ℕ) (finding : Finding) : Type 0 where
+  pub file : List ℕ
+  pub published : IsDrawnFile seed net pairs file
+  pub ratio_is : ratio ≡ published.made.certificate.head.ratio
+  pub yes : finding ≡ Yes
+
+-- the sums over the rows of least paths
+pub record IsTotal (net : Network) (series : Series) (offered delivered : ℕ) : Type 0 where
+  pub rows : List StepRow
+  pub driven : AreLeastRows net series rows
+  pub offered_is : offered ≡ sum_by (λ (row : StepRow). row.result.offered) rows
+  pub delivered_is : delivered ≡ sum_by (λ (row : StepRow). row.result.delivered) rows
 
 -- the lines of the network, of all pairs of two nodes, of a ratio to which the verdict is yes, and of the sums over the rows
 abbrev pub summary_text : Network → ℕ → ℕ → List StepRow → List ℕ

@@ -1,6 +1,10 @@
 //! The summary of a drawn network.
-ghost use Rattle.std.specs.Prelude.{◌≤◌, IfOk};
-ghost use Rattle.generation.specs.Summary.{IsSummary};
+ghost use Rattle.std.specs.Prelude.{◌≤◌, IfOk, IsTrue};
+ghost use Rattle.te_model.specs.Network.{is_well_formed, link_count, node_count};
+ghost use Rattle.te_model.specs.Pairs.{AscendPairs};
+ghost use Rattle.scheme.specs.Reach.{AllReached, ArePairsOf};
+ghost use Rattle.traffic_matrix.specs.Limits.{IsSeries};
+ghost use Rattle.generation.specs.Summary.{IsJudgedDraw, IsSummary, IsTotal};
 
 use crate::drawn_file::{drawn_file, read_back};
 use crate::lines::{Summary, print_lines};
@@ -8,12 +12,48 @@ use crate::totals::{delivered_in, offered_in};
 use failure::Failures;
 use plan::Recovery;
 use random_network::network;
-use ratio_checker::verdict;
+use ratio_checker::{Finding, verdict};
 use scheme::Spf;
 use series_simulation::drive;
 use std::alloc::Global;
-use te_model::{Items, Memory};
-use traffic_matrix::gravity;
+use te_model::{Items, Memory, Network, Pairs};
+use traffic_matrix::{Series, gravity};
+
+/// The ratio of the certificate that is published for the pairs, and the finding on its file, which is read back.
+fn ratio_and_finding(
+    alloc: Global,
+    network: &Network,
+    pairs: &Pairs,
+    seed: u64,
+) -> Result<(u64, Finding), Memory>
+    requires network { IsTrue (is_well_formed network.now) }
+    requires links { 1 ≤ link_count network.now }
+    requires pairs { ArePairsOf network.now pairs.now.list }
+    requires ascending { AscendPairs pairs.now.list }
+    requires reached { AllReached network.now pairs.now.list }
+    ensures { IfOk result (λ r. IsJudgedDraw seed network.now pairs.now.list r.0 r.1) }
+{
+    let file = drawn_file(alloc, network, pairs, seed)?;
+    let certificate = read_back(alloc, file.as_slice())?;
+    Ok((certificate.head.ratio, verdict(&certificate)))
+}
+
+/// The demands of all steps, and what arrives of them over least paths, where no link fails.
+fn offered_and_delivered(
+    alloc: Global,
+    network: &Network,
+    series: &Series,
+) -> Result<(u128, u128), Memory>
+    requires network { IsTrue (is_well_formed network.now) }
+    requires series { IsSeries (node_count network.now) series.now }
+    ensures { IfOk result (λ t. IsTotal network.now series.now t.0 t.1) }
+{
+    let none = Failures {
+        list: Items::new(Vec::new(alloc)),
+    };
+    let rows = drive(alloc, &Spf, network, series, &none, Recovery::Keep)?;
+    Ok((offered_in(rows.as_slice()), delivered_in(rows.as_slice())))
+}
 
 /// Draws a network of 2 to 64 nodes and three matrices by the gravity model from the seed, publishes a routing over four trees of the
 /// seed, reads the certificate's file back and judges it, and simulates least paths over the three matrices, in which no link fails.
@@ -27,20 +67,16 @@ pub fn summary(alloc: Global, nodes: u32, seed: u64) -> Result<Vec<u8>, Memory>
 {
     let network = network(alloc, nodes, seed)?;
     let series = gravity(alloc, &network, seed, 3)?;
-    let file = drawn_file(alloc, &network, &series.pairs, seed)?;
-    let certificate = read_back(alloc, file.as_slice())?;
-    let none = Failures {
-        list: Items::new(Vec::new(alloc)),
-    };
-    let rows = drive(alloc, &Spf, &network, &series, &none, Recovery::Keep)?;
+    let (ratio, finding) = ratio_and_finding(alloc, &network, &series.pairs, seed)?;
+    let (offered, delivered) = offered_and_delivered(alloc, &network, &series)?;
     let summary = Summary {
         nodes: network.names.as_slice().len(),
         links: network.links.as_slice().len(),
         pairs: series.pairs.list.as_slice().len(),
-        ratio: certificate.head.ratio,
-        finding: verdict(&certificate),
-        offered: offered_in(rows.as_slice()),
-        delivered: delivered_in(rows.as_slice()),
+        ratio,
+        finding,
+        offered,
+        delivered,
     };
     let text = print_lines(alloc, &summary)?;
     Ok(text)
