@@ -3,13 +3,15 @@ ghost use Rattle.std.specs.Prelude.{◌≡◌, ◌^◌, ◌<◌, ◌≤◌, All,
 ghost use Rattle.te_model.specs.Network.{is_well_formed, link_count};
 ghost use Rattle.te_model.specs.PathRouting.{IsPathRouting};
 ghost use Rattle.routing.specs.Routes.{AreDemands};
+ghost use Rattle.rate_sweeps.specs.Descents.{BothKeep, IsDescent};
 ghost use Rattle.rate_sweeps.specs.Sweeps.{AreRates};
+ghost use Rattle.semi_oblivious.specs.Semi.{KeepsTo};
 ghost use Rattle.semi_oblivious.specs.Sweeps.{AreFixedSweeps, IsOverFixed};
 
 use rate_sweeps::{
-    COUNTED, MAX_PARTS, Rates, STAGES, Sweep, TURNS, UNCOUNTED, add_counted, cheapest_paths,
-    first_descent, first_rates, is_over, lesser, next_lengths, offer, routing_by, take_sweep,
-    take_turn,
+    COUNTED, Descent, MAX_PARTS, Rates, STAGES, Sweep, TURNS, UNCOUNTED, add_counted,
+    cheapest_paths, first_descent, first_rates, is_over, lesser, next_lengths, offer, routing_by,
+    take_sweep, take_turn,
 };
 use routing::Routing;
 use std::alloc::Global;
@@ -72,7 +74,33 @@ fn best_stage(
     Ok(best)
 }
 
-/// The best routing of a descent from the given one, by turns to the cheapest fixed paths. Their lengths are offered.
+/// The descent after a turn to the cheapest fixed paths. Their lengths are offered.
+fn turn(
+    alloc: Global,
+    net: &Network,
+    fixed: &Routing,
+    matrix: &Matrix,
+    descent: Descent,
+    rates: &mut Rates,
+) -> Result<Descent, Memory>
+    requires network { IsTrue (is_well_formed net.now) }
+    requires fixed { IsPathRouting net.now fixed.now.routes }
+    requires pairs { length fixed.now.routes < 2 ^ 32 }
+    requires demands { AreDemands (length fixed.now.routes) matrix.now.demand }
+    requires descent { IsDescent net.now matrix.now.demand fixed.now.routes descent }
+    requires keeps { BothKeep (KeepsTo fixed.now.routes) descent }
+    requires rates { AreRates net.now rates.old }
+    ensures descent { IfOk result (IsDescent net.now matrix.now.demand fixed.now.routes) }
+    ensures keeps { IfOk result (BothKeep (KeepsTo fixed.now.routes)) }
+    ensures rates { AreRates net.now rates.new }
+{
+    let lengths = next_lengths(alloc, net, matrix, &descent)?;
+    let paths = cheapest_paths(alloc, net, fixed, &lengths)?;
+    offer(alloc, net, matrix, &paths, &lengths, rates)?;
+    take_turn(alloc, net, matrix, descent, &paths, &lengths, LIMIT)
+}
+
+/// The best routing of a descent from the given one, by turns to the cheapest fixed paths.
 fn descend(
     alloc: Global,
     net: &Network,
@@ -95,10 +123,7 @@ fn descend(
         if is_over(descent.pace) {
             return Ok(descent.best);
         }
-        let lengths = next_lengths(alloc, net, matrix, &descent)?;
-        let paths = cheapest_paths(alloc, net, fixed, &lengths)?;
-        offer(alloc, net, matrix, &paths, &lengths, rates)?;
-        descent = take_turn(alloc, net, matrix, descent, &paths, &lengths, LIMIT)?;
+        descent = turn(alloc, net, fixed, matrix, descent, rates)?;
     }
     Ok(descent.best)
 }

@@ -5,6 +5,6 @@ use Rattle.semi_oblivious.proofs.sweeps.descend.Given as goal
 
 abbrev pub invariant-loop : goal.invariant-loop
 invariant-loop l =
-    IsDescent l.net l.matrix.demand l.fn.start.routes l.descent
+    IsDescent l.net l.matrix.demand l.fixed.routes l.descent
     × BothKeep (KeepsTo l.fixed.routes) l.descent
     × AreRates l.net l.rates
