@@ -25,6 +25,7 @@ pub fn lesser(
     ensures either { IfOk result (λ r. (r.routes ≡ first.routes) ⊎ (r.routes ≡ second.routes)) }
     ensures first { IfOk result (λ r. parts net.now r.routes matrix.now.demand ≤ parts net.now first.routes matrix.now.demand) }
     ensures second { IfOk result (λ r. parts net.now r.routes matrix.now.demand ≤ parts net.now second.routes matrix.now.demand) }
+    ensures kept { parts net.now first.routes matrix.now.demand ≤ parts net.now second.routes matrix.now.demand → IfOk result (λ r. r.routes ≡ first.routes) }
 {
     let ours = first.greatest_utilisation(alloc, net, matrix)?;
     let theirs = second.greatest_utilisation(alloc, net, matrix)?;

@@ -15,6 +15,17 @@ const MAX_LENGTH: u128 = 1 << 27;
 /// The greatest capacity of a link.
 const MAX_CAPACITY: u128 = 1 << 32;
 
+/// The greatest of the numbers, and 1 at least.
+fn greatest(numbers: &[u128]) -> u128
+    ensures { 1 ≤ result }
+{
+    let mut most = 1;
+    for number in numbers {
+        most = most.max(*number);
+    }
+    most
+}
+
 /// The load of each link over its capacity.
 fn usage_of(alloc: Global, net: &Network, loads: &[u128]) -> Result<Vec<u128>, Memory>
     requires network { IsTrue (is_well_formed net.now) }
@@ -62,7 +73,7 @@ fn prices_of(alloc: Global, net: &Network, usage: &[u128], times: u32) -> Result
     ensures count { IfOk result (λ p. length p.items ≡ link_count net.now) }
     ensures small { IfOk result (λ p. All (λ x. x ≤ 2 ^ 62) p.items) }
 {
-    let most = usage.iter().copied().max().unwrap_or(0).max(1);
+    let most = greatest(usage);
     let links = net.links.as_slice();
     let mut prices = Vec::with_capacity(alloc, links.len())?;
     for h in 0..links.len() {
@@ -87,7 +98,7 @@ fn lengths_of(alloc: Global, prices: &[u128]) -> Result<Vec<u64>, Memory>
     ensures count { IfOk result (λ l. length l.items ≡ length prices.now) }
     ensures lengths { IfOk result (λ l. AreWeightsUpTo (2 ^ 27) l.items) }
 {
-    let most = prices.iter().copied().max().unwrap_or(0).max(1);
+    let most = greatest(prices);
     let mut lengths = Vec::with_capacity(alloc, prices.len())?;
     for price in prices {
         lengths.push(length_of(*price, most))?;
