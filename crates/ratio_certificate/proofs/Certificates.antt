@@ -16,7 +16,7 @@ use Rattle.te_model.specs.Network.{node_count, link_count, is_well_formed}
 use Rattle.te_model.specs.Path.{share}
 use Rattle.te_model.specs.Certificate.{block_of, empty_block}
 use Rattle.te_model.specs.Inequalities.{keeps_bounds, pays_weights, weigh, BlockHolds, Holds}
-use Rattle.te_model.specs.Validity.{AscendByLink, IsValid, IsValidBlock}
+use Rattle.te_model.specs.Validity.{IsValid, IsValidBlock}
 use Rattle.te_model.proofs.Sums.{sum_below-zero}
 use Rattle.te_model.proofs.ValidParts.{valid_parts}
 use Rattle.te_model.proofs.WellFormed.{few_nodes}
@@ -26,19 +26,10 @@ use Rattle.best_blocks.specs.Sharing.{HasShare}
 use Rattle.best_blocks.proofs.BlockValid.{best_valid}
 use Rattle.best_blocks.proofs.Holding.{best_holds}
 use Rattle.ratio_certificate.specs.Form.{IsFormatFor}
-use Rattle.ratio_certificate.specs.Made.{HasBlock, IsMadeIn, IsOwnBest, IsWithinStart}
+use Rattle.ratio_certificate.specs.Made.{IsMadeIn, IsOwnBest, IsWithinStart}
+use Rattle.ratio_certificate.specs.Making.{head_with, AreMadeBlocks}
 use Rattle.ratio_certificate.specs.Polished.{IsPolished}
-use Rattle.ratio_certificate.specs.Weighting.{AreWeights}
 use Rattle.ratio_certificate.proofs.HeadValid.{made_head}
-
--- best blocks of their own weights, of exactly the links with a share, ascending by link
-pub record AreMadeBlocks (net : Network) (routes : List PairRoutes) (set : DemandSet) (blocks : List Block) : Type 0 where
-  pub best : All (IsOwnBest net routes set) blocks
-  pub weights : All (λ b. AreWeights net b.weights) blocks
-  pub ascending : AscendByLink blocks
-  pub below : All (λ b. b.link < link_count net) blocks
-  pub few : length blocks ≤ link_count net
-  pub complete : (e : ℕ) → e < link_count net → HasShare routes e → HasBlock blocks e
 
 -- the block of a link is one of the blocks, or the link has none
 block_or_none : (P : Block → Type 0) (e : ℕ) (blocks : List Block) → All P blocks →
@@ -128,31 +119,28 @@ certificate_holds c within are greatest e below =
           cc))
     ]
 
-abbrev pub certificate_of : ℕ → Network → List PairRoutes → DemandSet → ℕ → List Block → Certificate
-certificate_of format net routes wanted ratio blocks = record {
-  head = record { format = format; network = net; routes = routes; set = wanted; ratio = ratio };
-  blocks = blocks;
-}
+abbrev certificate_of : Head → List Block → Certificate
+certificate_of head blocks = record { head = head; blocks = blocks }
 
--- a certificate of copies of a network and a routing
-pub made_certificate : (format : ℕ) (net : Network) (routes : List PairRoutes) (wanted : DemandSet) (blocks : List Block) (ratio : ℕ) (n : Network) (r : List PairRoutes) (bs : List Block) →
-    n ≡ net → r ≡ routes → bs ≡ blocks → is_well_formed net ≡ true → 1 ≤ link_count net → IsRoutingWithin net routes → IsSetWithin (length routes) wanted →
-    IsFormatFor net wanted format → AreMadeBlocks net routes wanted blocks → All (IsWithinStart net routes wanted) blocks → IsPolished net routes wanted blocks →
-    ratio < 10 ^ 19 → IsGreatestNeed net blocks ratio → IsMadeIn format net routes wanted (certificate_of format n r wanted ratio bs)
-made_certificate format net routes wanted blocks ratio n r bs is_n is_r is_bs formed some within set room are starting polished small greatest =
-    subst (λ (x : Network). IsMadeIn format net routes wanted (certificate_of format x r wanted ratio bs)) (sym is_n)
-    (subst (λ (x : List PairRoutes). IsMadeIn format net routes wanted (certificate_of format net x wanted ratio bs)) (sym is_r)
-    (subst (λ (x : List Block). IsMadeIn format net routes wanted (certificate_of format net routes wanted ratio x)) (sym is_bs)
+-- a certificate of this head and these blocks
+pub made_certificate : (format : ℕ) (net : Network) (routes : List PairRoutes) (wanted : DemandSet) (blocks : List Block) (ratio : ℕ) (h : Head) (bs : List Block) →
+    h ≡ head_with format net routes wanted ratio → bs ≡ blocks → is_well_formed net ≡ true → 1 ≤ link_count net → IsRoutingWithin net routes →
+    IsSetWithin (length routes) wanted → IsFormatFor net wanted format → AreMadeBlocks net routes wanted blocks → All (IsWithinStart net routes wanted) blocks →
+    IsPolished net routes wanted blocks → ratio < 10 ^ 19 → IsGreatestNeed net blocks ratio → IsMadeIn format net routes wanted (certificate_of h bs)
+made_certificate format net routes wanted blocks ratio h bs is_h is_bs formed some within set room are starting polished small greatest =
+    let head = head_with format net routes wanted ratio in
+    subst (λ (x : Head). IsMadeIn format net routes wanted (certificate_of x bs)) (sym is_h)
+    (subst (λ (x : List Block). IsMadeIn format net routes wanted (certificate_of head x)) (sym is_bs)
     (record {
       format_is = refl;
       network = refl;
       routes_are = refl;
       set_is = refl;
-      valid = certificate_valid (certificate_of format net routes wanted ratio blocks) room formed some within set are small;
-      holds = certificate_holds (certificate_of format net routes wanted ratio blocks) within are greatest;
+      valid = certificate_valid (certificate_of head blocks) room formed some within set are small;
+      holds = certificate_holds (certificate_of head blocks) within are greatest;
       best = are.best;
       starting = starting;
       polished = polished;
       blocks = are.complete;
       ratio = greatest;
-    })))
+    }))

@@ -20,3 +20,4 @@ pub mod Seeking
 pub mod Certificates
 pub mod MadeForms
 pub mod MadeBlocks
+pub mod Changed

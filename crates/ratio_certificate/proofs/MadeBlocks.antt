@@ -1,5 +1,5 @@
 -- The blocks that polished weights make.
-use Rattle.std.proofs.Common.{◌≡◌, ℕ, zero, suc, ◌*◌, ◌^◌, ◌<◌, ◌≤◌, true, List, length, arith, refl, ap, sym, subst, ◌∙◌, ◌==◌}
+use Rattle.std.proofs.Common.{◌≡◌, ℕ, zero, suc, ◌*◌, ◌^◌, ◌<◌, true, List, length, arith, refl, ap, sym, subst, ◌∙◌, ◌==◌}
 use Rattle.std.specs.Prelude.{All, IsTrue}
 use Rattle.std.proofs.lemmas.Bool.{eq-eqb, lt-ltb}
 use Rattle.std.proofs.lemmas.List.Elements.{All-from_get_or, All-get_or}
@@ -16,20 +16,20 @@ use Rattle.te_model.proofs.WellFormed.{capacities_positive}
 use Rattle.best_blocks.specs.declared.sharing.SharedLink.{SharedLink}
 use Rattle.best_blocks.specs.Best.{IsBestBlock}
 use Rattle.best_blocks.specs.Conditions.{IsRoutingWithin}
-use Rattle.best_blocks.specs.Need.{need_of, HasNumbers, IsGreatestNeed}
+use Rattle.best_blocks.specs.Need.{need_of}
 use Rattle.best_blocks.specs.Sharing.{HasShare, IsSharedLink}
 use Rattle.te_model.proofs.Valid.{block_small}
 use Rattle.best_blocks.proofs.Needs.{is_need, pays_more}
 use Rattle.best_blocks.proofs.NeedLaws.{need_of_block, needs_are_one, scale_of_block}
 use Rattle.ratio_certificate.specs.declared.weighting.Weighting.{Weighting}
 use Rattle.ratio_certificate.specs.Made.{HasBlock, IsOwnBest, IsWithinStart}
-use Rattle.ratio_certificate.specs.Making.{AreBlocksOf, AreSharedLinks}
+use Rattle.ratio_certificate.specs.Making.{AreBlocksOf, AreMadeBlocks, ArePaidBy, AreSharedLinks}
 use Rattle.ratio_certificate.specs.Places.{no_shared, shared_at, weighting_at}
 use Rattle.ratio_certificate.specs.Polished.{IsFine, IsPolished, IsWithinRounds, IsWorst, IsWorstBlock}
 use Rattle.ratio_certificate.specs.Rising.{AreRounds, NeedsNoMore}
 use Rattle.ratio_certificate.specs.Steps.{AreWeightings, IsDone, IsSettledAt}
 use Rattle.ratio_certificate.specs.Weighting.{AreWeights}
-use Rattle.ratio_certificate.proofs.Certificates.{blocks_numbers, AreMadeBlocks}
+use Rattle.ratio_certificate.proofs.Certificates.{blocks_numbers}
 use Rattle.ratio_certificate.proofs.ScaleOnly.{scale_only}
 use Rattle.ratio_certificate.proofs.Settling.{settled_block}
 
@@ -201,26 +201,18 @@ making_read net routes set links first second third start list lent blocks is_fi
   blocks_are = subst (λ (x : List Weighting). AreBlocksOf (length x) net routes set x blocks) is_lent made;
 }
 
--- the greatest need is within the limit of ratios
-need_within : (net : Network) (routes : List PairRoutes) (set : DemandSet) (links : List SharedLink) (start list : List Weighting) (blocks : List Block) (ratio : ℕ) →
-    is_well_formed net ≡ true → All (HasNumbers net) blocks → AreMaking net routes set links start list blocks → IsGreatestNeed net blocks ratio → ratio ≤ 1000000 * 2 ^ 42
-need_within net routes set links start list blocks ratio formed numbers all greatest =
-    greatest.least (1000000 * 2 ^ 42) (All-from_get_or (λ b. IsTrue (pays_weights net b (1000000 * 2 ^ 42))) blocks (empty_block 0) (λ k below.
+-- the limit of ratios pays for the blocks
+pub within_limit : (net : Network) (routes : List PairRoutes) (set : DemandSet) (links : List SharedLink) (start list : List Weighting) (blocks : List Block) →
+    is_well_formed net ≡ true → IsRoutingWithin net routes → AreMaking net routes set links start list blocks → ArePaidBy (1000000 * 2 ^ 42) net blocks
+within_limit net routes set links start list blocks formed within all =
+    let numbers = blocks_numbers net routes set blocks formed within (made_blocks net routes set links start list blocks all) in
+    All-from_get_or (λ b. IsTrue (pays_weights net b (1000000 * 2 ^ 42))) blocks (empty_block 0) (λ k below.
     let b = block_at blocks k in
-    let within = inside_links net routes set links start list blocks k all below in
+    let inside = inside_links net routes set links start list blocks k all below in
     let has = numbers k (empty_block 0) below in
     let small = block_small net b has.numbers has.small in
     let shared = shared_is net routes set links start list blocks k all below in
-    let inside : b.link < link_count net = omega (arith, shared.within, link_is net routes set links start list blocks k all below) in
-    let is = is_need net b (need_of net b) small.b.0 (capacities_positive net formed b.link inside) refl in
+    let linked : b.link < link_count net = omega (arith, shared.within, link_is net routes set links start list blocks k all below) in
+    let is = is_need net b (need_of net b) small.b.0 (capacities_positive net formed b.link linked) refl in
     pays_more net b (need_of net b) (1000000 * 2 ^ 42)
-    (omega (arith, need_is net routes set links start list blocks k formed all below, all.polished.no_more k within, all.rounds.small k within)) is.enough))
-
--- the same, by the blocks that were read
-pub need_read : (net : Network) (routes : List PairRoutes) (set : DemandSet) (links : List SharedLink) (start list : List Weighting) (blocks read : List Block) (ratio : ℕ) →
-    is_well_formed net ≡ true → IsRoutingWithin net routes → AreMaking net routes set links start list blocks → read ≡ blocks → IsGreatestNeed net read ratio →
-    ratio ≤ 1000000 * 2 ^ 42
-need_read net routes set links start list blocks read ratio formed within all same greatest =
-    need_within net routes set links start list blocks ratio formed
-    (blocks_numbers net routes set blocks formed within (made_blocks net routes set links start list blocks all)) all
-    (subst (λ (bs : List Block). IsGreatestNeed net bs ratio) same greatest)
+    (omega (arith, need_is net routes set links start list blocks k formed all below, all.polished.no_more k inside, all.rounds.small k inside)) is.enough)

@@ -10,6 +10,7 @@ use Rattle.best_blocks.specs.Metric.{IsMetric}
 use Rattle.best_blocks.specs.Rows.{IsSameElsewhere}
 use Rattle.best_blocks.specs.Under.{IsNeedUnder}
 use Rattle.ratio_certificate.specs.declared.raising.NextRound.{NextRound}
+use Rattle.ratio_certificate.specs.declared.rounds.Rounds.{Rounds}
 use Rattle.ratio_certificate.specs.declared.weighting.Weighting.{Weighting}
 use Rattle.ratio_certificate.specs.Rounds.{greatest_of_round, IsNextRound, IsRound}
 use Rattle.ratio_certificate.specs.Places.{shared_at, weighting_at}
@@ -35,6 +36,14 @@ pub record IsRoundMetric (net : Network) (routes : List PairRoutes) (l : SharedL
 abbrev pub NeedsNoMore : Network → List PairRoutes → DemandSet → ℕ → ℕ → Weighting → Type 0
 NeedsNoMore net routes set e k w =
     (j : ℕ) → j ≤ k → (weights : List ℕ) → IsRound net routes e j weights → (need : ℕ) → IsNeedUnder net routes set e weights need → w.need ≤ need
+
+-- the metric of round k, and the best of the rounds from 0 to k, whose need is within the limit of ratios
+pub record AreRoundsTo (k : ℕ) (net : Network) (routes : List PairRoutes) (set : DemandSet) (l : SharedLink) (rounds : Rounds) : Type 0 where
+  pub metric : IsRoundMetric net routes l k rounds.metric
+  pub link : rounds.best.link ≡ l.link
+  pub weighting : IsWeighting net routes set rounds.best
+  pub least : NeedsNoMore net routes set l.link k rounds.best
+  pub small : rounds.best.need ≤ 1000000 * 2 ^ 42
 
 -- the best round of each of the first n links, whose need is within the limit of ratios
 pub record AreRounds (n : ℕ) (net : Network) (routes : List PairRoutes) (set : DemandSet) (links : List SharedLink) (list : List Weighting) : Type 0 where

@@ -3,6 +3,7 @@ ghost use Rattle.std.specs.Prelude.{◌≡◌, ◌*◌, ◌+◌, ◌/◌, ◌^�
 ghost use Rattle.te_model.specs.Network.{link_count};
 ghost use Rattle.ratio_certificate.specs.Changing.{weights_of, AreChanges, HelpsNotIn, IsImprovementIn, IsSettledIn};
 ghost use Rattle.ratio_certificate.specs.Polished.{Improves};
+ghost use Rattle.ratio_certificate.specs.Problems.{IsMetricOf, IsWeightingOf};
 
 use crate::problem::Problem;
 use crate::weighting::{Weighting, weighting_of};
@@ -41,6 +42,50 @@ pub struct Change {
 }
 
 impl<'a> Changes<'a> {
+    /// The weights with another one on the link.
+    fn weights_with(&self, alloc: Global, link: u32, weight: u64) -> Result<Vec<u64>, Memory>
+        requires changes { AreChanges self.now }
+        requires link { link < link_count self.now.problem.net.now }
+        ensures { IfOk result (λ w. w.items ≡ slice_set (weights_of self.now) link weight) }
+    {
+        let mut weights = Vec::from_slice(alloc, self.metric.weights.as_slice())?;
+        weights[link as usize] = weight;
+        Ok(weights)
+    }
+
+    /// The metric of the weights with another one on the link.
+    fn metric_with(&self, alloc: Global, link: u32, weight: u64) -> Result<Metric, Memory>
+        requires changes { AreChanges self.now }
+        requires link { link < link_count self.now.problem.net.now }
+        requires weight { weight ≤ 2 ^ 28 }
+        ensures metric { IfOk result (IsMetricOf self.now.problem self.now.shared.now) }
+        ensures weights { IfOk result (λ m. m.weights ≡ slice_set (weights_of self.now) link weight) }
+    {
+        let weights = self.weights_with(alloc, link, weight)?;
+        metric_after(
+            alloc,
+            self.problem.net,
+            self.problem.routing,
+            self.shared.marks.as_slice(),
+            self.metric,
+            &[link],
+            weights,
+        )
+    }
+
+    /// The weights with another one on the link, and what they need.
+    fn weighting_with(&self, alloc: Global, link: u32, weight: u64) -> Result<Weighting, Memory>
+        requires changes { AreChanges self.now }
+        requires link { link < link_count self.now.problem.net.now }
+        requires weight { (1 ≤ weight) × (weight ≤ 2 ^ 28) }
+        ensures link { IfOk result (λ w. w.link ≡ self.now.shared.now.link) }
+        ensures weights { IfOk result (λ w. w.weights ≡ slice_set (weights_of self.now) link weight) }
+        ensures weighting { IfOk result (IsWeightingOf self.now.problem) }
+    {
+        let metric = self.metric_with(alloc, link, weight)?;
+        weighting_of(alloc, &self.problem, self.shared, &metric)
+    }
+
     /// The weights with another one on the link, if that improves the need.
     fn try_weight(&self, alloc: Global, link: u32, weight: u64) -> Result<Option<Weighting>, Memory>
         requires changes { AreChanges self.now }
@@ -49,13 +94,7 @@ impl<'a> Changes<'a> {
         ensures some { IfOk result (λ o. IfSome o (IsImprovementIn self.now)) }
         ensures none { IfOk result (λ o. IfNone o (HelpsNotIn self.now (slice_set (weights_of self.now) link weight))) }
     {
-        let (net, routing) = (self.problem.net, self.problem.routing);
-        let mut weights = Vec::from_slice(alloc, self.metric.weights.as_slice())?;
-        weights[link as usize] = weight;
-        let changed = [link];
-        let marks = self.shared.marks.as_slice();
-        let next = metric_after(alloc, net, routing, marks, self.metric, &changed, weights)?;
-        let other = weighting_of(alloc, &self.problem, self.shared, &next)?;
+        let other = self.weighting_with(alloc, link, weight)?;
         if improves(self.need, other.need) {
             Ok(Some(other))
         } else {

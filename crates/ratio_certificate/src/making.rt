@@ -1,12 +1,13 @@
 //! The making of certificates.
-ghost use Rattle.std.specs.Prelude.{◌≡◌, ◌≤◌, IfOk, IsTrue, length};
+ghost use Rattle.std.specs.Prelude.{◌≡◌, ◌*◌, ◌^◌, ◌≤◌, IfOk, IsTrue, length};
 ghost use Rattle.te_model.specs.Network.{is_well_formed, link_count};
 ghost use Rattle.routing.specs.Shares.{AreShares};
 ghost use Rattle.best_blocks.specs.Best.{IsBestBlock};
 ghost use Rattle.best_blocks.specs.Conditions.{IsRoutingWithin, IsSetWithin};
 ghost use Rattle.ratio_certificate.specs.Form.{IsFormatFor};
 ghost use Rattle.ratio_certificate.specs.Made.{IsMade, IsMadeIn};
-ghost use Rattle.ratio_certificate.specs.Making.{AreBlocksOf, AreSharedLinks};
+ghost use Rattle.ratio_certificate.specs.Making.{head_with, AreBlocksOf, AreMadeBlocks, ArePaidBy, AreSharedLinks};
+ghost use Rattle.ratio_certificate.specs.Polished.{IsPolished};
 ghost use Rattle.ratio_certificate.specs.Problems.{AreLinksOf, AreWeightingsOf, IsDoneOf, IsLinkOf, IsProblem, IsWeightingOf};
 ghost use Rattle.ratio_certificate.specs.Rising.{AreRounds};
 
@@ -47,6 +48,15 @@ fn shared_links(
         }
     }
     Ok(links)
+}
+
+/// The links with a share in the routing of the problem.
+fn links_of(alloc: Global, problem: &Problem) -> Result<Vec<SharedLink>, Memory>
+    requires problem { IsProblem problem.now }
+    ensures { IfOk result (λ l. AreSharedLinks (link_count problem.now.net.now) problem.now.net.now problem.now.routing.now.routes problem.now.set.now l.items) }
+{
+    let shares = Shares::new(alloc, problem.net, problem.routing)?;
+    shared_links(alloc, problem, &shares)
 }
 
 /// The best round of each of the links.
@@ -143,6 +153,42 @@ fn blocks_of(
     Ok(blocks)
 }
 
+/// Polished best blocks of the links with a share, ascending.
+fn polished_blocks(alloc: Global, problem: &Problem) -> Result<Vec<Block>, Memory>
+    requires problem { IsProblem problem.now }
+    ensures made { IfOk result (λ b. AreMadeBlocks problem.now.net.now problem.now.routing.now.routes problem.now.set.now b.items) }
+    ensures polished { IfOk result (λ b. IsPolished problem.now.net.now problem.now.routing.now.routes problem.now.set.now b.items) }
+    ensures small { IfOk result (λ b. ArePaidBy (1000000 * 2 ^ 42) problem.now.net.now b.items) }
+{
+    let links = links_of(alloc, problem)?;
+    let start = best_rounds(alloc, problem, &links)?;
+    let list = improve(alloc, problem, &links, start)?;
+    let blocks = blocks_of(alloc, problem, &links, &list)?;
+    Ok(blocks)
+}
+
+/// The head of a certificate, with copies of the network and the routes.
+fn head_of(
+    alloc: Global,
+    net: &Network,
+    routing: &Routing,
+    set: DemandSet,
+    format: u32,
+    ratio: u64,
+) -> Result<Head, Memory>
+    ensures { IfOk result (λ h. h ≡ head_with format net.now routing.now.routes set ratio) }
+{
+    let network = copy_network(alloc, net)?;
+    let routes = routing.copy(alloc)?.routes;
+    Ok(Head {
+        format,
+        network,
+        routes,
+        set,
+        ratio,
+    })
+}
+
 /// A certificate of this format, which has room for the network, and sets of this form.
 fn certify(
     alloc: Global,
@@ -158,27 +204,16 @@ fn certify(
     requires format { IsFormatFor net.now set format }
     ensures { IfOk result (IsMadeIn format net.now routing.now.routes set) }
 {
-    let shares = Shares::new(alloc, net, routing)?;
     let problem = Problem {
         net,
         routing,
         set: &set,
     };
-    let links = shared_links(alloc, &problem, &shares)?;
-    let start = best_rounds(alloc, &problem, &links)?;
-    let list = improve(alloc, &problem, &links, start)?;
-    let blocks = blocks_of(alloc, &problem, &links, &list)?;
+    let blocks = polished_blocks(alloc, &problem)?;
     let ratio = greatest_need(net, &blocks) as u64;
-    let network = copy_network(alloc, net)?;
-    let routes = routing.copy(alloc)?.routes;
+    let head = head_of(alloc, net, routing, set, format, ratio)?;
     Ok(Certificate {
-        head: Head {
-            format,
-            network,
-            routes,
-            set,
-            ratio,
-        },
+        head,
         blocks: Items::new(blocks),
     })
 }

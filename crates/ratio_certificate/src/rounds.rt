@@ -1,7 +1,7 @@
 //! The rounds of a link, and the best of them.
 ghost use Rattle.std.specs.Prelude.{◌≡◌, ◌*◌, ◌+◌, ◌^◌, ◌<◌, ◌≤◌, IfOk};
 ghost use Rattle.ratio_certificate.specs.Problems.{IsLinkOf, IsProblem, IsWeightingOf};
-ghost use Rattle.ratio_certificate.specs.Rising.{IsRoundMetric, NeedsNoMore};
+ghost use Rattle.ratio_certificate.specs.Rising.{AreRoundsTo, IsRoundMetric, NeedsNoMore};
 
 use crate::problem::Problem;
 use crate::raising::next_round;
@@ -60,6 +60,44 @@ fn next_metric(
     )
 }
 
+/// Where the rounds stand: the metric of the last one, and the weights of the best one so far.
+#[derive(Drop)]
+pub struct Rounds {
+    pub metric: Metric,
+    pub best: Weighting,
+}
+
+/// The rounds at their start, which is round 0.
+fn start(alloc: Global, problem: &Problem, shared: &SharedLink) -> Result<Rounds, Memory>
+    requires problem { IsProblem problem.now }
+    requires shared { IsLinkOf problem.now shared.now }
+    ensures { IfOk result (AreRoundsTo 0 problem.now.net.now problem.now.routing.now.routes problem.now.set.now shared.now) }
+{
+    let metric = first_metric(alloc, problem, shared)?;
+    let best = weighting_of(alloc, problem, shared, &metric)?;
+    Ok(Rounds { metric, best })
+}
+
+/// The rounds after one more.
+fn advance(
+    alloc: Global,
+    problem: &Problem,
+    shared: &SharedLink,
+    rounds: Rounds,
+    round: usize,
+) -> Result<Rounds, Memory>
+    requires problem { IsProblem problem.now }
+    requires shared { IsLinkOf problem.now shared.now }
+    requires rounds { AreRoundsTo round problem.now.net.now problem.now.routing.now.routes problem.now.set.now shared.now rounds }
+    requires round { round < 15 }
+    ensures { IfOk result (AreRoundsTo (round + 1) problem.now.net.now problem.now.routing.now.routes problem.now.set.now shared.now) }
+{
+    let metric = next_metric(alloc, problem, shared, &rounds.metric, round)?;
+    let found = weighting_of(alloc, problem, shared, &metric)?;
+    let best = lesser(rounds.best, found);
+    Ok(Rounds { metric, best })
+}
+
 /// The weights of the round that needs least, the first of equal ones.
 pub fn best_round(
     alloc: Global,
@@ -73,12 +111,9 @@ pub fn best_round(
     ensures least { IfOk result (NeedsNoMore problem.now.net.now problem.now.routing.now.routes problem.now.set.now shared.now.link 15) }
     ensures small { IfOk result (λ w. w.need ≤ 1000000 * 2 ^ 42) }
 {
-    let mut metric = first_metric(alloc, problem, shared)?;
-    let mut best = weighting_of(alloc, problem, shared, &metric)?;
+    let mut rounds = start(alloc, problem, shared)?;
     for k in 0..ROUNDS - 1 {
-        metric = next_metric(alloc, problem, shared, &metric, k)?;
-        let other = weighting_of(alloc, problem, shared, &metric)?;
-        best = lesser(best, other);
+        rounds = advance(alloc, problem, shared, rounds, k)?;
     }
-    Ok(best)
+    Ok(rounds.best)
 }

@@ -22,6 +22,9 @@ const STAGES: usize = 8;
 /// How many sweeps a stage has besides one for every second link.
 const SWEEPS: usize = 60;
 
+/// The most sweeps of a stage: on larger networks more of them gain little for their time.
+const MAX_SWEEPS: usize = 256;
+
 /// The parts of a step in the last stage.
 const MAX_PARTS: u64 = 128;
 
@@ -142,7 +145,7 @@ pub fn seek(
     ensures weighting { IfOk result (IsWeightingOf problem.now) }
 {
     let links = problem.net.links.as_slice().len();
-    let sweeps = SWEEPS + links / 2;
+    let sweeps = (SWEEPS + links / 2).min(MAX_SWEEPS);
     let mut loads = vec![in alloc; 0; links]?;
     let mut ways = no_ways(alloc, problem.net)?;
     let mut search = start(alloc, problem, shared)?;

@@ -1,0 +1,28 @@
+use Rattle.std.proofs.Common.{◌≡◌, Bool, ℕ, List, length, subst, ap, ◌∙◌}
+use Rattle.std.proofs.lemmas.List.{length-set}
+use Rattle.std.specs.Prelude.{IfOk}
+use Rattle.best_blocks.specs.Metric.{IsMetric}
+use Rattle.ratio_certificate.proofs.Changed.{changed_alone, changed_small}
+use Rattle.ratio_certificate.proofs.changes.Changes.metric_with.Goals as goal
+
+pub metric_after-requires-clause-weights : goal.metric_after-requires-clause-weights
+metric_after-requires-clause-weights c =
+    ap (λ (ws : List ℕ). length ws) c.in_ok-weights.ensures ∙ (length-set c.args.self.now.metric.now.weights c.args.link c.args.weight ∙ c.requires.changes.metric.count)
+
+pub metric_after-requires-clause-small : goal.metric_after-requires-clause-small
+metric_after-requires-clause-small c =
+    changed_small c.args.self.now.metric.now.weights c.in_ok-weights.weights.items c.args.link c.args.weight c.in_ok-weights.ensures c.requires.weight
+    c.requires.changes.metric.small
+
+pub metric_after-requires-clause-others : goal.metric_after-requires-clause-others
+metric_after-requires-clause-others c =
+    changed_alone _ c.args.self.now.metric.now.weights c.in_ok-weights.weights.items c.args.link c.args.weight c.in_ok-weights.ensures
+
+pub returns-clause-metric : goal.returns-clause-metric
+returns-clause-metric c =
+    let it = c.args.self.now in
+    subst (λ (marks : List Bool). IfOk c.metric_after.result (IsMetric it.problem.net.now it.problem.routing.now.routes marks)) c.as_slice.ensures c.metric_after.ensures.metric
+
+pub returns-clause-weights : goal.returns-clause-weights
+returns-clause-weights c =
+    subst (λ (ws : List ℕ). IfOk c.metric_after.result (λ m. m.weights ≡ ws)) c.in_ok-weights.ensures c.metric_after.ensures.weights
