@@ -14,3 +14,4 @@ pub mod OwnPaths
 pub mod LowestPaths
 pub mod Decomposing
 pub mod TakingOff
+pub mod Capacities

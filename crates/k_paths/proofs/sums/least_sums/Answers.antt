@@ -1,4 +1,5 @@
-use Rattle.std.proofs.Common.{◌≡◌, ◌+◌, ◌*◌, ◌^◌, ℕ, List, Option, Some, None, length, set, replicate, arith, ap, sym, ◌∙◌, subst, rules}
+use Rattle.std.proofs.Common.{◌≡◌, ◌+◌, ◌*◌, ◌^◌, ℕ, Bool, List, Option, Some, None, ◌++◌, length, set, take, drop, replicate, arith, ap, sym, ◌∙◌, subst, rules}
+use Rattle.te_model.specs.declared.network.Network.{Network}
 use Rattle.te_model.proofs.Lists.{written_whole}
 use Rattle.k_paths.specs.Sums.{AreWalkSums}
 use Rattle.k_paths.proofs.WalkSums.{least_of_taut, sums_start, sums_within}
@@ -18,28 +19,29 @@ lower-requires-clause-sums c =
     (sums_within c.args.net.now c.args.costs.now c.args.open.now c.args.dst (67107840 * c.loop-round._round) (2 ^ 40) c.loop-round.sums.items c.loop-round.invariant
     (omega (arith, c.loop-round-test.true, ap (λ l. length l) c.as_slice-nodes.ensures, c.requires.sound.few)))
 
+-- after a round the list of sums is what the round left, whose walks have one link more
+round_left : (net : Network) (costs : List ℕ) (marks : List Bool) (dst n len : ℕ) (old lent new : List (Option ℕ)) → lent ≡ old → len ≡ length old →
+    AreWalkSums net costs marks dst n old →
+    ((m : ℕ) → AreWalkSums net costs marks dst m lent → AreWalkSums net costs marks dst (m + 67107840) new) →
+    (take len (new ++ drop (length new) old) ≡ new) × AreWalkSums net costs marks dst (n + 67107840) new
+round_left net costs marks dst n len old lent new same count before round =
+    let after = round n (subst (AreWalkSums net costs marks dst n) (sym same) before) in
+    (written_whole len new old (after.count ∙ sym before.count) count, after)
+
 pub loop-round-preserved : goal.loop-round-preserved
 loop-round-preserved c =
     let net = c.args.net.now in
-    let costs = c.args.costs.now in
-    let marks = c.args.open.now in
     let n = 67107840 * c.loop-round._round in
-    let old = c.loop-round.sums.items in
-    let before : AreWalkSums net costs marks c.args.dst n c.deref_mut.result.now = subst (λ l. AreWalkSums net costs marks c.args.dst n l) (sym c.deref_mut.ensures.value) c.loop-round.invariant in
-    let after = c.lower.ensures.sums n before in
-    let size : length c.lower.new.sums ≡ length old = after.count ∙ sym c.loop-round.invariant.count in
-    let whole = written_whole c.loop-round.sums.len c.lower.new.sums old size c.loop-round.sums.ok.0 in
-    rw whole (sums_within net costs marks c.args.dst (n + 67107840) (67107840 * (c.loop-round._round + 1)) c.lower.new.sums after (omega arith))
+    let left = round_left net c.args.costs.now c.args.open.now c.args.dst n c.loop-round.sums.len c.loop-round.sums.items c.deref_mut.result.now c.lower.new.sums
+    c.deref_mut.ensures.value c.loop-round.sums.ok.0 c.loop-round.invariant c.lower.ensures.sums
+    in
+    rw left.0 (sums_within net c.args.costs.now c.args.open.now c.args.dst (n + 67107840) (67107840 * (c.loop-round._round + 1)) c.lower.new.sums left.1 (omega arith))
 
 pub returns-then-not-lower : goal.returns-then-not-lower
 returns-then-not-lower c =
     let net = c.args.net.now in
-    let costs = c.args.costs.now in
-    let marks = c.args.open.now in
     let n = 67107840 * c.loop-round._round in
-    let old = c.loop-round.sums.items in
-    let before : AreWalkSums net costs marks c.args.dst n c.deref_mut.result.now = subst (λ l. AreWalkSums net costs marks c.args.dst n l) (sym c.deref_mut.ensures.value) c.loop-round.invariant in
-    let after = c.lower.ensures.sums n before in
-    let size : length c.lower.new.sums ≡ length old = after.count ∙ sym c.loop-round.invariant.count in
-    let whole = written_whole c.loop-round.sums.len c.lower.new.sums old size c.loop-round.sums.ok.0 in
-    rw whole (least_of_taut net costs marks c.args.dst (n + 67107840) c.lower.new.sums after (c.lower.ensures.taut c.if-not-lower.true))
+    let left = round_left net c.args.costs.now c.args.open.now c.args.dst n c.loop-round.sums.len c.loop-round.sums.items c.deref_mut.result.now c.lower.new.sums
+    c.deref_mut.ensures.value c.loop-round.sums.ok.0 c.loop-round.invariant c.lower.ensures.sums
+    in
+    rw left.0 (least_of_taut net c.args.costs.now c.args.open.now c.args.dst (n + 67107840) c.lower.new.sums left.1 (c.lower.ensures.taut c.if-not-lower.true))

@@ -1,23 +1,17 @@
-use Rattle.std.proofs.Common.{◌≡◌, suc, ◌+◌, ◌*◌, ◌<◌, ◌≤◌, List, length, get_or, max, arith, ap, ◌∙◌, subst, sym}
-use Rattle.std.proofs.lemmas.Bool.Decides.{nat_tests}
+use Rattle.std.proofs.Common.{◌≡◌, suc, ◌+◌, ◌*◌, ◌<◌, List, get_or, max, arith, ap, ◌∙◌, subst, sym}
 use Rattle.te_model.specs.declared.network.Link.{Link}
 use Rattle.te_model.specs.declared.units.TheConstants.{RATIO_UNIT, SHARE_UNIT}
-use Rattle.te_model.specs.Network.{capacity_of, no_link, link_count}
-use Rattle.te_model.proofs.SoundLinks.{sound_links}
+use Rattle.te_model.specs.Network.{no_link}
 use Rattle.routing.specs.Routes.{load_on}
 use Rattle.te_model.specs.Division.{quotient_up}
 use Rattle.te_model.specs.Counting.{greatest_below}
 use Rattle.routing.specs.Utilisation.{parts_on}
+use Rattle.routing.proofs.Capacities.{capacity_some}
 use Rattle.routing.proofs.routes.Routing.parts.Goals as goal
 
 pub utilisation-requires-clause-capacity : goal.utilisation-requires-clause-capacity
 utilisation-requires-clause-capacity c =
-    let net = c.args.net.now in
-    let h = c.loop-h.h in
-    let inside : h < link_count net = omega (arith, c.loop-h-test.true, ap (λ (ls : List Link). length ls) c.as_slice-links.ensures) in
-    let sound = sound_links net c.requires.network h inside in
-    let some : 1 ≤ capacity_of net h = grind (arith, nat_tests) in
-    subst (λ (ls : List Link). 1 ≤ (get_or ls h no_link).capacity) (sym c.as_slice-links.ensures) some
+    capacity_some c.args.net.now c.as_slice-links.result.now c.loop-h.h c.as_slice-links.ensures c.requires.network (omega (arith, c.loop-h-test.true))
 
 pub loop-h-preserved : goal.loop-h-preserved
 loop-h-preserved c =
