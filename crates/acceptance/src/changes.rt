@@ -173,6 +173,10 @@ fn what_reads_gave_is_answered(rt: HostRuntime) -> Result<(), Fail> {
 #[test]
 fn a_file_without_an_end_is_too_long(rt: HostRuntime) -> Result<(), Fail> {
     let mut depot = EndlessDepot { faults: 0 };
-    let call = says(&["publish", "p"], &[], 0, 3, "refused: p: too long\n");
-    leaves_over(&rt, rt.alloc(), &call, &mut depot)
+    for command in ["publish", "check"] {
+        let words = [command, "f"];
+        let call = says(&words, &[], 0, 3, "refused: f: too long\n");
+        leaves_over(&rt, rt.alloc(), &call, &mut depot)?;
+    }
+    Ok(())
 }

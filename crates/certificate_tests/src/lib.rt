@@ -1,4 +1,4 @@
-//! Tests of certificates: their text, the verdict on one, and the making of one. There is nothing else here.
+//! Tests of certificates: their rules, their text, the verdict on one, and the making of one. There is nothing else here.
 #![tactic(auto)]
 
 #[cfg(test)]
@@ -9,3 +9,7 @@ mod cert_text_tests;
 mod ratio_certificate_tests;
 #[cfg(test)]
 mod ratio_checker_tests;
+#[cfg(test)]
+mod te_model_tests;
+#[cfg(test)]
+mod window_tests;

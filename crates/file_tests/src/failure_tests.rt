@@ -18,31 +18,17 @@ fn first_faults(rt: HostRuntime) -> Result<(), Fail> {
     let alloc = rt.alloc();
     let net = four_nodes(alloc)?;
     assert!(rt; te_model::well_formed(&net));
-    assert_eq!(rt; fault_of(alloc, &net, b""), Some(FailureFault::Header));
-    assert_eq!(rt;
-        fault_of(alloc, &net, b"from,to\n"),
-        Some(FailureFault::Header)
-    );
-    assert_eq!(rt;
-        fault_of(alloc, &net, b"from,to,link\n0,1,1\n0,1\n9,9,9\n"),
-        Some(FailureFault::Fields(2))
-    );
-    assert_eq!(rt;
-        fault_of(alloc, &net, b"from,to,link\n1,0,x\n"),
-        Some(FailureFault::Number(1))
-    );
-    assert_eq!(rt;
-        fault_of(alloc, &net, b"from,to,link\n1,0,5\n"),
-        Some(FailureFault::NoSuchLink(1))
-    );
-    assert_eq!(rt;
-        fault_of(alloc, &net, b"from,to,link\n1,0,4\n"),
-        Some(FailureFault::Interval(1))
-    );
-    assert_eq!(rt;
-        fault_of(alloc, &net, b"from,to,link\n0,2,4\n"),
-        Some(FailureFault::Interval(1))
-    );
+    for (text, fault) in [
+        ("", FailureFault::Header),
+        ("from,to\n", FailureFault::Header),
+        ("from,to,link\n0,1,1\n0,1\n9,9,9\n", FailureFault::Fields(2)),
+        ("from,to,link\n1,0,x\n", FailureFault::Number(1)),
+        ("from,to,link\n1,0,5\n", FailureFault::NoSuchLink(1)),
+        ("from,to,link\n1,0,4\n", FailureFault::Interval(1)),
+        ("from,to,link\n0,2,4\n", FailureFault::Interval(1)),
+    ] {
+        assert_eq!(rt; fault_of(alloc, &net, text.as_bytes()), Some(fault));
+    }
     assert_eq!(rt; fault_of(alloc, &net, b"from,to,link\n"), None);
     Ok(())
 }

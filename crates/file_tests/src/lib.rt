@@ -1,4 +1,4 @@
-//! Tests of the readers of files, and of what they print. There is nothing else here.
+//! Tests of the ports, of the words of a seed, of the readers of files, and of what they print. There is nothing else here.
 #![tactic(auto)]
 
 #[cfg(test)]
@@ -7,6 +7,10 @@ mod csv_records_tests;
 mod failure_tests;
 #[cfg(test)]
 mod plan_tests;
+#[cfg(test)]
+mod random_words_tests;
+#[cfg(test)]
+mod te_ports_tests;
 #[cfg(test)]
 mod topology_tests;
 #[cfg(test)]

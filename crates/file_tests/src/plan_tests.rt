@@ -2,102 +2,68 @@ use plan::*;
 use std::alloc::Global;
 use std::test::Fail;
 
-fn fault_of(alloc: Global, text: &str) -> Option<PlanFault> {
-    read_plan(alloc, text.as_bytes()).err()
-}
-
 // The fault of a plan with these members beside the two that it must have.
 fn fault_with(alloc: Global, members: &str) -> Result<Option<PlanFault>, Fail> {
     let text = format!(in alloc; "{{\"topology\":\"t\",\"matrices\":\"m\",{members}}}")?;
-    Ok(fault_of(alloc, text.as_str()))
+    Ok(read_plan(alloc, text.as_bytes()).err())
 }
 
 #[test]
-fn first_faults(rt: HostRuntime) -> Result<(), Fail> {
+fn faults_of_whole_plans(rt: HostRuntime) -> Result<(), Fail> {
     let alloc = rt.alloc();
-    assert_eq!(rt; fault_of(alloc, "no json"), Some(PlanFault::NotJson));
-    assert_eq!(rt;
-        read_plan(alloc, b"\"\xff\"").err(),
-        Some(PlanFault::NotJson)
-    );
-    assert_eq!(rt; fault_of(alloc, "[]"), Some(PlanFault::Kind(Key::Plan)));
-    assert_eq!(rt;
-        fault_of(alloc, "{\"plan\":1}"),
-        Some(PlanFault::UnknownKey)
-    );
-    assert_eq!(rt;
-        fault_of(alloc, "{}"),
-        Some(PlanFault::Missing(Key::Topology))
-    );
-    assert_eq!(rt;
-        fault_of(alloc, "{\"topology\":1}"),
-        Some(PlanFault::Missing(Key::Matrices))
-    );
-    assert_eq!(rt;
-        fault_of(alloc, "{\"topology\":\"\",\"matrices\":1}"),
-        Some(PlanFault::Range(Key::Topology))
-    );
-    assert_eq!(rt;
-        fault_with(alloc, "\"k\":0")?,
-        Some(PlanFault::Range(Key::K))
-    );
-    assert_eq!(rt;
-        fault_with(alloc, "\"k\":4.0")?,
-        Some(PlanFault::Kind(Key::K))
-    );
-    assert_eq!(rt; fault_with(alloc, "\"k\":0,\"k\":32")?, None);
-    assert_eq!(rt;
-        fault_with(alloc, "\"seed\":18446744073709551616")?,
-        Some(PlanFault::Kind(Key::Seed))
-    );
-    assert_eq!(rt;
-        fault_with(alloc, "\"publish\":\"smore\"")?,
-        Some(PlanFault::SchemeName(Key::Publish))
-    );
-    assert_eq!(rt;
-        fault_with(alloc, "\"recovery\":\"spare\"")?,
-        Some(PlanFault::Range(Key::Recovery))
-    );
-    assert_eq!(rt;
-        fault_with(alloc, "\"schemes\":[]")?,
-        Some(PlanFault::Range(Key::Schemes))
-    );
-    assert_eq!(rt;
-        fault_with(alloc, "\"schemes\":[\"x\",1]")?,
-        Some(PlanFault::Kind(Key::Schemes))
-    );
-    assert_eq!(rt;
-        fault_with(alloc, "\"schemes\":[\"spf\",\"x\"]")?,
-        Some(PlanFault::SchemeName(Key::Schemes))
-    );
-    assert_eq!(rt;
-        fault_with(alloc, "\"margin\":[2]")?,
-        Some(PlanFault::Kind(Key::Margin))
-    );
-    assert_eq!(rt;
-        fault_with(alloc, "\"margin\":[1,2]")?,
-        Some(PlanFault::Range(Key::Margin))
-    );
-    assert_eq!(rt;
-        fault_with(alloc, "\"envelope\":1")?,
-        Some(PlanFault::Kind(Key::Envelope))
-    );
-    assert_eq!(rt;
-        fault_with(alloc, "\"envelope\":\"true\",\"margin\":[2,1]")?,
-        Some(PlanFault::Kind(Key::Envelope))
-    );
-    assert_eq!(rt;
-        fault_with(alloc, "\"envelope\":true,\"margin\":[2,1]")?,
-        Some(PlanFault::Range(Key::Envelope))
-    );
-    assert_eq!(rt;
-        fault_with(alloc, "\"envelope\":1,\"seed\":-1")?,
-        Some(PlanFault::Kind(Key::Seed))
-    );
-    assert_eq!(rt;
-        fault_with(alloc, "\"envelope\":false,\"margin\":[2,1]")?,
-        None
-    );
+    for (bytes, fault) in [
+        (b"no json".as_slice(), PlanFault::NotJson),
+        (b"\"\xff\"".as_slice(), PlanFault::NotJson),
+        (b"[]".as_slice(), PlanFault::Kind(Key::Plan)),
+        (b"{\"plan\":1}".as_slice(), PlanFault::UnknownKey),
+        (b"{}".as_slice(), PlanFault::Missing(Key::Topology)),
+        (
+            b"{\"topology\":1}".as_slice(),
+            PlanFault::Missing(Key::Matrices),
+        ),
+        (
+            b"{\"topology\":\"\",\"matrices\":1}".as_slice(),
+            PlanFault::Range(Key::Topology),
+        ),
+    ] {
+        assert_eq!(rt; read_plan(alloc, bytes).err(), Some(fault));
+    }
+    Ok(())
+}
+
+#[test]
+fn faults_of_members(rt: HostRuntime) -> Result<(), Fail> {
+    let alloc = rt.alloc();
+    for (members, fault) in [
+        ("\"k\":0", PlanFault::Range(Key::K)),
+        ("\"k\":4.0", PlanFault::Kind(Key::K)),
+        ("\"seed\":18446744073709551616", PlanFault::Kind(Key::Seed)),
+        ("\"publish\":\"smore\"", PlanFault::SchemeName(Key::Publish)),
+        ("\"recovery\":\"spare\"", PlanFault::Range(Key::Recovery)),
+        ("\"schemes\":[]", PlanFault::Range(Key::Schemes)),
+        ("\"schemes\":[\"x\",1]", PlanFault::Kind(Key::Schemes)),
+        (
+            "\"schemes\":[\"spf\",\"x\"]",
+            PlanFault::SchemeName(Key::Schemes),
+        ),
+        ("\"margin\":[2]", PlanFault::Kind(Key::Margin)),
+        ("\"margin\":[1,2]", PlanFault::Range(Key::Margin)),
+        ("\"envelope\":1", PlanFault::Kind(Key::Envelope)),
+        (
+            "\"envelope\":\"true\",\"margin\":[2,1]",
+            PlanFault::Kind(Key::Envelope),
+        ),
+        (
+            "\"envelope\":true,\"margin\":[2,1]",
+            PlanFault::Range(Key::Envelope),
+        ),
+        ("\"envelope\":1,\"seed\":-1", PlanFault::Kind(Key::Seed)),
+    ] {
+        assert_eq!(rt; fault_with(alloc, members)?, Some(fault));
+    }
+    for members in ["\"k\":0,\"k\":32", "\"envelope\":false,\"margin\":[2,1]"] {
+        assert_eq!(rt; fault_with(alloc, members)?, None);
+    }
     Ok(())
 }
 

@@ -15,39 +15,23 @@ fn second_row(alloc: Global, row: &str) -> Result<Option<TopologyFault>, Fail> {
 #[test]
 fn first_faults(rt: HostRuntime) -> Result<(), Fail> {
     let alloc = rt.alloc();
-    assert_eq!(rt; fault_of(alloc, b""), Some(TopologyFault::Header));
-    assert_eq!(rt;
-        fault_of(alloc, b"source,target,capacity\n"),
-        Some(TopologyFault::Header)
-    );
-    assert_eq!(rt;
-        fault_of(alloc, b"source,target,capacity,cost\n"),
-        Some(TopologyFault::Empty)
-    );
-    assert_eq!(rt;
-        second_row(alloc, "a,b,10")?,
-        Some(TopologyFault::Fields(2))
-    );
-    assert_eq!(rt;
-        second_row(alloc, "a,a,10,1")?,
-        Some(TopologyFault::SelfLink(2))
-    );
-    assert_eq!(rt;
-        second_row(alloc, "a,b,10,0")?,
-        Some(TopologyFault::Number(2))
-    );
-    assert_eq!(rt;
-        second_row(alloc, "a,b,4294967297,1")?,
-        Some(TopologyFault::Number(2))
-    );
-    assert_eq!(rt;
-        second_row(alloc, "a b,c,10,1")?,
-        Some(TopologyFault::Name(2))
-    );
-    assert_eq!(rt;
-        second_row(alloc, "a b,c,0,1\na")?,
-        Some(TopologyFault::Name(2))
-    );
+    for (text, fault) in [
+        ("", TopologyFault::Header),
+        ("source,target,capacity\n", TopologyFault::Header),
+        ("source,target,capacity,cost\n", TopologyFault::Empty),
+    ] {
+        assert_eq!(rt; fault_of(alloc, text.as_bytes()), Some(fault));
+    }
+    for (row, fault) in [
+        ("a,b,10", TopologyFault::Fields(2)),
+        ("a,a,10,1", TopologyFault::SelfLink(2)),
+        ("a,b,10,0", TopologyFault::Number(2)),
+        ("a,b,4294967297,1", TopologyFault::Number(2)),
+        ("a b,c,10,1", TopologyFault::Name(2)),
+        ("a b,c,0,1\na", TopologyFault::Name(2)),
+    ] {
+        assert_eq!(rt; second_row(alloc, row)?, Some(fault));
+    }
     assert_eq!(rt; second_row(alloc, "a,b,10,1")?, None);
     Ok(())
 }

@@ -31,43 +31,24 @@ fn first_faults(rt: HostRuntime) -> Result<(), Fail> {
     let alloc = rt.alloc();
     let net = three_nodes(alloc)?;
     assert!(rt; te_model::well_formed(&net));
-    assert_eq!(rt; fault_of(alloc, &net, b""), Some(MatrixFault::Header));
-    assert_eq!(rt;
-        fault_of(alloc, &net, b"step,source,target\n"),
-        Some(MatrixFault::Header)
-    );
-    assert_eq!(rt;
-        second_row(alloc, &net, "1,a,c")?,
-        Some(MatrixFault::Fields(2))
-    );
-    assert_eq!(rt;
-        second_row(alloc, &net, "x,a,z,1")?,
-        Some(MatrixFault::UnknownNode(2))
-    );
-    assert_eq!(rt;
-        second_row(alloc, &net, "x,a,a,1")?,
-        Some(MatrixFault::Number(2))
-    );
-    assert_eq!(rt;
-        second_row(alloc, &net, "1,a,c,4294967297")?,
-        Some(MatrixFault::Number(2))
-    );
-    assert_eq!(rt;
-        second_row(alloc, &net, "0,a,a,1")?,
-        Some(MatrixFault::Order(2))
-    );
-    assert_eq!(rt;
-        second_row(alloc, &net, "1,a,b,8")?,
-        Some(MatrixFault::Repeated(2))
-    );
-    assert_eq!(rt;
-        second_row(alloc, &net, "1024,a,a,8")?,
-        Some(MatrixFault::SelfPair(2))
-    );
-    assert_eq!(rt;
-        second_row(alloc, &net, "1024,a,b,8\nx")?,
-        Some(MatrixFault::TooManySteps(2))
-    );
+    for text in ["", "step,source,target\n"] {
+        assert_eq!(rt;
+            fault_of(alloc, &net, text.as_bytes()),
+            Some(MatrixFault::Header)
+        );
+    }
+    for (row, fault) in [
+        ("1,a,c", MatrixFault::Fields(2)),
+        ("x,a,z,1", MatrixFault::UnknownNode(2)),
+        ("x,a,a,1", MatrixFault::Number(2)),
+        ("1,a,c,4294967297", MatrixFault::Number(2)),
+        ("0,a,a,1", MatrixFault::Order(2)),
+        ("1,a,b,8", MatrixFault::Repeated(2)),
+        ("1024,a,a,8", MatrixFault::SelfPair(2)),
+        ("1024,a,b,8\nx", MatrixFault::TooManySteps(2)),
+    ] {
+        assert_eq!(rt; second_row(alloc, &net, row)?, Some(fault));
+    }
     assert_eq!(rt; second_row(alloc, &net, "1,a,c,4294967296")?, None);
     Ok(())
 }

@@ -2,6 +2,5 @@ mod Marking
 mod LeastPaths
 mod Lengthening
 mod Splitting
-mod SampleLaws
 mod Balancing
 mod Sweeping

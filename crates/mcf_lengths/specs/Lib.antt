@@ -2,4 +2,3 @@ pub mod Rounds
 pub mod Ways
 pub mod Flow
 pub mod Sweeps
-pub mod Samples

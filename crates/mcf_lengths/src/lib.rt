@@ -2,6 +2,7 @@
 //! (Faster and simpler algorithms for multicommodity flow and other fractional packing problems, 1998).
 //!
 //! - `Mcf`: the scheme. Its plan keeps the four least paths by cost of each pair.
+//! - `make_rounds`, `rounds_routing`: the rounds alone, and the routing that they make.
 #![tactic(auto)]
 
 mod flow;
@@ -15,6 +16,5 @@ mod sweeps;
 
 pub use flow::{Mcf, McfPlan};
 pub use law::rounds_are_28;
-
-#[cfg(test)]
-mod tests;
+pub use round::FlowRound;
+pub use rounds::{make_rounds, rounds_routing};

@@ -4,6 +4,3 @@
 mod generator;
 
 pub use generator::{draw, generator_of};
-
-#[cfg(test)]
-mod tests;

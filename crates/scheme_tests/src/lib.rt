@@ -8,6 +8,8 @@ mod dual_bounds_tests;
 #[cfg(test)]
 mod local_search_tests;
 #[cfg(test)]
+mod mcf_lengths_tests;
+#[cfg(test)]
 mod multiplicative_lengths_tests;
 #[cfg(test)]
 mod racke_mix_tests;

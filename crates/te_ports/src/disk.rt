@@ -21,17 +21,17 @@ pub trait Disk {
         ensures answered { answers self.old name.now at result buf.new self.new };
 }
 
-// An open file, and where its next read begins that goes nowhere first.
+/// An open file under its name, and where its next read begins that goes nowhere first.
 #[derive(Drop)]
-pub(crate) struct OpenFile<F: Read + Seek + Drop> {
+pub struct OpenFile<F: Read + Seek + Drop> {
     name: String,
     file: F,
     next: u64,
 }
 
 impl<F: Read + Seek + Drop> OpenFile<F> {
-    // The file of this name, which nobody has read from.
-    pub(crate) fn new(name: String, file: F) -> Self
+    /// The file of this name, which nobody has read from.
+    pub fn new(name: String, file: F) -> Self
         ensures name { result.name ≡ name }
         ensures start { result.next ≡ 0 }
     {
@@ -42,8 +42,9 @@ impl<F: Read + Seek + Drop> OpenFile<F> {
         }
     }
 
-    // Reads once, and goes to the place first only where the last read did not end there.
-    pub(crate) fn read_at(&mut self, at: u64, buf: &mut [u8]) -> io::Result<usize>
+    /// Reads once, and goes to the place first only where the last read did not end there. An error is the file's own, of the
+    /// move or of the read.
+    pub fn read_at(&mut self, at: u64, buf: &mut [u8]) -> io::Result<usize>
         ensures bound { ReadsAtMost result buf.new }
         ensures name { self.new.name ≡ self.old.name }
         ensures next { IfOk result (λ n. self.new.next ≡ min (at + n) (2 ^ 64 - 1)) }

@@ -20,7 +20,7 @@ mod sure_sink;
 mod system;
 mod writing;
 
-pub use disk::{Disk, SystemDisk};
+pub use disk::{Disk, OpenFile, SystemDisk};
 pub use laws::reads_agree_with_what_is_told;
 pub use limit::Limit;
 pub use memory_depot::MemDepot;
@@ -34,6 +34,3 @@ pub use sure_depot::SureDepot;
 pub use sure_sink::SureSink;
 pub use system::SystemFault;
 pub use writing::put_all;
-
-#[cfg(test)]
-mod tests;

@@ -1,16 +1,12 @@
 //! Each public call once, with ample memory.
 ghost use Rattle.std.specs.Prelude.{◌≤◌, if◌then◌else◌, nat_eq, slice_index_or};
 
-use crate::disk::OpenFile;
-use crate::{
-    Depot, Disk, Failed, Limit, LoadFault, MemDepot, MemSink, RealDepot, RealSink, RecordDepot,
-    Sink, SureDepot, SureSink, SystemFault, load, load_within, put_all,
-};
 use std::alloc::Global;
 use std::cell::Cell;
 use std::io::{self, Cursor, ErrorKind, Read, Seek, SeekFrom, Write};
 use std::process::Abort;
 use std::test::Fail;
+use te_ports::*;
 
 #[test]
 fn files_are_loaded_up_to_a_limit(rt: HostRuntime) -> Result<(), Fail> {

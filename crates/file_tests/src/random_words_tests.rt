@@ -1,4 +1,4 @@
-use super::*;
+use random_words::*;
 use std::test::Fail;
 
 // The first words of the all-zero key are those of the cipher's published test vector: 3e00ef2f 895f40d6 in the

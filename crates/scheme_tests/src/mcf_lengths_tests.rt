@@ -1,66 +1,22 @@
 ghost use Rattle.std.specs.Prelude.{◌≡◌, ◌∷◌, [], IfOk};
 ghost use Rattle.mcf_lengths.specs.Rounds.{AreRounds, IsRoundsRouting};
-ghost use Rattle.mcf_lengths.specs.Samples.{link, one_pair, two_parallel_links};
+ghost use Rattle.sample_networks.specs.Literals.{pair_of};
+ghost use Rattle.sample_networks.specs.Networks.{parallel_links};
 
-use super::*;
-use crate::round::FlowRound;
-use crate::rounds::{make_rounds, rounds_routing};
+use mcf_lengths::*;
 use routing::Routing;
+use sample_networks::{matrix, pairs, parallel_links};
 use scheme::{LowNote, Scheme};
-use std::alloc::{AllocError, Global};
+use std::alloc::Global;
 use std::test::Fail;
-use te_model::{Items, Link, Matrix, Memory, Name, Network, Pair, Pairs};
-
-fn link(capacity: u64) -> Link
-    ensures { result ≡ link capacity }
-{
-    Link {
-        tail: 0,
-        head: 1,
-        capacity,
-        cost: 1,
-    }
-}
-
-/// Two links from a to b, of capacities 10 and 30.
-fn two_parallel_links(alloc: Global) -> Result<Network, AllocError>
-    ensures { IfOk result (λ n. n ≡ two_parallel_links) }
-{
-    let names = vec![in alloc;
-        Name::new("a".to_string(alloc)?),
-        Name::new("b".to_string(alloc)?),
-    ]?;
-    let links = vec![in alloc; link(10), link(30)]?;
-    Ok(Network {
-        names: Items::new(names),
-        links: Items::new(links),
-    })
-}
-
-fn one_pair(alloc: Global) -> Result<Pairs, AllocError>
-    ensures { IfOk result (λ p. p.list ≡ one_pair) }
-{
-    let list = vec![in alloc; Pair { src: 0, dst: 1 }]?;
-    Ok(Pairs {
-        list: Items::new(list),
-    })
-}
-
-fn demands(alloc: Global) -> Result<Matrix, AllocError>
-    ensures { IfOk result (λ m. m.demand ≡ 40 ∷ []) }
-{
-    let demand = vec![in alloc; 40]?;
-    Ok(Matrix {
-        demand: Items::new(demand),
-    })
-}
+use te_model::Memory;
 
 fn sample_rounds(alloc: Global) -> Result<Vec<FlowRound>, Memory>
-    ensures { IfOk result (λ r. AreRounds two_parallel_links one_pair (40 ∷ []) r.items) }
+    ensures { IfOk result (λ r. AreRounds parallel_links (pair_of (0, 1) ∷ []) (40 ∷ []) r.items) }
 {
-    let net = two_parallel_links(alloc)?;
-    let pairs = one_pair(alloc)?;
-    let matrix = demands(alloc)?;
+    let net = parallel_links(alloc)?;
+    let pairs = pairs(alloc, &[(0, 1)])?;
+    let matrix = matrix(alloc, &[40])?;
     make_rounds(alloc, &net, &pairs, &matrix)
 }
 
@@ -92,11 +48,11 @@ fn the_small_link_is_taken_in_six_rounds(rt: HostRuntime) {
 
 /// The routing of the rounds, its parts, and how many rounds there are lengths of.
 fn sample_routing(alloc: Global) -> Result<(Routing, u128, usize), Memory>
-    ensures { IfOk result (λ r. IsRoundsRouting two_parallel_links one_pair (40 ∷ []) r.0.routes) }
+    ensures { IfOk result (λ r. IsRoundsRouting parallel_links (pair_of (0, 1) ∷ []) (40 ∷ []) r.0.routes) }
 {
-    let net = two_parallel_links(alloc)?;
-    let pairs = one_pair(alloc)?;
-    let matrix = demands(alloc)?;
+    let net = parallel_links(alloc)?;
+    let pairs = pairs(alloc, &[(0, 1)])?;
+    let matrix = matrix(alloc, &[40])?;
     let (routing, lengths) = rounds_routing(alloc, &net, &pairs, &matrix)?;
     let parts = routing.parts(&net, &matrix);
     Ok((routing, parts, lengths.len()))
@@ -128,9 +84,9 @@ fn most_rounds_take_the_large_link(rt: HostRuntime) {
 #[test]
 fn two_parallel_links_are_filled_evenly(rt: HostRuntime) -> Result<(), Fail> {
     let alloc = rt.alloc();
-    let net = two_parallel_links(alloc)?;
-    let pairs = one_pair(alloc)?;
-    let matrix = demands(alloc)?;
+    let net = parallel_links(alloc)?;
+    let pairs = pairs(alloc, &[(0, 1)])?;
+    let matrix = matrix(alloc, &[40])?;
     match Mcf.prepare(alloc, &net, &pairs) {
         Ok(plan) => match Mcf.route(alloc, &net, &plan, &matrix) {
             Ok((routing, note)) => {
