@@ -1,5 +1,5 @@
 -- One block after another, to the end of the file.
-use Rattle.std.proofs.Common.{◌≡◌, ◌∙◌, ℕ, ◌+◌, true, List, [], ◌∷◌, ◌++◌, length, Option, Some, None, Result, Ok, Err, sym, ap, subst}
+use Rattle.std.proofs.Common.{◌≡◌, ◌∙◌, ℕ, ◌+◌, true, List, [], ◌∷◌, ◌++◌, length, Option, Some, None, Result, Err, sym, ap, subst}
 use Rattle.std.proofs.Math.ListN.{replicate}
 use Rattle.std.proofs.lemmas.List.{length-replicate}
 use Rattle.te_model.specs.declared.network.Network.{Network}
@@ -8,19 +8,16 @@ use Rattle.te_model.specs.declared.certificate.Head.{Head}
 use Rattle.te_model.specs.declared.certificate.RuleFault.{RuleFault}
 use Rattle.te_model.specs.Network.{node_count, link_count, no_link}
 use Rattle.te_model.specs.Formats.{limits_of}
-use Rattle.te_model.specs.Validity.{block_fault, earlier, follows, link_before, IsValidBlock}
-use Rattle.cert_text.specs.Reading.{kept}
-use Rattle.cert_text.specs.Grammar.{block_at}
+use Rattle.te_model.specs.Validity.{block_fault, earlier_fault, follows, link_before, IsValidBlock}
+use Rattle.cert_text.specs.Reading.{narrow_number}
+use Rattle.cert_text.specs.Grammar.{read_block}
 use Rattle.cert_text.specs.Fits.{FitsBlock}
 use Rattle.cert_text.specs.declared.fault.Stop.{Stop}
 use Rattle.cert_text.specs.declared.limits.Counts.{Counts}
 use Rattle.block_reader.specs.declared.blocks.Blocks.{Blocks}
 use Rattle.block_reader.specs.declared.stream_fault.StreamFault.{StreamFault}
-use Rattle.block_reader.specs.declared.stream_fault.StreamFault.TheVariants as faults
 use Rattle.block_reader.specs.Answers.{Gives}
-use Rattle.block_reader.specs.Blocks.{AreOf, AreBehind, SameRoom, IsSound, IsEarliest, IsShapeOf, IsFaultOf}
-use Rattle.te_ports.specs.Shown.{Shown}
-use Rattle.block_reader.specs.Depots.{Reads, ReadsTo}
+use Rattle.block_reader.specs.Blocks.{AreOf, AreBehind, SameRoom, KeepsRules, IsEarliest, IsShapeOf, IsFaultOf}
 use Rattle.block_reader.proofs.Handing.{block_handed, sound_more, first_fault_is, earliest_more, fault_in, sound_block, valid_block}
 
 -- ---- what a call says of the file of one name
@@ -48,16 +45,6 @@ stop_is s t e = ap (λ x. Err x) e
 
 pub fault_is : {A : Type 0} (f t : StreamFault) → ◌≡◌ {A = Result A StreamFault} (Err f) (Err t) → f ≡ t
 fault_is f t e = let same : f ≡ t = cc in same
-
--- the fault of a rule is no failed read
-pub reads_rule : {A : Type 0} (d0 d1 : Shown) (name : List ℕ) (x : A) (rule : RuleFault) → Reads d0 d1 name (Ok x) → ReadsTo d0 d1 name (faults.Rule rule)
-reads_rule d0 d1 name x rule r = record {
-  failed = λ e. absurd cc;
-  steady = λ e. r.steady (λ f. cc);
-  later = r.later;
-  kept = r.kept;
-  content = r.content;
-}
 
 -- ---- the fault of the block that was read
 
@@ -94,7 +81,7 @@ valid_of b head block fault fits is none are =
 -- ---- one block more
 
 pub next_handed : (gave given : ℕ → List ℕ → Type 0) (old mid new : Blocks) (head : Head) (blocks : List Block) →
-    Gives gave given old.lines mid.lines (block_at old.room.limits kept old.room.counts) mid.room.block →
+    Gives gave given old.lines mid.lines (read_block old.room.limits narrow_number old.room.counts) mid.room.block →
     SameRoom old mid → mid.left ≡ old.left → mid.place ≡ old.place →
     new.lines ≡ mid.lines → SameRoom mid new → new.room.block ≡ mid.room.block → new.left + 1 ≡ mid.left → new.place ≡ mid.place + 1 →
     new.before ≡ Some mid.room.block.link →
@@ -103,18 +90,18 @@ next_handed gave given old mid new head blocks gives room left place lines rest 
     subst (λ b. AreBehind given new head (blocks ++ b ∷ [])) (sym block)
     (block_handed gave given old new head blocks mid.room.block (fewer ∙ left) (more ∙ ap (λ n. n + 1) place) before
     (rest.limits ∙ room.limits) (rest.counts ∙ room.counts)
-    (subst (λ l. Gives gave given old.lines l (block_at old.room.limits kept old.room.counts) mid.room.block) (sym lines) gives) are)
+    (subst (λ l. Gives gave given old.lines l (read_block old.room.limits narrow_number old.room.counts) mid.room.block) (sym lines) gives) are)
 
 -- a block whose rules hold
 pub sound_next : (gave : ℕ → List ℕ → Type 0) (old new : Blocks) (head : Head) (blocks : List Block) (fault : Option RuleFault) →
-    AreBehind gave old head blocks → IsFaultOfBlock old.room.counts old.before old.place new.room.block fault → fault ≡ None → IsSound head blocks →
-    IsSound head (blocks ++ new.room.block ∷ [])
+    AreBehind gave old head blocks → IsFaultOfBlock old.room.counts old.before old.place new.room.block fault → fault ≡ None → KeepsRules head blocks →
+    KeepsRules head (blocks ++ new.room.block ∷ [])
 sound_next gave old new head blocks fault are is none sound =
     sound_more head blocks new.room.block (sym (fault_behind gave old head blocks new.room.block fault are is) ∙ none) sound
 
 -- a block of which a rule fails
 pub fault_next : (gave : ℕ → List ℕ → Type 0) (old new : Blocks) (head : Head) (blocks : List Block) (fault : Option RuleFault) (rule : RuleFault) →
-    AreBehind gave old head blocks → IsFaultOfBlock old.room.counts old.before old.place new.room.block fault → fault ≡ Some rule → IsSound head blocks →
+    AreBehind gave old head blocks → IsFaultOfBlock old.room.counts old.before old.place new.room.block fault → fault ≡ Some rule → KeepsRules head blocks →
     IsEarliest head (blocks ++ new.room.block ∷ []) rule
 fault_next gave old new head blocks fault rule are is some sound =
     first_fault_is head blocks new.room.block rule (sym (fault_behind gave old head blocks new.room.block fault are is) ∙ some) sound
@@ -129,11 +116,8 @@ abbrev pub Carries : (ℕ → List ℕ → Type 0) → (ℕ → List ℕ → Typ
 Carries gave given old new first last = (head : Head) → (blocks : List Block) → AreBehind gave old head blocks →
     (more : List Block) × AreBehind given new head more × (IsEarliest head blocks first → IsEarliest head more last)
 
-pub carries_start : (gave : ℕ → List ℕ → Type 0) (b : Blocks) (first : RuleFault) → Carries gave gave b b first first
-carries_start gave b first head blocks are = (blocks, are, λ e. e)
-
 pub carries_on : (g0 g1 g2 : ℕ → List ℕ → Type 0) (b0 b1 b2 : Blocks) (first now next : RuleFault) (fault : Option RuleFault) → Carries g0 g1 b0 b1 first now →
-    Hands g1 g2 b1 b2 → IsFaultOfBlock b1.room.counts b1.before b1.place b2.room.block fault → Some next ≡ earlier (Some now) fault → Carries g0 g2 b0 b2 first next
+    Hands g1 g2 b1 b2 → IsFaultOfBlock b1.room.counts b1.before b1.place b2.room.block fault → Some next ≡ earlier_fault (Some now) fault → Carries g0 g2 b0 b2 first next
 carries_on g0 g1 g2 b0 b1 b2 first now next fault carries handed is then head blocks are =
     let so_far = carries head blocks are in (
       so_far.0 ++ b2.room.block ∷ [],

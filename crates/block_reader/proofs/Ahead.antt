@@ -6,26 +6,26 @@ use Rattle.std.specs.Char.{is_ascii_digit}
 use Rattle.std.proofs.lemmas.Bool.Decides.{nat_tests}
 use Rattle.te_model.specs.Network.{is_name_byte}
 use Rattle.cert_text.specs.Place.{Place, place, ◌>>=◌}
-use Rattle.cert_text.specs.Reading.{byte_at, word_at, line_end_at, digits_from, number_from, number_at, count_at, narrow_at, next_number_at, next_narrow_at, next_count_at, many_at, name_from, name_at}
+use Rattle.cert_text.specs.Reading.{read_byte, read_word, read_line_end, read_digits, number_from, read_number, read_count, read_narrow, read_next_number, read_next_narrow, read_next_count, read_many, name_from, read_name}
 use Rattle.cert_text.proofs.Tokens.{IsCount, next_count_takes}
 use Rattle.cert_text.proofs.Local.{silent, quiet, silent_bind, regroup_silent}
-use Rattle.block_reader.specs.Ahead.{longer, Takes, IsAhead}
+use Rattle.block_reader.specs.Ahead.{longer, TakesAtMost, IsAhead}
 
 -- what is read has this property
 abbrev pub Gives : {X : Type 0} → (X → Type 0) → (Place → Result (X × Place) ℕ) → Type 0
 Gives {X} P f = (p : Place) (x : X) (q : Place) → f p ≡ Ok (x, q) → P x
 
-then_takes : {X Y : Type 0} (n m : ℕ) (s : List ℕ) (r : Result (X × Place) ℕ) (g : X → Place → Result (Y × Place) ℕ) → Takes n s r →
-    ((x : X) (q : Place) → r ≡ Ok (x, q) → Takes m q.rest (g x q)) → Takes (n + m) s (r >>= λ x. g x.0 x.1)
+then_takes : {X Y : Type 0} (n m : ℕ) (s : List ℕ) (r : Result (X × Place) ℕ) (g : X → Place → Result (Y × Place) ℕ) → TakesAtMost n s r →
+    ((x : X) (q : Place) → r ≡ Ok (x, q) → TakesAtMost m q.rest (g x q)) → TakesAtMost (n + m) s (r >>= λ x. g x.0 x.1)
 then_takes n m s (Err k) g first next = tt
 then_takes {X} {Y} n m s (Ok x) g first next = go (g x.0 x.1) (next x.0 x.1 refl)
   where
-    go : (t : Result (Y × Place) ℕ) → Takes m x.1.rest t → Takes (n + m) s t
+    go : (t : Result (Y × Place) ℕ) → TakesAtMost m x.1.rest t → TakesAtMost (n + m) s t
     go (Ok y) h = omega (arith, first, h)
     go (Err k) h = tt
 
 then_same : {X Y : Type 0} (n m : ℕ) (s more : List ℕ) (r t : Result (X × Place) ℕ) (g : X → Place → Result (Y × Place) ℕ) → n + m ≤ length s →
-    Takes n s r → t ≡ longer more r → ((x : X) (q : Place) → r ≡ Ok (x, q) → m ≤ length q.rest → g x (place q.line (q.rest ++ more)) ≡ longer more (g x q)) →
+    TakesAtMost n s r → t ≡ longer more r → ((x : X) (q : Place) → r ≡ Ok (x, q) → m ≤ length q.rest → g x (place q.line (q.rest ++ more)) ≡ longer more (g x q)) →
     (t >>= λ x. g x.0 x.1) ≡ longer more (r >>= λ x. g x.0 x.1)
 then_same n m s more (Err k) t g room takes same next = ap (λ u. u >>= λ x. g x.0 x.1) same
 then_same n m s more (Ok x) t g room takes same next =
@@ -52,7 +52,7 @@ done_ahead x = record { takes = λ k s. omega arith; same = λ k s more room. re
 
 pub ahead_same : {X : Type 0} (n : ℕ) (f g : Place → Result (X × Place) ℕ) → ((p : Place) → f p ≡ g p) → IsAhead n f → IsAhead n g
 ahead_same n f g same af = record {
-  takes = λ k s. subst (λ r. Takes n s r) (same (place k s)) (af.takes k s);
+  takes = λ k s. subst (λ r. TakesAtMost n s r) (same (place k s)) (af.takes k s);
   same = λ k s more room. sym (same (place k (s ++ more))) ∙ af.same k s more room ∙ ap (longer more) (same (place k s));
 }
 
@@ -60,7 +60,7 @@ pub then_quiet : {Y : Type 0} (n m : ℕ) (f : Place → Result Place ℕ) (g : 
 then_quiet n m f g af ag =
     ahead_same (n + m) (λ p. silent f p >>= λ x. g x.1) (λ p. f p >>= g) (λ p. silent_bind (f p) g) (then_any n m (silent f) (λ _ p. g p) af (λ _. ag))
 
-more_takes : {X : Type 0} (n m : ℕ) (s : List ℕ) (r : Result (X × Place) ℕ) → n ≤ m → Takes n s r → Takes m s r
+more_takes : {X : Type 0} (n m : ℕ) (s : List ℕ) (r : Result (X × Place) ℕ) → n ≤ m → TakesAtMost n s r → TakesAtMost m s r
 more_takes n m s (Ok x) le h = omega (arith, le, h)
 more_takes n m s (Err k) le h = tt
 
@@ -70,14 +70,14 @@ ahead_more n m f le af = record {
   same = λ k s more room. af.same k s more (omega (arith, le, room));
 }
 
-pub byte_ahead : (b : ℕ) → IsAhead 1 (silent (byte_at b))
+pub byte_ahead : (b : ℕ) → IsAhead 1 (silent (read_byte b))
 byte_ahead b = record { takes = takes; same = same }
   where
-    taken : (k : ℕ) (xs : List ℕ) (t : Bool) → Takes 1 (b ∷ xs) (cond t (Ok (place k xs)) (Err k) >>= quiet)
+    taken : (k : ℕ) (xs : List ℕ) (t : Bool) → TakesAtMost 1 (b ∷ xs) (cond t (Ok (place k xs)) (Err k) >>= quiet)
     taken k xs true = omega arith
     taken k xs false = tt
 
-    takes : (k : ℕ) (s : List ℕ) → Takes 1 s (silent (byte_at b) (place k s))
+    takes : (k : ℕ) (s : List ℕ) → TakesAtMost 1 s (silent (read_byte b) (place k s))
     takes k [] = tt
     takes k (x ∷ xs) = taken k xs (eqb x b)
 
@@ -85,25 +85,25 @@ byte_ahead b = record { takes = takes; same = same }
     chosen k xs more true = refl
     chosen k xs more false = refl
 
-    same : (k : ℕ) (s more : List ℕ) → 1 ≤ length s → silent (byte_at b) (place k (s ++ more)) ≡ longer more (silent (byte_at b) (place k s))
+    same : (k : ℕ) (s more : List ℕ) → 1 ≤ length s → silent (read_byte b) (place k (s ++ more)) ≡ longer more (silent (read_byte b) (place k s))
     same k [] more room = absurd (omega (arith, room))
     same k (x ∷ xs) more room = chosen k xs more (eqb x b)
 
 -- a number that would leave 64 bits with r digits more ends before
-chosen_digits : (k v x r : ℕ) (xs more : List ℕ) (t z f : Bool) → (f ≡ true → Takes r xs (digits_from k (v * 10 + (x - 48)) xs)) →
-    Takes (suc r) (x ∷ xs) (cond t (cond z (Err k) (cond f (digits_from k (v * 10 + (x - 48)) xs) (Err k))) (Ok (v, place k (x ∷ xs))))
+chosen_digits : (k v x r : ℕ) (xs more : List ℕ) (t z f : Bool) → (f ≡ true → TakesAtMost r xs (read_digits k (v * 10 + (x - 48)) xs)) →
+    TakesAtMost (suc r) (x ∷ xs) (cond t (cond z (Err k) (cond f (read_digits k (v * 10 + (x - 48)) xs) (Err k))) (Ok (v, place k (x ∷ xs))))
 chosen_digits k v x r xs more false z f next = omega arith
 chosen_digits k v x r xs more true true f next = tt
 chosen_digits k v x r xs more true false false next = tt
-chosen_digits k v x r xs more true false true next = go (digits_from k (v * 10 + (x - 48)) xs) (next refl)
+chosen_digits k v x r xs more true false true next = go (read_digits k (v * 10 + (x - 48)) xs) (next refl)
   where
-    go : (t : Result (ℕ × Place) ℕ) → Takes r xs t → Takes (suc r) (x ∷ xs) t
+    go : (t : Result (ℕ × Place) ℕ) → TakesAtMost r xs t → TakesAtMost (suc r) (x ∷ xs) t
     go (Ok y) h = omega (arith, h)
     go (Err k) h = tt
 
-longer_digits : (k v x : ℕ) (xs more : List ℕ) (t z f : Bool) → (f ≡ true → digits_from k (v * 10 + (x - 48)) (xs ++ more) ≡ longer more (digits_from k (v * 10 + (x - 48)) xs)) →
-    cond t (cond z (Err k) (cond f (digits_from k (v * 10 + (x - 48)) (xs ++ more)) (Err k))) (Ok (v, place k (x ∷ (xs ++ more))))
-    ≡ longer more (cond t (cond z (Err k) (cond f (digits_from k (v * 10 + (x - 48)) xs) (Err k))) (Ok (v, place k (x ∷ xs))))
+longer_digits : (k v x : ℕ) (xs more : List ℕ) (t z f : Bool) → (f ≡ true → read_digits k (v * 10 + (x - 48)) (xs ++ more) ≡ longer more (read_digits k (v * 10 + (x - 48)) xs)) →
+    cond t (cond z (Err k) (cond f (read_digits k (v * 10 + (x - 48)) (xs ++ more)) (Err k))) (Ok (v, place k (x ∷ (xs ++ more))))
+    ≡ longer more (cond t (cond z (Err k) (cond f (read_digits k (v * 10 + (x - 48)) xs) (Err k))) (Ok (v, place k (x ∷ xs))))
 longer_digits k v x xs more false z f next = refl
 longer_digits k v x xs more true true f next = refl
 longer_digits k v x xs more true false false next = refl
@@ -118,11 +118,11 @@ tenfold v x r past =
     let more : v * 10 * 10 ^ r ≤ (v * 10 + (x - 48)) * 10 ^ r = mul-le-mul_right (10 ^ r) (omega arith) in
     omega (arith, past, one, more)
 
-digits_take : (r k v : ℕ) (s : List ℕ) → 2 ^ 64 ≤ v * 10 ^ r → Takes r s (digits_from k v s)
+digits_take : (r k v : ℕ) (s : List ℕ) → 2 ^ 64 ≤ v * 10 ^ r → TakesAtMost r s (read_digits k v s)
 digits_take r k v [] past = omega arith
 digits_take zero k v (x ∷ xs) past = none (is_ascii_digit x) (eqb v 0) (ltb (v * 10 + (x - 48)) (2 ^ 64)) refl
   where
-    none : (t z f : Bool) → ltb (v * 10 + (x - 48)) (2 ^ 64) ≡ f → Takes 0 (x ∷ xs) (cond t (cond z (Err k) (cond f (digits_from k (v * 10 + (x - 48)) xs) (Err k))) (Ok (v, place k (x ∷ xs))))
+    none : (t z f : Bool) → ltb (v * 10 + (x - 48)) (2 ^ 64) ≡ f → TakesAtMost 0 (x ∷ xs) (cond t (cond z (Err k) (cond f (read_digits k (v * 10 + (x - 48)) xs) (Err k))) (Ok (v, place k (x ∷ xs))))
     none false z f e = omega arith
     none true true f e = tt
     none true false false e = tt
@@ -130,46 +130,46 @@ digits_take zero k v (x ∷ xs) past = none (is_ascii_digit x) (eqb v 0) (ltb (v
 digits_take (suc r) k v (x ∷ xs) past = chosen_digits k v x r xs [] (is_ascii_digit x) (eqb v 0) (ltb (v * 10 + (x - 48)) (2 ^ 64))
     (λ e. digits_take r k (v * 10 + (x - 48)) xs (tenfold v x r past))
 
-digits_same : (r k v : ℕ) (s more : List ℕ) → 2 ^ 64 ≤ v * 10 ^ r → suc r ≤ length s → digits_from k v (s ++ more) ≡ longer more (digits_from k v s)
+digits_same : (r k v : ℕ) (s more : List ℕ) → 2 ^ 64 ≤ v * 10 ^ r → suc r ≤ length s → read_digits k v (s ++ more) ≡ longer more (read_digits k v s)
 digits_same r k v [] more past room = absurd (omega (arith, room))
 digits_same zero k v (x ∷ xs) more past room = longer_digits k v x xs more (is_ascii_digit x) (eqb v 0) (ltb (v * 10 + (x - 48)) (2 ^ 64))
     (λ e. absurd (omega (arith, past, small_enough v x e)))
 digits_same (suc r) k v (x ∷ xs) more past room = longer_digits k v x xs more (is_ascii_digit x) (eqb v 0) (ltb (v * 10 + (x - 48)) (2 ^ 64))
     (λ e. digits_same r k (v * 10 + (x - 48)) xs more (tenfold v x r past) (omega (arith, room)))
 
-pub many_ahead : {X : Type 0} (b : ℕ) (item : Place → Result (X × Place) ℕ) → IsAhead b item → (n : ℕ) → IsAhead (n * b) (many_at n item)
-unfolding many_at
+pub many_ahead : {X : Type 0} (b : ℕ) (item : Place → Result (X × Place) ℕ) → IsAhead b item → (n : ℕ) → IsAhead (n * b) (read_many n item)
+unfolding read_many
 many_ahead b item a zero = ahead_more 0 (0 * b) (λ p. Ok ([], p)) (omega arith) (done_ahead [])
 many_ahead {X} b item a (suc n) =
-    ahead_more (b + (n * b + 0)) (suc n * b) (many_at (suc n) item) (omega arith)
-    (then_any b (n * b + 0) item (λ x p. many_at n item p >>= λ others. Ok (x ∷ others.0, others.1)) a
-    (λ x. then_any (n * b) 0 (many_at n item) (λ xs p. Ok (x ∷ xs, p)) (many_ahead b item a n) (λ xs. done_ahead (x ∷ xs))))
+    ahead_more (b + (n * b + 0)) (suc n * b) (read_many (suc n) item) (omega arith)
+    (then_any b (n * b + 0) item (λ x p. read_many n item p >>= λ others. Ok (x ∷ others.0, others.1)) a
+    (λ x. then_any (n * b) 0 (read_many n item) (λ xs p. Ok (x ∷ xs, p)) (many_ahead b item a n) (λ xs. done_ahead (x ∷ xs))))
 
 -- the first digit, and what follows it
-pub number_ahead : IsAhead 22 number_at
-unfolding number_at
+pub number_ahead : IsAhead 22 read_number
+unfolding read_number
 number_ahead = record { takes = takes; same = same }
   where
     ten_to_twenty : (d : ℕ) → 1 ≤ d → 2 ^ 64 ≤ d * 10 ^ 20
     ten_to_twenty d some = omega (arith, some)
 
-    first : (k d x : ℕ) (xs : List ℕ) → Takes 20 xs (digits_from k d xs) → Takes 22 (x ∷ xs) (digits_from k d xs)
-    first k d x xs h = go (digits_from k d xs) h
+    first : (k d x : ℕ) (xs : List ℕ) → TakesAtMost 20 xs (read_digits k d xs) → TakesAtMost 22 (x ∷ xs) (read_digits k d xs)
+    first k d x xs h = go (read_digits k d xs) h
       where
-        go : (t : Result (ℕ × Place) ℕ) → Takes 20 xs t → Takes 22 (x ∷ xs) t
+        go : (t : Result (ℕ × Place) ℕ) → TakesAtMost 20 xs t → TakesAtMost 22 (x ∷ xs) t
         go (Ok y) h = omega (arith, h)
         go (Err e) h = tt
 
     -- after a zero no digit may follow
-    zero_takes : (k : ℕ) (xs : List ℕ) → Takes 20 xs (digits_from k 0 xs)
+    zero_takes : (k : ℕ) (xs : List ℕ) → TakesAtMost 20 xs (read_digits k 0 xs)
     zero_takes k [] = omega arith
     zero_takes k (x ∷ xs) = go (is_ascii_digit x)
       where
-        go : (t : Bool) → Takes {X = ℕ} 20 (x ∷ xs) (cond t (Err k) (Ok (0, place k (x ∷ xs))))
+        go : (t : Bool) → TakesAtMost {X = ℕ} 20 (x ∷ xs) (cond t (Err k) (Ok (0, place k (x ∷ xs))))
         go true = tt
         go false = omega arith
 
-    zero_same : (k : ℕ) (xs more : List ℕ) → 1 ≤ length xs → digits_from k 0 (xs ++ more) ≡ longer more (digits_from k 0 xs)
+    zero_same : (k : ℕ) (xs more : List ℕ) → 1 ≤ length xs → read_digits k 0 (xs ++ more) ≡ longer more (read_digits k 0 xs)
     zero_same k [] more room = absurd (omega (arith, room))
     zero_same k (x ∷ xs) more room = go (is_ascii_digit x)
       where
@@ -177,19 +177,19 @@ number_ahead = record { takes = takes; same = same }
         go true = refl
         go false = refl
 
-    any_takes : (k d : ℕ) (xs : List ℕ) → Takes 20 xs (digits_from k d xs)
+    any_takes : (k d : ℕ) (xs : List ℕ) → TakesAtMost 20 xs (read_digits k d xs)
     any_takes k zero xs = zero_takes k xs
     any_takes k (suc d) xs = digits_take 20 k (suc d) xs (ten_to_twenty (suc d) (omega arith))
 
-    any_same : (k d : ℕ) (xs more : List ℕ) → 21 ≤ length xs → digits_from k d (xs ++ more) ≡ longer more (digits_from k d xs)
+    any_same : (k d : ℕ) (xs more : List ℕ) → 21 ≤ length xs → read_digits k d (xs ++ more) ≡ longer more (read_digits k d xs)
     any_same k zero xs more room = zero_same k xs more (omega (arith, room))
     any_same k (suc d) xs more room = digits_same 20 k (suc d) xs more (ten_to_twenty (suc d) (omega arith)) (omega (arith, room))
 
-    takes : (k : ℕ) (s : List ℕ) → Takes 22 s (number_from k s)
+    takes : (k : ℕ) (s : List ℕ) → TakesAtMost 22 s (number_from k s)
     takes k [] = tt
     takes k (x ∷ xs) = go (is_ascii_digit x)
       where
-        go : (t : Bool) → Takes 22 (x ∷ xs) (cond t (digits_from k (x - 48) xs) (Err k))
+        go : (t : Bool) → TakesAtMost 22 (x ∷ xs) (cond t (read_digits k (x - 48) xs) (Err k))
         go true = first k (x - 48) x xs (any_takes k (x - 48) xs)
         go false = tt
 
@@ -197,13 +197,13 @@ number_ahead = record { takes = takes; same = same }
     same k [] more room = absurd (omega (arith, room))
     same k (x ∷ xs) more room = go (is_ascii_digit x)
       where
-        go : (t : Bool) → cond t (digits_from k (x - 48) (xs ++ more)) (Err k) ≡ longer more (cond t (digits_from k (x - 48) xs) (Err k))
+        go : (t : Bool) → cond t (read_digits k (x - 48) (xs ++ more)) (Err k) ≡ longer more (cond t (read_digits k (x - 48) xs) (Err k))
         go true = any_same k (x - 48) xs more (omega (arith, room))
         go false = refl
 
-pub next_number_ahead : IsAhead 23 next_number_at
-unfolding next_number_at
-next_number_ahead = then_quiet 1 22 (byte_at 32) number_at (byte_ahead 32) number_ahead
+pub next_number_ahead : IsAhead 23 read_next_number
+unfolding read_next_number
+next_number_ahead = then_quiet 1 22 (read_byte 32) read_number (byte_ahead 32) number_ahead
 
 -- a value that was read, or none, nothing being looked at
 guard_ahead : {X : Type 0} (x : X) (t : Bool) → IsAhead 0 (λ p. cond t (Ok (x, p)) (Err p.line))
@@ -214,41 +214,41 @@ unless_ahead : {X : Type 0} (x : X) (t : Bool) → IsAhead 0 (λ p. cond t (Err 
 unless_ahead x false = record { takes = λ k s. omega arith; same = λ k s more room. refl }
 unless_ahead x true = record { takes = λ k s. tt; same = λ k s more room. refl }
 
-pub count_ahead : (low high : ℕ) → IsAhead 22 (count_at low high)
-unfolding count_at
+pub count_ahead : (low high : ℕ) → IsAhead 22 (read_count low high)
+unfolding read_count
 count_ahead low high =
-    then_any 22 0 number_at (λ x p. cond (nat_le low x && nat_le x high) (Ok (x, p)) (Err p.line)) number_ahead (λ x. guard_ahead x (nat_le low x && nat_le x high))
+    then_any 22 0 read_number (λ x p. cond (nat_le low x && nat_le x high) (Ok (x, p)) (Err p.line)) number_ahead (λ x. guard_ahead x (nat_le low x && nat_le x high))
 
-pub narrow_ahead : (keep : ℕ → ℕ) → IsAhead 22 (narrow_at keep)
-unfolding narrow_at
-narrow_ahead keep = then_any 22 0 number_at (λ x p. Ok (keep x, p)) number_ahead (λ x. done_ahead (keep x))
+pub narrow_ahead : (keep : ℕ → ℕ) → IsAhead 22 (read_narrow keep)
+unfolding read_narrow
+narrow_ahead keep = then_any 22 0 read_number (λ x p. Ok (keep x, p)) number_ahead (λ x. done_ahead (keep x))
 
-pub next_narrow_ahead : (keep : ℕ → ℕ) → IsAhead 23 (next_narrow_at keep)
-unfolding next_narrow_at
-next_narrow_ahead keep = then_quiet 1 22 (byte_at 32) (narrow_at keep) (byte_ahead 32) (narrow_ahead keep)
+pub next_narrow_ahead : (keep : ℕ → ℕ) → IsAhead 23 (read_next_narrow keep)
+unfolding read_next_narrow
+next_narrow_ahead keep = then_quiet 1 22 (read_byte 32) (read_narrow keep) (byte_ahead 32) (narrow_ahead keep)
 
-pub next_count_ahead : (low high : ℕ) → IsAhead 23 (next_count_at low high)
-unfolding next_count_at
-next_count_ahead low high = then_quiet 1 22 (byte_at 32) (count_at low high) (byte_ahead 32) (count_ahead low high)
+pub next_count_ahead : (low high : ℕ) → IsAhead 23 (read_next_count low high)
+unfolding read_next_count
+next_count_ahead low high = then_quiet 1 22 (read_byte 32) (read_count low high) (byte_ahead 32) (count_ahead low high)
 
 pub count_within : (low high n : ℕ) → IsCount low high n → n ≤ high
 count_within low high n within = grind (arith, nat_tests)
 
-pub next_count_gives : (low high : ℕ) → Gives (λ n. n ≤ high) (next_count_at low high)
+pub next_count_gives : (low high : ℕ) → Gives (λ n. n ≤ high) (read_next_count low high)
 next_count_gives low high p n q is = count_within low high n ((next_count_takes low high p n q is).good)
 
 -- at most so many items
-pub some_ahead : {X : Type 0} (b high : ℕ) (item : Place → Result (X × Place) ℕ) → IsAhead b item → (n : ℕ) → n ≤ high → IsAhead (high * b) (many_at n item)
-some_ahead b high item a n few = ahead_more (n * b) (high * b) (many_at n item) (mul-le-mul_right b few) (many_ahead b item a n)
+pub some_ahead : {X : Type 0} (b high : ℕ) (item : Place → Result (X × Place) ℕ) → IsAhead b item → (n : ℕ) → n ≤ high → IsAhead (high * b) (read_many n item)
+some_ahead b high item a n few = ahead_more (n * b) (high * b) (read_many n item) (mul-le-mul_right b few) (many_ahead b item a n)
 
-pub line_end_ahead : IsAhead 1 (silent line_end_at)
+pub line_end_ahead : IsAhead 1 (silent read_line_end)
 line_end_ahead = record { takes = takes; same = same }
   where
-    taken : (k : ℕ) (x : ℕ) (xs : List ℕ) (t : Bool) → Takes 1 (x ∷ xs) ((cond t (Ok (place k xs)) (Err k) >>= λ q. Ok (place (q.line + 1) q.rest)) >>= quiet)
+    taken : (k : ℕ) (x : ℕ) (xs : List ℕ) (t : Bool) → TakesAtMost 1 (x ∷ xs) ((cond t (Ok (place k xs)) (Err k) >>= λ q. Ok (place (q.line + 1) q.rest)) >>= quiet)
     taken k x xs true = omega arith
     taken k x xs false = tt
 
-    takes : (k : ℕ) (s : List ℕ) → Takes 1 s (silent line_end_at (place k s))
+    takes : (k : ℕ) (s : List ℕ) → TakesAtMost 1 s (silent read_line_end (place k s))
     takes k [] = tt
     takes k (x ∷ xs) = taken k x xs (eqb x 10)
 
@@ -257,38 +257,38 @@ line_end_ahead = record { takes = takes; same = same }
     chosen k xs more true = refl
     chosen k xs more false = refl
 
-    same : (k : ℕ) (s more : List ℕ) → 1 ≤ length s → silent line_end_at (place k (s ++ more)) ≡ longer more (silent line_end_at (place k s))
+    same : (k : ℕ) (s more : List ℕ) → 1 ≤ length s → silent read_line_end (place k (s ++ more)) ≡ longer more (silent read_line_end (place k s))
     same k [] more room = absurd (omega (arith, room))
     same k (x ∷ xs) more room = chosen k xs more (eqb x 10)
 
-pub word_ahead : (w : List ℕ) → IsAhead (length w) (silent (word_at w))
+pub word_ahead : (w : List ℕ) → IsAhead (length w) (silent (read_word w))
 word_ahead [] = done_ahead tt
 word_ahead (b ∷ bs) =
-    ahead_more (1 + length bs) (length (b ∷ bs)) (silent (word_at (b ∷ bs))) (omega arith)
-    (ahead_same (1 + length bs) (λ p. byte_at b p >>= silent (word_at bs)) (silent (word_at (b ∷ bs))) (λ p. regroup_silent (byte_at b p) (word_at bs))
-    (then_quiet 1 (length bs) (byte_at b) (silent (word_at bs)) (byte_ahead b) (word_ahead bs)))
+    ahead_more (1 + length bs) (length (b ∷ bs)) (silent (read_word (b ∷ bs))) (omega arith)
+    (ahead_same (1 + length bs) (λ p. read_byte b p >>= silent (read_word bs)) (silent (read_word (b ∷ bs))) (λ p. regroup_silent (read_byte b p) (read_word bs))
+    (then_quiet 1 (length bs) (read_byte b) (silent (read_word bs)) (byte_ahead b) (word_ahead bs)))
 
 -- a name has at most 32 bytes, and reading one looks at the byte behind them
 full : (n : ℕ) → n ≡ 32 → eqb n 32 ≡ false → ⊥
 full n is not = grind (arith, nat_tests)
 
-letters_take : (r k : ℕ) (front s : List ℕ) → length front + r ≡ 32 → Takes r s (name_from k front s)
+letters_take : (r k : ℕ) (front s : List ℕ) → length front + r ≡ 32 → TakesAtMost r s (name_from k front s)
 letters_take r k front [] all = omega arith
 letters_take zero k front (x ∷ xs) all = none (is_name_byte x) (eqb (length front) 32) refl
   where
-    none : (t f : Bool) → eqb (length front) 32 ≡ f → Takes 0 (x ∷ xs) (cond t (cond f (Err k) (name_from k (front ++ x ∷ []) xs)) (Ok (front, place k (x ∷ xs))))
+    none : (t f : Bool) → eqb (length front) 32 ≡ f → TakesAtMost 0 (x ∷ xs) (cond t (cond f (Err k) (name_from k (front ++ x ∷ []) xs)) (Ok (front, place k (x ∷ xs))))
     none false f e = omega arith
     none true true e = tt
     none true false e = absurd (full (length front) (omega (arith, all)) e)
 letters_take (suc r) k front (x ∷ xs) all =
     chosen (is_name_byte x) (eqb (length front) 32) (letters_take r k (front ++ x ∷ []) xs (omega (arith, all, length-append front (x ∷ []))))
   where
-    chosen : (t f : Bool) → Takes r xs (name_from k (front ++ x ∷ []) xs) → Takes (suc r) (x ∷ xs) (cond t (cond f (Err k) (name_from k (front ++ x ∷ []) xs)) (Ok (front, place k (x ∷ xs))))
+    chosen : (t f : Bool) → TakesAtMost r xs (name_from k (front ++ x ∷ []) xs) → TakesAtMost (suc r) (x ∷ xs) (cond t (cond f (Err k) (name_from k (front ++ x ∷ []) xs)) (Ok (front, place k (x ∷ xs))))
     chosen false f h = omega arith
     chosen true true h = tt
     chosen true false h = go (name_from k (front ++ x ∷ []) xs) h
       where
-        go : (t : Result (List ℕ × Place) ℕ) → Takes r xs t → Takes (suc r) (x ∷ xs) t
+        go : (t : Result (List ℕ × Place) ℕ) → TakesAtMost r xs t → TakesAtMost (suc r) (x ∷ xs) t
         go (Ok y) h = omega (arith, h)
         go (Err k) h = tt
 
@@ -314,8 +314,8 @@ letters_ahead = record {
   same = λ k s more room. letters_same 32 k [] s more refl room;
 }
 
-pub name_ahead : IsAhead 33 name_at
-unfolding name_at
+pub name_ahead : IsAhead 33 read_name
+unfolding read_name
 name_ahead = then_any 33 0 (λ p. name_from p.line [] p.rest) (λ x p. cond (eqb (length x) 0) (Err p.line) (Ok (x, p))) letters_ahead (λ x. unless_ahead x (eqb (length x) 0))
 
 -- two ways to read, of which the first is taken where this byte stands next
@@ -323,11 +323,11 @@ pub fork_ahead : {X : Type 0} (byte n : ℕ) (f g : Place → Result (X × Place
     IsAhead n (λ a. cond (eqb (get_or a.rest 0 0) byte) (f a) (g a))
 fork_ahead byte n f g some af ag = record { takes = takes; same = same }
   where
-    either : (k : ℕ) (s : List ℕ) (t : Bool) → Takes n s (cond t (f (place k s)) (g (place k s)))
+    either : (k : ℕ) (s : List ℕ) (t : Bool) → TakesAtMost n s (cond t (f (place k s)) (g (place k s)))
     either k s true = af.takes k s
     either k s false = ag.takes k s
 
-    takes : (k : ℕ) (s : List ℕ) → Takes n s (cond (eqb (get_or s 0 0) byte) (f (place k s)) (g (place k s)))
+    takes : (k : ℕ) (s : List ℕ) → TakesAtMost n s (cond (eqb (get_or s 0 0) byte) (f (place k s)) (g (place k s)))
     takes k s = either k s (eqb (get_or s 0 0) byte)
 
     chosen : (k : ℕ) (s more : List ℕ) (t : Bool) → n ≤ length s → cond t (f (place k (s ++ more))) (g (place k (s ++ more))) ≡ longer more (cond t (f (place k s)) (g (place k s)))
@@ -343,11 +343,11 @@ fork_ahead byte n f g some af ag = record { takes = takes; same = same }
 pub end_ahead : IsAhead 1 (silent (λ e. cond (eqb (length e.rest) 0) (Ok e) (Err e.line)))
 end_ahead = record { takes = takes; same = same }
   where
-    chosen : (k : ℕ) (s : List ℕ) (t : Bool) → Takes 1 s (cond t (Ok (place k s)) (Err k) >>= quiet)
+    chosen : (k : ℕ) (s : List ℕ) (t : Bool) → TakesAtMost 1 s (cond t (Ok (place k s)) (Err k) >>= quiet)
     chosen k s true = omega arith
     chosen k s false = tt
 
-    takes : (k : ℕ) (s : List ℕ) → Takes 1 s (cond (eqb (length s) 0) (Ok (place k s)) (Err k) >>= quiet)
+    takes : (k : ℕ) (s : List ℕ) → TakesAtMost 1 s (cond (eqb (length s) 0) (Ok (place k s)) (Err k) >>= quiet)
     takes k s = chosen k s (eqb (length s) 0)
 
     same : (k : ℕ) (s more : List ℕ) → 1 ≤ length s → (cond (eqb (length (s ++ more)) 0) (Ok (place k (s ++ more))) (Err k) >>= quiet)
@@ -357,15 +357,6 @@ end_ahead = record { takes = takes; same = same }
         let some : eqb (length (x ∷ xs)) 0 ≡ false = grind (arith, nat_tests) in
         let too : eqb (length (x ∷ (xs ++ more))) 0 ≡ false = grind (arith, nat_tests) in
         rw (some, too) refl
-
--- a window that holds as many bytes, or all that are left, is read as the whole is
-pub read_ahead : {X : Type 0} (n k : ℕ) (f : Place → Result (X × Place) ℕ) (window more : List ℕ) (x : X) (q : Place) → IsAhead n f → n ≤ length window →
-    f (place k window) ≡ Ok (x, q) → f (place k (window ++ more)) ≡ Ok (x, place q.line (q.rest ++ more))
-read_ahead n k f window more x q ahead room read = ahead.same k window more room ∙ ap (longer more) read
-
-pub stops_ahead : {X : Type 0} (n k e : ℕ) (f : Place → Result (X × Place) ℕ) (window more : List ℕ) → IsAhead n f → n ≤ length window →
-    f (place k window) ≡ Err e → f (place k (window ++ more)) ≡ Err e
-stops_ahead n k e f window more ahead room read = ahead.same k window more room ∙ ap (longer more) read
 
 pub longer_by_none : {X : Type 0} (r : Result (X × Place) ℕ) → longer [] r ≡ r
 longer_by_none (Ok x) = ap (λ s. Ok (x.0, place x.1.line s)) (append-nil x.1.rest)

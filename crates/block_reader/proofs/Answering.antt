@@ -2,7 +2,7 @@
 use Rattle.std.proofs.Common.{◌≡◌, ◌∙◌, ℕ, zero, suc, ◌+◌, ◌<◌, ◌≤◌, List, [], ◌∷◌, ◌++◌, length, take, drop, Result, Ok, Err, refl, sym, ap, subst, inl, inr, arith, append_assoc, append-nil, length-append}
 use Rattle.te_model.specs.FileLimit.{file_limit}
 use Rattle.cert_text.specs.Place.{Place, place, ◌>>=◌}
-use Rattle.cert_text.specs.Reading.{many_at}
+use Rattle.cert_text.specs.Reading.{read_many}
 use Rattle.cert_text.specs.declared.fault.Stop.{Stop}
 use Rattle.cert_text.specs.declared.fault.Stop.TheVariants as stops
 use Rattle.block_reader.specs.declared.lines.Lines.{Lines}
@@ -11,31 +11,31 @@ use Rattle.block_reader.specs.declared.stream_fault.StreamFault.{StreamFault}
 use Rattle.block_reader.specs.declared.stream_fault.StreamFault.TheVariants as faults
 use Rattle.block_reader.specs.Standing.{ready, fetched_of, IsStateOf, StandsIn}
 use Rattle.block_reader.specs.Ahead.{IsAhead}
-use Rattle.block_reader.specs.Step.{Took, StepsTo, IsStep}
-use Rattle.block_reader.specs.Answers.{place_of, place_in, HasLimit, IsBehind, HasEnough, IsClosedBy, Passes, IsDrained, Gives, StopsAs, Answers}
+use Rattle.block_reader.specs.Step.{Took, StepsTo, IsForwardStep}
+use Rattle.block_reader.specs.Answers.{place_of, place_in, HasLimit, IsBehind, HasEnough, IsClosedBy, PassesFront, IsDrained, Gives, StopsAs, AnswersPart}
 use Rattle.block_reader.proofs.Going.{at_pass, at_past}
 use Rattle.block_reader.proofs.Limits.{limit_after_pass}
 use Rattle.block_reader.proofs.Items.{left_is, read_in, stops_in}
 
 -- ---- bytes that were passed
 
-same_bytes : (w w' : Window) (passed front : List ℕ) → Passes w w' front → (passed ++ front) ++ ready w' ≡ passed ++ ready w
+same_bytes : (w w' : Window) (passed front : List ℕ) → PassesFront w w' front → (passed ++ front) ++ ready w' ≡ passed ++ ready w
 same_bytes w w' passed front p = append_assoc passed front (ready w') ∙ ap (λ s. passed ++ s) (sym p.parts)
 
-pub limited_after_pass : (w w' : Window) (passed front : List ℕ) → Passes w w' front → HasLimit w passed → HasLimit w' (passed ++ front)
+pub limited_after_pass : (w w' : Window) (passed front : List ℕ) → PassesFront w w' front → HasLimit w passed → HasLimit w' (passed ++ front)
 limited_after_pass w w' passed front p h = record {
   limit = limit_after_pass w w' passed front p.parts p.limit h.limit;
   settled = λ is. subst (λ s. 14 ≤ length s) (sym (same_bytes w w' passed front p)) (h.settled (sym p.state ∙ is));
 }
 
-pub behind_after_pass : (gave : ℕ → List ℕ → Type 0) (l l' : Lines) (passed front : List ℕ) → Passes l.window l'.window front →
+pub behind_after_pass : (gave : ℕ → List ℕ → Type 0) (l l' : Lines) (passed front : List ℕ) → PassesFront l.window l'.window front →
     IsBehind gave l passed → IsBehind gave l' (passed ++ front)
 behind_after_pass gave l l' passed front p b = record {
   stands = at_pass gave l.window l'.window passed front p.parts p.fetched p.limit p.state b.stands;
   limited = limited_after_pass l.window l'.window passed front p b.limited;
 }
 
-pub stood_before_pass : (content : List ℕ) (w w' : Window) (passed front : List ℕ) → Passes w w' front →
+pub stood_before_pass : (content : List ℕ) (w w' : Window) (passed front : List ℕ) → PassesFront w w' front →
     StandsIn content w' (passed ++ front) → StandsIn content w passed
 stood_before_pass content w w' passed front p s =
     let whole = same_bytes w w' passed front p in record {
@@ -46,7 +46,7 @@ stood_before_pass content w w' passed front p s =
     }
 
 -- what a step took
-pub took_of : {X : Type 0} (f : Place → Result (X × Place) ℕ) → IsStep f → (p q : Place) (x : X) → f p ≡ Ok (x, q) → (front : List ℕ) × Took p front q
+pub took_of : {X : Type 0} (f : Place → Result (X × Place) ℕ) → IsForwardStep f → (p q : Place) (x : X) → f p ≡ Ok (x, q) → (front : List ℕ) × Took p front q
 took_of f steps p q x read = subst (StepsTo p) read (steps.goes p)
 
 -- what is left of it stands in the bytes that stood ready, and so do as many lines
@@ -75,7 +75,7 @@ behind_in content w l after same s = ap (place l.line) (ap (λ k. ready l.window
 pub part_gives : {X : Type 0} (gave given : ℕ → List ℕ → Type 0) (old filled new : Lines) (n : ℕ) (f : Place → Result (X × Place) ℕ) (x : X) (front : List ℕ) →
     IsAhead n f → ((passed : List ℕ) → IsBehind gave old passed → IsBehind given filled passed) →
     ((passed : List ℕ) → IsBehind gave old passed → (content : List ℕ) → StandsIn content filled.window passed → StandsIn content old.window passed) →
-    HasEnough filled.window n → filled.line ≡ old.line → Passes filled.window new.window front → f (place_of filled) ≡ Ok (x, place_of new) →
+    HasEnough filled.window n → filled.line ≡ old.line → PassesFront filled.window new.window front → f (place_of filled) ≡ Ok (x, place_of new) →
     Gives gave given old new f x
 part_gives {X} gave given old filled new n f x front ahead behind stood enough line p read = λ passed b. (
   front,
@@ -169,12 +169,12 @@ done_gives {X} gave l x = λ passed b.
     )
 
 pub answers_then : {X Y : Type 0} (g0 g1 g2 : ℕ → List ℕ → Type 0) (l0 l1 l2 : Lines) (f : Place → Result (X × Place) ℕ) (h : X → Place → Result (Y × Place) ℕ) (x : X) (r : Result Y StreamFault) →
-    Gives g0 g1 l0 l1 f x → Answers g1 g2 l1 l2 (h x) r → Answers g0 g2 l0 l2 (λ p. f p >>= λ z. h z.0 z.1) r
+    Gives g0 g1 l0 l1 f x → AnswersPart g1 g2 l1 l2 (h x) r → AnswersPart g0 g2 l0 l2 (λ p. f p >>= λ z. h z.0 z.1) r
 answers_then g0 g1 g2 l0 l1 l2 f h x (Ok y) first next = gives_then g0 g1 g2 l0 l1 l2 f h x y first next
 answers_then g0 g1 g2 l0 l1 l2 f h x (Err fault) first next = stops_next g0 g1 g2 l0 l1 f h x fault first next
 
 pub answers_err : {X Y : Type 0} (g0 g1 : ℕ → List ℕ → Type 0) (l0 l1 : Lines) (f : Place → Result (X × Place) ℕ) (h : X → Place → Result (Y × Place) ℕ) (fault : StreamFault) →
-    Answers {X = X} g0 g1 l0 l1 f (Err fault) → Answers {X = Y} g0 g1 l0 l1 (λ p. f p >>= λ z. h z.0 z.1) (Err fault)
+    AnswersPart {X = X} g0 g1 l0 l1 f (Err fault) → AnswersPart {X = Y} g0 g1 l0 l1 (λ p. f p >>= λ z. h z.0 z.1) (Err fault)
 answers_err g0 g1 l0 l1 f h fault stopped = λ passed b. stops_first g1 l0 passed f h fault (stopped passed b)
 
 -- ---- items one after another
@@ -187,8 +187,8 @@ abbrev put_last : {X : Type 0} → List X → X × Place → Result (List X × P
 put_last xs y = Ok (xs ++ y.0 ∷ [], y.1)
 
 one_more : {X : Type 0} (item : Place → Result (X × Place) ℕ) (n : ℕ) (p : Place) →
-    many_at (suc n) item p ≡ (many_at n item p >>= λ xs. item xs.1 >>= put_last xs.0)
-unfolding many_at
+    read_many (suc n) item p ≡ (read_many n item p >>= λ xs. item xs.1 >>= put_last xs.0)
+unfolding read_many
 one_more {X} item zero p = last (item p)
   where
     last : (r : Result (X × Place) ℕ) → (r >>= λ first. put first.0 ([], first.1)) ≡ (r >>= put_last [])
@@ -204,30 +204,30 @@ one_more {X} item (suc n) p = first_of (one_more item n) (item p)
     others x (Err k) = refl
     others x (Ok xs) = one x xs.0 (item xs.1)
 
-    first_of : ((q : Place) → many_at (suc n) item q ≡ (many_at n item q >>= λ xs. item xs.1 >>= put_last xs.0)) → (r : Result (X × Place) ℕ) →
-        (r >>= λ first. many_at (suc n) item first.1 >>= put first.0) ≡ ((r >>= λ first. many_at n item first.1 >>= put first.0) >>= λ xs. item xs.1 >>= put_last xs.0)
+    first_of : ((q : Place) → read_many (suc n) item q ≡ (read_many n item q >>= λ xs. item xs.1 >>= put_last xs.0)) → (r : Result (X × Place) ℕ) →
+        (r >>= λ first. read_many (suc n) item first.1 >>= put first.0) ≡ ((r >>= λ first. read_many n item first.1 >>= put first.0) >>= λ xs. item xs.1 >>= put_last xs.0)
     first_of more (Err k) = refl
-    first_of more (Ok x) = ap (λ r. r >>= put x.0) (more x.1) ∙ others x.0 (many_at n item x.1)
+    first_of more (Ok x) = ap (λ r. r >>= put x.0) (more x.1) ∙ others x.0 (read_many n item x.1)
 
 many_more : {X : Type 0} (item : Place → Result (X × Place) ℕ) (n : ℕ) (p : Place) →
-    many_at (n + 1) item p ≡ (many_at n item p >>= λ xs. item xs.1 >>= put_last xs.0)
+    read_many (n + 1) item p ≡ (read_many n item p >>= λ xs. item xs.1 >>= put_last xs.0)
 many_more item n p =
     let next : n + 1 ≡ suc n = omega arith in
-    ap (λ k. many_at k item p) next ∙ one_more item n p
+    ap (λ k. read_many k item p) next ∙ one_more item n p
 
 same_moves : {X : Type 0} (g0 g1 : ℕ → List ℕ → Type 0) (l0 l1 : Lines) (f g : Place → Result (X × Place) ℕ) (x : X) → ((p : Place) → g p ≡ f p) → Gives g0 g1 l0 l1 f x → Gives g0 g1 l0 l1 g x
 same_moves g0 g1 l0 l1 f g x same gives = λ passed b.
     let one = gives passed b in (one.0, one.1, λ content s. let moved = one.2 content s in (moved.0, same (place_in l0 passed content) ∙ moved.1))
 
 pub many_gives : {X : Type 0} (g0 g1 g2 : ℕ → List ℕ → Type 0) (l0 l1 l2 : Lines) (item : Place → Result (X × Place) ℕ) (n : ℕ) (xs : List X) (x : X) →
-    Gives g0 g1 l0 l1 (many_at n item) xs → Gives g1 g2 l1 l2 item x → Gives g0 g2 l0 l2 (many_at (n + 1) item) (xs ++ x ∷ [])
+    Gives g0 g1 l0 l1 (read_many n item) xs → Gives g1 g2 l1 l2 item x → Gives g0 g2 l0 l2 (read_many (n + 1) item) (xs ++ x ∷ [])
 many_gives {X} g0 g1 g2 l0 l1 l2 item n xs x first next =
-    same_moves g0 g2 l0 l2 (λ p. many_at n item p >>= λ xs. item xs.1 >>= put_last xs.0) (many_at (n + 1) item) (xs ++ x ∷ []) (many_more item n)
-    (gives_then g0 g1 g2 l0 l1 l2 (many_at n item) (λ xs p. item p >>= put_last xs) xs (xs ++ x ∷ []) first
+    same_moves g0 g2 l0 l2 (λ p. read_many n item p >>= λ xs. item xs.1 >>= put_last xs.0) (read_many (n + 1) item) (xs ++ x ∷ []) (many_more item n)
+    (gives_then g0 g1 g2 l0 l1 l2 (read_many n item) (λ xs p. item p >>= put_last xs) xs (xs ++ x ∷ []) first
     (gives_then g1 g2 g2 l1 l2 l2 item (λ y p. Ok (xs ++ y ∷ [], p)) x (xs ++ x ∷ []) next (done_gives g2 l2 (xs ++ x ∷ []))))
 
-pub none_gives : {X : Type 0} (gave : ℕ → List ℕ → Type 0) (l : Lines) (item : Place → Result (X × Place) ℕ) → Gives gave gave l l (many_at 0 item) []
-unfolding many_at
+pub none_gives : {X : Type 0} (gave : ℕ → List ℕ → Type 0) (l : Lines) (item : Place → Result (X × Place) ℕ) → Gives gave gave l l (read_many 0 item) []
+unfolding read_many
 none_gives gave l item = done_gives gave l []
 
 -- the place behind what was read
@@ -237,28 +237,28 @@ place_behind q (Err k) = q
 
 -- where an item stops, so do all
 many_fail : {X : Type 0} (item : Place → Result (X × Place) ℕ) (n count k : ℕ) (p : Place) (xs : List X) (q : Place) → n < count →
-    many_at n item p ≡ Ok (xs, q) → item q ≡ Err k → many_at count item p ≡ Err k
-unfolding many_at
+    read_many n item p ≡ Ok (xs, q) → item q ≡ Err k → read_many count item p ≡ Err k
+unfolding read_many
 many_fail item n zero k p xs q lt read stops = absurd (omega (arith, lt))
 many_fail {X} item zero (suc m) k p xs q lt read stops =
     let same : p ≡ q = ap (place_behind p) read in
-    ap (λ (r : Result (X × Place) ℕ). r >>= λ first. many_at m item first.1 >>= put first.0) (ap item same ∙ stops)
+    ap (λ (r : Result (X × Place) ℕ). r >>= λ first. read_many m item first.1 >>= put first.0) (ap item same ∙ stops)
 many_fail {X} item (suc n) (suc m) k p xs q lt read stops =
     first_of (λ a ys is. many_fail item n m k a ys q (omega (arith, lt)) is stops) (item p) read
   where
-    others : (x : X) (a : Place) (r : Result (List X × Place) ℕ) → ((ys : List X) → r ≡ Ok (ys, q) → many_at m item a ≡ Err k) → (r >>= put x) ≡ Ok (xs, q) →
-        (many_at m item a >>= put x) ≡ Err k
+    others : (x : X) (a : Place) (r : Result (List X × Place) ℕ) → ((ys : List X) → r ≡ Ok (ys, q) → read_many m item a ≡ Err k) → (r >>= put x) ≡ Ok (xs, q) →
+        (read_many m item a >>= put x) ≡ Err k
     others x a (Err j) below e = absurd cc
     others x a (Ok ys) below e = ap (λ (r : Result (List X × Place) ℕ). r >>= put x) (below ys.0 (ap (λ (b : Place). Ok (ys.0, b)) (ap (place_behind q) e)))
 
-    first_of : ((a : Place) (ys : List X) → many_at n item a ≡ Ok (ys, q) → many_at m item a ≡ Err k) → (r : Result (X × Place) ℕ) →
-        (r >>= λ first. many_at n item first.1 >>= put first.0) ≡ Ok (xs, q) → (r >>= λ first. many_at m item first.1 >>= put first.0) ≡ Err k
+    first_of : ((a : Place) (ys : List X) → read_many n item a ≡ Ok (ys, q) → read_many m item a ≡ Err k) → (r : Result (X × Place) ℕ) →
+        (r >>= λ first. read_many n item first.1 >>= put first.0) ≡ Ok (xs, q) → (r >>= λ first. read_many m item first.1 >>= put first.0) ≡ Err k
     first_of below (Err j) e = absurd cc
-    first_of below (Ok x) e = others x.0 x.1 (many_at n item x.1) (below x.1) e
+    first_of below (Ok x) e = others x.0 x.1 (read_many n item x.1) (below x.1) e
 
 pub many_stop : {X : Type 0} (g0 g1 g2 : ℕ → List ℕ → Type 0) (l0 l1 : Lines) (item : Place → Result (X × Place) ℕ) (n count : ℕ) (xs : List X) (fault : StreamFault) → n < count →
-    Gives g0 g1 l0 l1 (many_at n item) xs → ((passed : List ℕ) → IsBehind g1 l1 passed → StopsAs g2 l1 passed item fault) →
-    (passed : List ℕ) → IsBehind g0 l0 passed → StopsAs g2 l0 passed (many_at count item) fault
+    Gives g0 g1 l0 l1 (read_many n item) xs → ((passed : List ℕ) → IsBehind g1 l1 passed → StopsAs g2 l1 passed item fault) →
+    (passed : List ℕ) → IsBehind g0 l0 passed → StopsAs g2 l0 passed (read_many count item) fault
 many_stop g0 g1 g2 l0 l1 item n count xs faults.Failed lt first next passed b = tt
 many_stop g0 g1 g2 l0 l1 item n count xs faults.TooLong lt first next passed b = let one = first passed b in next (passed ++ one.0) one.1
 many_stop g0 g1 g2 l0 l1 item n count xs (faults.Shape k) lt first next passed b =

@@ -24,15 +24,7 @@ passed_by xs s n = sym (take-append-drop n (drop s xs)) ∙ ap (λ f. take n (dr
 refilled_front : (ws vs : List ℕ) (e n : ℕ) → e ≤ n → e ≤ length ws → take e (take n (ws ++ vs)) ≡ take e ws
 refilled_front ws vs e n within inside = take-take e n (ws ++ vs) within ∙ take-append-le e ws vs inside
 
--- bytes that were written behind those that stand ready, and were not counted in
-pub same_front : (xs zs rest vs : List ℕ) (s e n : ℕ) → zs ≡ xs → e ≤ length xs → e ≤ n →
-    drop s (take e (take n ((take e zs ++ rest) ++ vs))) ≡ drop s (take e xs)
-same_front xs zs rest vs s e n is inside within =
-    let size : length (take e zs) ≡ e = length-take-le e zs (omega (arith, ap length is, inside)) in
-    ap (drop s) (refilled_front (take e zs ++ rest) vs e n within (omega (arith, size, length-append (take e zs) rest))
-    ∙ take_at (take e zs) rest e size ∙ ap (take e) is)
-
--- and some that were
+-- bytes that were written behind those that stand ready, and of which some were counted in
 pub behind : (xs zs buf rest vs : List ℕ) (s e k n : ℕ) → zs ≡ xs → s ≤ e → e ≤ length xs → k ≤ length buf → e + k ≤ n →
     drop s (take (e + k) (take n ((take e zs ++ (buf ++ rest)) ++ vs))) ≡ drop s (take e xs) ++ take k buf
 behind xs zs buf rest vs s e k n is order inside fits within =
@@ -47,7 +39,3 @@ behind xs zs buf rest vs s e k n is order inside fits within =
     ∙ ap (λ f. take e xs ++ f) (ap (take k) left ∙ take-append-le k buf rest fits) in
     ap (drop s) (refilled_front (take e zs ++ (buf ++ rest)) vs (e + k) n within long ∙ whole)
     ∙ drop-append-le s (take e xs) (take k buf) (omega (arith, order, inside, length-take-le e xs inside))
-
--- as many bytes more stand ready as were fetched
-pub count_behind : (old new piece : List ℕ) (fetched fetched' : ℕ) → new ≡ old ++ piece → fetched' ≡ fetched + length piece → fetched' + length old ≡ fetched + length new
-count_behind old new piece fetched fetched' is more = omega (arith, more, ap length is, length-append old piece)

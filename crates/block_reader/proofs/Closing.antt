@@ -6,8 +6,8 @@ use Rattle.std.proofs.lemmas.Bool.{eqb-true}
 use Rattle.std.proofs.lemmas.List.{take_all, nil_from_length}
 use Rattle.cert_text.specs.declared.fault.Stop.{Stop}
 use Rattle.cert_text.specs.Place.{Place, place, Passes, ◌>>=◌}
-use Rattle.cert_text.specs.Reading.{word_at, line_end_at}
-use Rattle.cert_text.specs.Grammar.{closing_at}
+use Rattle.cert_text.specs.Reading.{read_word, read_line_end}
+use Rattle.cert_text.specs.Grammar.{read_closing}
 use Rattle.cert_text.proofs.Decimals.{bind_ok, where_ok}
 use Rattle.cert_text.proofs.Tokens.{word_takes, line_end_takes}
 use Rattle.block_reader.specs.declared.lines.Lines.{Lines}
@@ -15,27 +15,27 @@ use Rattle.block_reader.specs.declared.window.Window.{Window}
 use Rattle.block_reader.specs.declared.window.State.TheVariants.{Ended, TooLong}
 use Rattle.block_reader.specs.Standing.{ready, fetched_of, state_of, IsStateOf, StandsAt, StandsIn}
 use Rattle.block_reader.specs.Answers.{place_of, HasLimit, IsBehind, HasEnough, IsWhole, IsClosed}
-use Rattle.block_reader.specs.Ahead.{passing}
+use Rattle.block_reader.specs.Ahead.{with_no_value}
 use Rattle.block_reader.proofs.Going.{at_whole}
 
 -- the bytes of the last line, and no others
-closing_is : (p q : Place) → closing_at p ≡ Ok q → p.rest ≡ codes "end" ++ 10 ∷ []
-unfolding closing_at
+closing_is : (p q : Place) → read_closing p ≡ Ok q → p.rest ≡ codes "end" ++ 10 ∷ []
+unfolding read_closing
 closing_is p q e =
-    let a = bind_ok (word_at (codes "end") p) (λ a. line_end_at a >>= λ e. cond (eqb (length e.rest) 0) (Ok e) (Err e.line)) q e in
-    let b = bind_ok (line_end_at a.0) (λ e. cond (eqb (length e.rest) 0) (Ok e) (Err e.line)) q a.2 in
+    let a = bind_ok (read_word (codes "end") p) (λ a. read_line_end a >>= λ e. cond (eqb (length e.rest) 0) (Ok e) (Err e.line)) q e in
+    let b = bind_ok (read_line_end a.0) (λ e. cond (eqb (length e.rest) 0) (Ok e) (Err e.line)) q a.2 in
     let c = where_ok (eqb (length b.0.rest) 0) b.0.line b.0 q b.2 in
     word_takes (codes "end") p a.0 a.1
     ∙ ap (λ (r : List ℕ). codes "end" ++ r) (line_end_takes a.0 b.0 b.1 ∙ ap (λ (r : List ℕ). 10 ∷ r) (nil_from_length b.0.rest (eqb-true (length b.0.rest) 0 c.0)))
 
 -- its word, the end of the line, and nothing behind it
-pub closes_after : (k j : ℕ) (s t : List ℕ) (a b : Place) (r : Result (Unit {0}) Stop) (after : Place) → k ≡ j → s ≡ t → word_at (codes "end") (place k s) ≡ Ok a → line_end_at a ≡ Ok b →
-    Passes r after (if length b.rest == 0 then Ok b else Err b.line) → OnOk r ((end : Place) × (closing_at (place j t) ≡ Ok end))
-unfolding closing_at
+pub closes_after : (k j : ℕ) (s t : List ℕ) (a b : Place) (r : Result (Unit {0}) Stop) (after : Place) → k ≡ j → s ≡ t → read_word (codes "end") (place k s) ≡ Ok a → read_line_end a ≡ Ok b →
+    Passes r after (if length b.rest == 0 then Ok b else Err b.line) → OnOk r ((end : Place) × (read_closing (place j t) ≡ Ok end))
+unfolding read_closing
 closes_after k j s t a b (Ok u) after line rest word ends none = (
   after,
-  ap (λ i. closing_at (place i t)) (sym line) ∙ ap (λ c. closing_at (place k c)) (sym rest)
-      ∙ ap (λ (r : Result Place ℕ). r >>= λ a. line_end_at a >>= λ e. if length e.rest == 0 then Ok e else Err e.line) word
+  ap (λ i. read_closing (place i t)) (sym line) ∙ ap (λ c. read_closing (place k c)) (sym rest)
+      ∙ ap (λ (r : Result Place ℕ). r >>= λ a. read_line_end a >>= λ e. if length e.rest == 0 then Ok e else Err e.line) word
       ∙ ap (λ (r : Result Place ℕ). r >>= λ e. if length e.rest == 0 then Ok e else Err e.line) ends ∙ none,
 )
 closes_after k j s t a b (Err e) after line rest word ends none = tt
@@ -58,7 +58,7 @@ ended_whole given w passed at limited is =
 
 pub closes : (gave given : ℕ → List ℕ → Type 0) (old filled : Lines) (end : Place) → ((passed : List ℕ) → IsBehind gave old passed → IsBehind given filled passed) →
     ((passed : List ℕ) → IsBehind gave old passed → (content : List ℕ) → StandsIn content filled.window passed → StandsIn content old.window passed) →
-    HasEnough filled.window 5 → filled.line ≡ old.line → closing_at (place_of filled) ≡ Ok end → (passed : List ℕ) → IsBehind gave old passed → IsClosed given old passed
+    HasEnough filled.window 5 → filled.line ≡ old.line → read_closing (place_of filled) ≡ Ok end → (passed : List ℕ) → IsBehind gave old passed → IsClosed given old passed
 closes gave given old filled end behind stood (inr many) line read passed b =
     let four : length (ready filled.window) ≡ 4 = ap length (closing_is (place_of filled) end read) in
     absurd (omega (arith, many, four))
@@ -69,10 +69,10 @@ closes gave given old filled end behind stood (inl ended) line read passed b =
       whole = all.0;
       stood = stood passed b (passed ++ ready filled.window) all.1;
       end = end;
-      closes = ap (λ k. closing_at (place k (drop (length passed) (passed ++ ready filled.window)))) (sym line)
-          ∙ ap (λ s. closing_at (place filled.line s)) (drop-append_seam passed (ready filled.window)) ∙ read;
+      closes = ap (λ k. read_closing (place k (drop (length passed) (passed ++ ready filled.window)))) (sym line)
+          ∙ ap (λ s. read_closing (place filled.line s)) (drop-append_seam passed (ready filled.window)) ∙ read;
     }
 
 -- where the last line stops, so does a step that reads no value
-pub closing_stops : (p : Place) (line : ℕ) → closing_at p ≡ Err line → passing closing_at p ≡ Err line
+pub closing_stops : (p : Place) (line : ℕ) → read_closing p ≡ Err line → with_no_value read_closing p ≡ Err line
 closing_stops p line stops = ap (λ (r : Result Place ℕ). r >>= λ q. Ok (tt, q)) stops

@@ -1,5 +1,5 @@
 -- What filling and draining make of lines that stand behind some bytes.
-use Rattle.std.proofs.Common.{◌≡◌, ◌∙◌, ℕ, ◌+◌, ◌^◌, ◌≤◌, List, [], ◌++◌, length, take, drop, refl, sym, ap, subst, inl, inr, arith, append_assoc, append-nil, length-append, length-take, length-drop}
+use Rattle.std.proofs.Common.{◌≡◌, ◌∙◌, ℕ, ◌+◌, ◌≤◌, List, [], ◌++◌, length, take, drop, refl, sym, ap, subst, inl, inr, arith, append_assoc, append-nil, length-append}
 use Rattle.std.specs.Prelude.{◌⊎◌}
 use Rattle.std.proofs.Math.Seq.{take-append_seam, drop-append_seam}
 use Rattle.std.proofs.lemmas.List.{take-take, nil_from_length}
@@ -10,18 +10,10 @@ use Rattle.block_reader.specs.declared.window.State.{State}
 use Rattle.block_reader.specs.declared.window.State.TheVariants.{Open, Ended, Failed, TooLong}
 use Rattle.block_reader.specs.Standing.{ready, fetched_of, state_of, limit_of, IsStateOf, StandsAt, StandsIn}
 use Rattle.block_reader.specs.declared.lines.Lines.{Lines}
-use Rattle.block_reader.specs.Answers.{HasLimit, IsBehind, IsWhole, Passes}
+use Rattle.block_reader.specs.Answers.{HasLimit, IsBehind, IsWhole, PassesFront}
 use Rattle.block_reader.proofs.Going.{at_clear, at_whole, at_past}
 use Rattle.te_model.proofs.FileLimits.{line_settles}
 use Rattle.block_reader.proofs.Limits.{limit_after_more}
-
--- ---- counts
-
-pub ready_count : (w : Window) → length (ready w) ≤ fetched_of w
-ready_count w = omega (arith, w.inside, w.ordered, w.counted, length-drop w.start (take w.end w.bytes.items), length-take w.end w.bytes.items)
-
-pub fetched_small : (w : Window) → fetched_of w ≤ 2 ^ 30 + 1
-fetched_small w = omega (arith, w.below, w.small)
 
 -- bytes behind the same front
 pub same_rest : (xs front rest new : List ℕ) (n : ℕ) → xs ≡ front ++ rest → n + length rest ≡ length xs → xs ≡ take n xs ++ new → new ≡ rest
@@ -32,7 +24,7 @@ same_rest xs front rest new n parts count next =
 
 -- bytes that were passed, of which so many are left
 pub passes_by : (w w' : Window) (n left : ℕ) (front rest : List ℕ) → ready w ≡ take n (ready w) ++ ready w' → fetched_of w' ≡ fetched_of w → state_of w' ≡ state_of w →
-    limit_of w' ≡ limit_of w → n + left ≡ length (ready w) → ready w ≡ front ++ rest → length rest ≡ left → (ready w' ≡ rest) × Passes w w' front
+    limit_of w' ≡ limit_of w → n + left ≡ length (ready w) → ready w ≡ front ++ rest → length rest ≡ left → (ready w' ≡ rest) × PassesFront w w' front
 passes_by w w' n left front rest next fetched state limit count parts size =
     let same : ready w' ≡ rest = same_rest (ready w) front rest (ready w') n parts (omega (arith, count, size)) next in (
       same,

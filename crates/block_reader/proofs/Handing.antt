@@ -11,13 +11,13 @@ use Rattle.te_model.specs.Certificate.{empty_block}
 use Rattle.te_model.specs.Counting.{unless}
 use Rattle.te_model.specs.Formats.{limits_of}
 use Rattle.te_model.specs.Shape.{is_count, is_shaped_head, is_shaped_block}
-use Rattle.te_model.specs.Validity.{block_at as block_of, first_rule, head_fault, block_fault, blocks_fault, link_before, earlier, follows, fault_at, is_sound_block, has_block_numbers, has_small_numbers, IsValidHead, IsValidBlock}
+use Rattle.te_model.specs.Validity.{block_at as block_of, first_rule, head_fault, block_fault, blocks_fault, link_before, earlier_fault, follows, fault_at, is_sound_block, has_block_numbers, has_small_numbers, IsValidHead, IsValidBlock}
 use Rattle.te_model.proofs.Earlier.{earlier-assoc}
 use Rattle.te_model.proofs.RuleParts.{first_rule-parts, blocks_fault-more}
 use Rattle.te_model.proofs.Tests.{and_true, and_three, or_else_none, unless_none}
 use Rattle.cert_text.specs.Place.{Place, place, ◌>>=◌}
-use Rattle.cert_text.specs.Reading.{kept, many_at}
-use Rattle.cert_text.specs.Grammar.{block_at, closing_at, opening_at, certificate_at, counts_of}
+use Rattle.cert_text.specs.Reading.{narrow_number, read_many}
+use Rattle.cert_text.specs.Grammar.{read_block, read_closing, read_opening, read_certificate, counts_of}
 use Rattle.cert_text.specs.Fits.{FitsHead, FitsBlock}
 use Rattle.cert_text.specs.declared.fault.CertFault.TheVariants as cert_faults
 use Rattle.cert_text.proofs.Laws.{fault_is}
@@ -29,10 +29,10 @@ use Rattle.block_reader.specs.declared.blocks.Blocks.{Blocks}
 use Rattle.block_reader.specs.declared.lines.Lines.{Lines}
 use Rattle.block_reader.specs.declared.stream_fault.StreamFault.{StreamFault}
 use Rattle.block_reader.specs.declared.stream_fault.StreamFault.TheVariants as faults
-use Rattle.block_reader.specs.Ahead.{passing}
+use Rattle.block_reader.specs.Ahead.{with_no_value}
 use Rattle.block_reader.specs.Standing.{StandsIn}
 use Rattle.block_reader.specs.Answers.{place_in, IsBehind, IsWhole, Gives, StopsAs, IsClosed}
-use Rattle.block_reader.specs.Blocks.{rest_at, AreOf, AreBehind, IsSound, IsEarliest, IsShapeOf, IsTextOf, IsFaultOf}
+use Rattle.block_reader.specs.Blocks.{rest_at, AreOf, AreBehind, KeepsRules, IsEarliest, IsShapeOf, IsTextOf, IsFaultOf}
 
 -- ---- what is left to read
 
@@ -40,29 +40,29 @@ abbrev made : Head → List Block → Certificate
 made head blocks = record { head = head; blocks = blocks }
 
 abbrev finish : Head → List Block → List Block × Place → Result (Certificate × Place) ℕ
-finish head blocks more = closing_at more.1 >>= λ e. Ok (made head (blocks ++ more.0), e)
+finish head blocks more = read_closing more.1 >>= λ e. Ok (made head (blocks ++ more.0), e)
 
 abbrev block_in : Head → Place → Result (Block × Place) ℕ
-block_in head = block_at (limits_of head.format) kept (counts_of head)
+block_in head = read_block (limits_of head.format) narrow_number (counts_of head)
 
 pub rest_more : (head : Head) (blocks : List Block) (m : ℕ) (p q : Place) (b : Block) → block_in head p ≡ Ok (b, q) →
     rest_at head blocks (suc m) p ≡ rest_at head (blocks ++ b ∷ []) m q
-unfolding rest_at many_at
+unfolding rest_at read_many
 rest_more head blocks m p q b read =
-    ap (λ r. (r >>= λ first. many_at m (block_in head) first.1 >>= λ others. Ok (first.0 ∷ others.0, others.1)) >>= finish head blocks) read
-    ∙ tail (many_at m (block_in head) q)
+    ap (λ r. (r >>= λ first. read_many m (block_in head) first.1 >>= λ others. Ok (first.0 ∷ others.0, others.1)) >>= finish head blocks) read
+    ∙ tail (read_many m (block_in head) q)
   where
     tail : (r : Result (List Block × Place) ℕ) → ((r >>= λ others. Ok (b ∷ others.0, others.1)) >>= finish head blocks) ≡ (r >>= finish head (blocks ++ b ∷ []))
-    tail (Ok more) = ap (λ bs. closing_at more.1 >>= λ e. Ok (made head bs, e)) (sym (append_assoc blocks (b ∷ []) more.0))
+    tail (Ok more) = ap (λ bs. read_closing more.1 >>= λ e. Ok (made head bs, e)) (sym (append_assoc blocks (b ∷ []) more.0))
     tail (Err k) = refl
 
 pub rest_stops : (head : Head) (blocks : List Block) (m k : ℕ) (p : Place) → block_in head p ≡ Err k → rest_at head blocks (suc m) p ≡ Err k
-unfolding rest_at many_at
+unfolding rest_at read_many
 rest_stops head blocks m k p stops =
-    ap (λ r. (r >>= λ first. many_at m (block_in head) first.1 >>= λ others. Ok (first.0 ∷ others.0, others.1)) >>= finish head blocks) stops
+    ap (λ r. (r >>= λ first. read_many m (block_in head) first.1 >>= λ others. Ok (first.0 ∷ others.0, others.1)) >>= finish head blocks) stops
 
-pub end_read : (head : Head) (blocks : List Block) (p e : Place) → closing_at p ≡ Ok e → rest_at head blocks 0 p ≡ Ok (made head blocks, e)
-unfolding rest_at many_at
+pub end_read : (head : Head) (blocks : List Block) (p e : Place) → read_closing p ≡ Ok e → rest_at head blocks 0 p ≡ Ok (made head blocks, e)
+unfolding rest_at read_many
 end_read head blocks p e closes =
     ap (λ r. r >>= λ q. Ok (made head (blocks ++ []), q)) closes ∙ ap (λ bs. Ok (made head bs, e)) (append-nil blocks)
 
@@ -70,9 +70,9 @@ end_read head blocks p e closes =
 abbrev done : Head → List Block → Place → Result (Certificate × Place) ℕ
 done head blocks e = Ok (made head (blocks ++ []), e)
 
-pub end_stops : (head : Head) (blocks : List Block) (k : ℕ) (p : Place) → passing closing_at p ≡ Err k → rest_at head blocks 0 p ≡ Err k
-unfolding rest_at many_at
-end_stops head blocks k p stops = go (closing_at p) stops
+pub end_stops : (head : Head) (blocks : List Block) (k : ℕ) (p : Place) → with_no_value read_closing p ≡ Err k → rest_at head blocks 0 p ≡ Err k
+unfolding rest_at read_many
+end_stops head blocks k p stops = go (read_closing p) stops
   where
     go : (r : Result Place ℕ) → (r >>= quiet) ≡ Err k → (r >>= done head blocks) ≡ Err k
     go (Ok q) e = absurd cc
@@ -80,12 +80,12 @@ end_stops head blocks k p stops = go (closing_at p) stops
 
 -- ---- faults
 
-pub shape_refused : (given : ℕ → List ℕ → Type 0) (bytes : List ℕ) (k : ℕ) → IsWhole given bytes → certificate_at kept (place 1 bytes) ≡ Err k → IsFaultOf given (faults.Shape k)
+pub shape_refused : (given : ℕ → List ℕ → Type 0) (bytes : List ℕ) (k : ℕ) → IsWhole given bytes → read_certificate narrow_number (place 1 bytes) ≡ Err k → IsFaultOf given (faults.Shape k)
 shape_refused given bytes k whole stops = (bytes, whole, fault_is bytes k stops)
 
 -- a part stopped, and so reading of the whole does
 pub stop_refused : {X : Type 0} (given : ℕ → List ℕ → Type 0) (lines : Lines) (passed : List ℕ) (f : Place → Result (X × Place) ℕ) (fault : StreamFault) →
-    ((content : List ℕ) → StandsIn content lines.window passed → (k : ℕ) → f (place_in lines passed content) ≡ Err k → certificate_at kept (place 1 content) ≡ Err k) →
+    ((content : List ℕ) → StandsIn content lines.window passed → (k : ℕ) → f (place_in lines passed content) ≡ Err k → read_certificate narrow_number (place 1 content) ≡ Err k) →
     StopsAs given lines passed f fault → IsFaultOf given fault
 stop_refused given lines passed f faults.Failed whole s = tt
 stop_refused given lines passed f faults.TooLong whole s = s
@@ -94,13 +94,13 @@ stop_refused given lines passed f (faults.Rule rule) whole s = absurd s
 stop_refused given lines passed f faults.Memory whole s = tt
 
 pub block_refused : (gave given : ℕ → List ℕ → Type 0) (b : Blocks) (head : Head) (blocks : List Block) (fault : StreamFault) → 1 ≤ b.left → AreBehind gave b head blocks →
-    ((passed : List ℕ) → IsBehind gave b.lines passed → StopsAs given b.lines passed (block_at b.room.limits kept b.room.counts) fault) → IsFaultOf given fault
+    ((passed : List ℕ) → IsBehind gave b.lines passed → StopsAs given b.lines passed (read_block b.room.limits narrow_number b.room.counts) fault) → IsFaultOf given fault
 block_refused gave given b head blocks fault some are stops =
-    stop_refused given b.lines are.passed (block_at b.room.limits kept b.room.counts) fault
+    stop_refused given b.lines are.passed (read_block b.room.limits narrow_number b.room.counts) fault
     (λ content s k stop.
     are.read content s ∙ go b.left (place_in b.lines are.passed content) k some
-    (ap (λ l. block_at l kept (counts_of head) (place_in b.lines are.passed content)) (sym are.of_head.limits)
-    ∙ ap (λ c. block_at b.room.limits kept c (place_in b.lines are.passed content)) (sym are.of_head.counts) ∙ stop))
+    (ap (λ l. read_block l narrow_number (counts_of head) (place_in b.lines are.passed content)) (sym are.of_head.limits)
+    ∙ ap (λ c. read_block b.room.limits narrow_number c (place_in b.lines are.passed content)) (sym are.of_head.counts) ∙ stop))
     (stops are.passed are.behind)
   where
     go : (left : ℕ) (p : Place) (k : ℕ) → 1 ≤ left → block_in head p ≡ Err k → rest_at head blocks left p ≡ Err k
@@ -108,9 +108,9 @@ block_refused gave given b head blocks fault some are stops =
     go (suc m) p k some stop = rest_stops head blocks m k p stop
 
 pub end_refused : (gave given : ℕ → List ℕ → Type 0) (b : Blocks) (head : Head) (blocks : List Block) (fault : StreamFault) → b.left ≡ 0 → AreBehind gave b head blocks →
-    ((passed : List ℕ) → IsBehind gave b.lines passed → StopsAs given b.lines passed (passing closing_at) fault) → IsFaultOf given fault
+    ((passed : List ℕ) → IsBehind gave b.lines passed → StopsAs given b.lines passed (with_no_value read_closing) fault) → IsFaultOf given fault
 end_refused gave given b head blocks fault none are stops =
-    stop_refused given b.lines are.passed (passing closing_at) fault
+    stop_refused given b.lines are.passed (with_no_value read_closing) fault
     (λ content s k stop.
     are.read content s ∙ ap (λ n. rest_at head blocks n (place_in b.lines are.passed content)) none
     ∙ end_stops head blocks k (place_in b.lines are.passed content) stop)
@@ -131,10 +131,10 @@ end_shape gave given b head blocks none are closed =
       ),
     )
 
-pub sound_text : (given : ℕ → List ℕ → Type 0) (head : Head) (blocks : List Block) → IsShapeOf given head blocks → IsSound head blocks → IsTextOf given head blocks
+pub sound_text : (given : ℕ → List ℕ → Type 0) (head : Head) (blocks : List Block) → IsShapeOf given head blocks → KeepsRules head blocks → IsTextOf given head blocks
 sound_text given head blocks shape sound =
     let c = made head blocks in
-    let valid : first_rule c ≡ None = first_rule-parts c ∙ ap (λ o. earlier o (blocks_fault head.network None 0 blocks)) sound.sound_head ∙ sound.sound_blocks in
+    let valid : first_rule c ≡ None = first_rule-parts c ∙ ap (λ o. earlier_fault o (blocks_fault head.network None 0 blocks)) sound.sound_head ∙ sound.sound_blocks in
     (shape.0, shape.1, is_spelled shape.0 (Ok c) (shape.2.0, shape.2.1, valid))
 
 pub rule_refused : (given : ℕ → List ℕ → Type 0) (head : Head) (blocks : List Block) (rule : RuleFault) → IsShapeOf given head blocks → IsEarliest head blocks rule → IsFaultOf given (faults.Rule rule)
@@ -155,7 +155,7 @@ link_of_last bs b =
 
 pub block_handed : (gave given : ℕ → List ℕ → Type 0) (old new : Blocks) (head : Head) (blocks : List Block) (b : Block) →
     new.left + 1 ≡ old.left → new.place ≡ old.place + 1 → new.before ≡ Some b.link → new.room.limits ≡ old.room.limits → new.room.counts ≡ old.room.counts →
-    Gives gave given old.lines new.lines (block_at old.room.limits kept old.room.counts) b → AreBehind gave old head blocks → AreBehind given new head (blocks ++ b ∷ [])
+    Gives gave given old.lines new.lines (read_block old.room.limits narrow_number old.room.counts) b → AreBehind gave old head blocks → AreBehind given new head (blocks ++ b ∷ [])
 block_handed gave given old new head blocks b left place before limits counts gives are =
     let one = gives are.passed are.behind in
     let fewer : old.left ≡ suc new.left = omega (arith, left) in record {
@@ -166,8 +166,8 @@ block_handed gave given old new head blocks b left place before limits counts gi
           are.read content moved.0
           ∙ ap (λ n. rest_at head blocks n (place_in old.lines are.passed content)) fewer
           ∙ rest_more head blocks new.left (place_in old.lines are.passed content) (place_in new.lines (are.passed ++ one.0) content) b
-          (ap (λ l. block_at l kept (counts_of head) (place_in old.lines are.passed content)) (sym are.of_head.limits)
-          ∙ ap (λ c. block_at old.room.limits kept c (place_in old.lines are.passed content)) (sym are.of_head.counts) ∙ moved.1);
+          (ap (λ l. read_block l narrow_number (counts_of head) (place_in old.lines are.passed content)) (sym are.of_head.limits)
+          ∙ ap (λ c. read_block old.room.limits narrow_number c (place_in old.lines are.passed content)) (sym are.of_head.counts) ∙ moved.1);
       counted = record {
         place = omega (arith, place, are.counted.place, length-append blocks (b ∷ []));
         before = before ∙ sym (link_of_last blocks b);
@@ -176,31 +176,31 @@ block_handed gave given old new head blocks b left place before limits counts gi
     }
 
 pub sound_more : (head : Head) (blocks : List Block) (b : Block) → block_fault head.network (link_before blocks (length blocks)) (length blocks) b ≡ None →
-    IsSound head blocks → IsSound head (blocks ++ b ∷ [])
+    KeepsRules head blocks → KeepsRules head (blocks ++ b ∷ [])
 sound_more head blocks b none sound = record {
   sound_head = sound.sound_head;
   sound_blocks = blocks_fault-more head.network blocks b
-      ∙ ap (λ o. earlier o (block_fault head.network (link_before blocks (length blocks)) (length blocks) b)) sound.sound_blocks ∙ none;
+      ∙ ap (λ o. earlier_fault o (block_fault head.network (link_before blocks (length blocks)) (length blocks) b)) sound.sound_blocks ∙ none;
 }
 
 pub first_fault_is : (head : Head) (blocks : List Block) (b : Block) (rule : RuleFault) → block_fault head.network (link_before blocks (length blocks)) (length blocks) b ≡ Some rule →
-    IsSound head blocks → IsEarliest head (blocks ++ b ∷ []) rule
+    KeepsRules head blocks → IsEarliest head (blocks ++ b ∷ []) rule
 first_fault_is head blocks b rule is sound =
-    ap (λ o. earlier o (blocks_fault head.network None 0 (blocks ++ b ∷ []))) sound.sound_head
+    ap (λ o. earlier_fault o (blocks_fault head.network None 0 (blocks ++ b ∷ []))) sound.sound_head
     ∙ blocks_fault-more head.network blocks b
-    ∙ ap (λ o. earlier o (block_fault head.network (link_before blocks (length blocks)) (length blocks) b)) sound.sound_blocks ∙ is
+    ∙ ap (λ o. earlier_fault o (block_fault head.network (link_before blocks (length blocks)) (length blocks) b)) sound.sound_blocks ∙ is
 
 pub earliest_more : (head : Head) (blocks : List Block) (b : Block) (rule next : RuleFault) (fault : Option RuleFault) →
-    fault ≡ block_fault head.network (link_before blocks (length blocks)) (length blocks) b → Some next ≡ earlier (Some rule) fault →
+    fault ≡ block_fault head.network (link_before blocks (length blocks)) (length blocks) b → Some next ≡ earlier_fault (Some rule) fault →
     IsEarliest head blocks rule → IsEarliest head (blocks ++ b ∷ []) next
 earliest_more head blocks b rule next fault is then earliest =
     let of_block = block_fault head.network (link_before blocks (length blocks)) (length blocks) b in
-    ap (earlier (head_fault head)) (blocks_fault-more head.network blocks b)
+    ap (earlier_fault (head_fault head)) (blocks_fault-more head.network blocks b)
     ∙ earlier-assoc (head_fault head) (blocks_fault head.network None 0 blocks) of_block
-    ∙ ap (λ o. earlier o of_block) earliest ∙ ap (earlier (Some rule)) (sym is) ∙ sym then
+    ∙ ap (λ o. earlier_fault o of_block) earliest ∙ ap (earlier_fault (Some rule)) (sym is) ∙ sym then
 
 pub head_earliest : (head : Head) (rule : RuleFault) → head_fault head ≡ Some rule → IsEarliest head [] rule
-head_earliest head rule is = ap (λ o. earlier o None) is
+head_earliest head rule is = ap (λ o. earlier_fault o None) is
 
 -- the fault of the block that was read, by the numbers of the head
 pub fault_in : (gave : ℕ → List ℕ → Type 0) (old : Blocks) (head : Head) (blocks : List Block) (b : Block) (fault : Option RuleFault) → AreBehind gave old head blocks →
@@ -242,30 +242,30 @@ start line content = place line content
 
 -- what is read behind the head and the count of the blocks
 abbrev all_behind : (Head × ℕ) × Place → Result (Certificate × Place) ℕ
-all_behind x = many_at x.0.1 (block_in x.0.0) x.1 >>= λ bs. closing_at bs.1 >>= λ e. Ok (made x.0.0 bs.0, e)
+all_behind x = read_many x.0.1 (block_in x.0.0) x.1 >>= λ bs. read_closing bs.1 >>= λ e. Ok (made x.0.0 bs.0, e)
 
 pub opened : (gave given : ℕ → List ℕ → Type 0) (old : Lines) (new : Blocks) (head : Head) (count : ℕ) → old.line ≡ 1 → IsBehind gave old [] →
-    Gives gave given old new.lines (opening_at kept) (head, count) → new.left ≡ count → new.place ≡ 0 → new.before ≡ None → AreOf new head → AreBehind given new head []
-unfolding certificate_at rest_at
+    Gives gave given old new.lines (read_opening narrow_number) (head, count) → new.left ≡ count → new.place ≡ 0 → new.before ≡ None → AreOf new head → AreBehind given new head []
+unfolding read_certificate rest_at
 opened gave given old new head count line behind gives left place before of_head =
     let one = gives [] behind in record {
       passed = one.0;
       behind = one.1;
       read = λ content s.
           let moved = one.2 content s in
-          let first : opening_at kept (place_in old [] content) ≡ Ok ((head, count), place_in new.lines one.0 content) = moved.1 in
-          ap (λ k. certificate_at kept (start k content)) (sym line)
+          let first : read_opening narrow_number (place_in old [] content) ≡ Ok ((head, count), place_in new.lines one.0 content) = moved.1 in
+          ap (λ k. read_certificate narrow_number (start k content)) (sym line)
           ∙ ap (λ (r : Result ((Head × ℕ) × Place) ℕ). r >>= all_behind) first
-          ∙ ap (λ n. many_at n (block_in head) (place_in new.lines one.0 content) >>= finish head []) (sym left);
+          ∙ ap (λ n. read_many n (block_in head) (place_in new.lines one.0 content) >>= finish head []) (sym left);
       counted = record { place = place; before = before };
       of_head = of_head;
     }
 
-pub opening_refused : (given : ℕ → List ℕ → Type 0) (old : Lines) (fault : StreamFault) → old.line ≡ 1 → StopsAs given old [] (opening_at kept) fault → IsFaultOf given fault
-unfolding certificate_at
+pub opening_refused : (given : ℕ → List ℕ → Type 0) (old : Lines) (fault : StreamFault) → old.line ≡ 1 → StopsAs given old [] (read_opening narrow_number) fault → IsFaultOf given fault
+unfolding read_certificate
 opening_refused given old fault line stops =
-    stop_refused given old [] (opening_at kept) fault
+    stop_refused given old [] (read_opening narrow_number) fault
     (λ content s k stop.
-    ap (λ i. certificate_at kept (place i content)) (sym line)
+    ap (λ i. read_certificate narrow_number (place i content)) (sym line)
     ∙ ap (λ (r : Result ((Head × ℕ) × Place) ℕ). r >>= all_behind) stop)
     stops

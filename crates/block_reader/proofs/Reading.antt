@@ -4,9 +4,9 @@ use Rattle.te_ports.specs.Ports.{Rose}
 use Rattle.block_reader.specs.declared.stream_fault.StreamFault.{StreamFault}
 use Rattle.block_reader.specs.declared.stream_fault.StreamFault.TheVariants.{Failed}
 use Rattle.te_ports.specs.Shown.{Shown}
-use Rattle.block_reader.specs.Depots.{Reads}
+use Rattle.block_reader.specs.Depots.{ReadsNamed}
 
-pub reads_then : {A B : Type 0} (d0 d1 d2 : Shown) (name : List ℕ) (x : A) (r : Result B StreamFault) → Reads d0 d1 name (Ok x) → Reads d1 d2 name r → Reads d0 d2 name r
+pub reads_then : {A B : Type 0} (d0 d1 d2 : Shown) (name : List ℕ) (x : A) (r : Result B StreamFault) → ReadsNamed d0 d1 name (Ok x) → ReadsNamed d1 d2 name r → ReadsNamed d0 d2 name r
 reads_then d0 d1 d2 name x r first next =
     let same : d1.faults ≡ d0.faults = first.steady (λ e. cc) in record {
       failed = λ e. subst (λ f. Rose (f name) (d2.faults name)) same (next.failed e);
@@ -16,7 +16,7 @@ reads_then d0 d1 d2 name x r first next =
       content = next.content ∙ first.content;
     }
 
-pub reads_as : {A B : Type 0} (d0 d1 : Shown) (name : List ℕ) (x : A) (y : B) → Reads d0 d1 name (Ok x) → Reads d0 d1 name (Ok y)
+pub reads_as : {A B : Type 0} (d0 d1 : Shown) (name : List ℕ) (x : A) (y : B) → ReadsNamed d0 d1 name (Ok x) → ReadsNamed d0 d1 name (Ok y)
 reads_as d0 d1 name x y r = record {
   failed = λ e. absurd cc;
   steady = λ e. r.steady (λ f. cc);
@@ -28,7 +28,7 @@ reads_as d0 d1 name x y r = record {
 err_along : {A B : Type 0} (f t : StreamFault) → ◌≡◌ {A = Result A StreamFault} (Err f) (Err t) → ◌≡◌ {A = Result B StreamFault} (Err f) (Err t)
 err_along f t e = let same : f ≡ t = cc in ap (λ x. Err x) same
 
-pub reads_err : {A B : Type 0} (d0 d1 : Shown) (name : List ℕ) (fault : StreamFault) → Reads {A = A} d0 d1 name (Err fault) → Reads {A = B} d0 d1 name (Err fault)
+pub reads_err : {A B : Type 0} (d0 d1 : Shown) (name : List ℕ) (fault : StreamFault) → ReadsNamed {A = A} d0 d1 name (Err fault) → ReadsNamed {A = B} d0 d1 name (Err fault)
 reads_err {A} {B} d0 d1 name fault r = record {
   failed = λ e. r.failed (err_along {A = B} {B = A} fault Failed e);
   steady = λ e. r.steady (λ f. e (err_along {A = A} {B = B} fault Failed f));
@@ -37,7 +37,7 @@ reads_err {A} {B} d0 d1 name fault r = record {
   content = r.content;
 }
 
-pub reads_none : {A : Type 0} (d : Shown) (name : List ℕ) (r : Result A StreamFault) → r ≢ Err Failed → Reads d d name r
+pub reads_none : {A : Type 0} (d : Shown) (name : List ℕ) (r : Result A StreamFault) → r ≢ Err Failed → ReadsNamed d d name r
 reads_none d name r ok = record {
   failed = λ e. absurd (ok e);
   steady = λ e. refl;
@@ -46,5 +46,5 @@ reads_none d name r ok = record {
   content = refl;
 }
 
-pub reads_start : (d : Shown) (name : List ℕ) → Reads {A = Unit {0}} d d name (Ok tt)
+pub reads_start : (d : Shown) (name : List ℕ) → ReadsNamed {A = Unit {0}} d d name (Ok tt)
 reads_start d name = reads_none {A = Unit {0}} d name (Ok tt) (λ e. cc)

@@ -31,8 +31,5 @@ few_links limits is = of_formats (λ l. l.links ≤ 1024) (lit≤ tt) (lit≤ tt
 pub few_paths : (limits : Limits) → IsFormat limits → limits.paths ≤ 32
 few_paths limits is = of_formats (λ l. l.paths ≤ 32) (lit≤ tt) (lit≤ tt) limits is
 
-pub few_hops : (limits : Limits) → IsFormat limits → limits.hops ≤ 127
-few_hops limits is = of_formats (λ l. l.hops ≤ 127) (lit≤ tt) (lit≤ tt) limits is
-
 pub set_fits : (limits : Limits) (pairs : ℕ) → IsFormat limits → pairs ≤ limits.pairs → set_size pairs ≤ 1310720
 set_fits limits pairs is few = omega (arith, few, few_pairs limits is)

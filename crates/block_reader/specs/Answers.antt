@@ -3,7 +3,7 @@ use Rattle.std.specs.Prelude.{◌≡◌, ◌≢◌, ◌⊎◌, ℕ, ◌≤◌, L
 use Rattle.te_model.specs.FileLimit.{file_limit}
 use Rattle.te_ports.specs.Record.{IsRead, IsReadPastAllowed}
 use Rattle.cert_text.specs.Place.{Place, place}
-use Rattle.cert_text.specs.Grammar.{closing_at}
+use Rattle.cert_text.specs.Grammar.{read_closing}
 use Rattle.cert_text.specs.declared.fault.Stop.{Stop}
 use Rattle.cert_text.specs.declared.fault.Stop.TheVariants as stops
 use Rattle.block_reader.specs.declared.lines.Lines.{Lines}
@@ -44,7 +44,7 @@ abbrev pub IsClosedBy : Window → StreamFault → Type 0
 IsClosedBy w fault = ((fault ≡ faults.Failed) × (state_of w ≡ Failed)) ⊎ ((fault ≡ faults.TooLong) × (state_of w ≡ TooLong))
 
 -- these bytes were passed, and nothing else became of the file
-pub record Passes (old new : Window) (front : List ℕ) : Type 0 where
+pub record PassesFront (old new : Window) (front : List ℕ) : Type 0 where
   pub parts : ready old ≡ front ++ ready new
   pub fetched : fetched_of new ≡ fetched_of old
   pub state : state_of new ≡ state_of old
@@ -89,9 +89,9 @@ StopsAs given old passed f (faults.Rule rule) = ⊥
 StopsAs given old passed f faults.Memory = Unit {0}
 
 -- what is read, or why nothing is
-abbrev pub Answers : {X : Type 0} → (ℕ → List ℕ → Type 0) → (ℕ → List ℕ → Type 0) → Lines → Lines → (Place → Result (X × Place) ℕ) → Result X StreamFault → Type 0
-Answers gave given old new f (Ok x) = Gives gave given old new f x
-Answers gave given old new f (Err fault) = (passed : List ℕ) → IsBehind gave old passed → StopsAs given old passed f fault
+abbrev pub AnswersPart : {X : Type 0} → (ℕ → List ℕ → Type 0) → (ℕ → List ℕ → Type 0) → Lines → Lines → (Place → Result (X × Place) ℕ) → Result X StreamFault → Type 0
+AnswersPart gave given old new f (Ok x) = Gives gave given old new f x
+AnswersPart gave given old new f (Err fault) = (passed : List ℕ) → IsBehind gave old passed → StopsAs given old passed f fault
 
 -- reads gave these bytes and no others, and they end with the last line of a certificate
 pub record IsClosed (given : ℕ → List ℕ → Type 0) (old : Lines) (passed : List ℕ) : Type 0 where
@@ -99,4 +99,4 @@ pub record IsClosed (given : ℕ → List ℕ → Type 0) (old : Lines) (passed 
   pub whole : IsWhole given bytes
   pub stood : StandsIn bytes old.window passed
   pub end : Place
-  pub closes : closing_at (place_in old passed bytes) ≡ Ok end
+  pub closes : read_closing (place_in old passed bytes) ≡ Ok end

@@ -1,5 +1,5 @@
 -- Where a reader of blocks stands in the file of a certificate.
-use Rattle.std.specs.Prelude.{◌≡◌, ◌≤◌, ℕ, List, [], ◌∷◌, ◌++◌, Bool, true, false, Option, Some, None, length, string_bytes, Result, Ok, Err}
+use Rattle.std.specs.Prelude.{◌≡◌, ℕ, List, ◌++◌, Bool, true, false, Option, Some, None, length, string_bytes, Result, Ok, Err}
 use Rattle.te_model.specs.declared.certificate.Block.{Block}
 use Rattle.te_model.specs.declared.certificate.Certificate.{Certificate}
 use Rattle.te_model.specs.declared.certificate.Head.{Head}
@@ -8,11 +8,11 @@ use Rattle.te_model.specs.FileLimit.{file_limit}
 use Rattle.te_model.specs.Formats.{limits_of}
 use Rattle.te_model.specs.Text.{Spells}
 use Rattle.te_model.specs.Faults.{IsShapeFault, IsRuleFault}
-use Rattle.te_model.specs.Validity.{head_fault, blocks_fault, link_before, earlier}
+use Rattle.te_model.specs.Validity.{head_fault, blocks_fault, link_before, earlier_fault}
 use Rattle.te_ports.specs.Record.{IsReadPastAllowed}
 use Rattle.cert_text.specs.Place.{Place, place, ◌>>=◌}
-use Rattle.cert_text.specs.Reading.{kept, many_at}
-use Rattle.cert_text.specs.Grammar.{block_at, closing_at, certificate_at, counts_of}
+use Rattle.cert_text.specs.Reading.{narrow_number, read_many}
+use Rattle.cert_text.specs.Grammar.{read_block, read_closing, read_certificate, counts_of}
 use Rattle.cert_text.specs.Fits.{FitsHead}
 use Rattle.block_reader.specs.declared.block_reader.BlockReader.{BlockReader}
 use Rattle.block_reader.specs.declared.blocks.Blocks.{Blocks}
@@ -27,8 +27,8 @@ abbrev pub name_of : BlockReader → List ℕ
 name_of r = string_bytes r.blocks.name
 
 -- the block that was read last
-abbrev pub block_of : BlockReader → Block
-block_of r = r.blocks.room.block
+abbrev pub lent_block : BlockReader → Block
+lent_block r = r.blocks.room.block
 
 -- its link, if one was read
 abbrev pub last_link : BlockReader → Option ℕ
@@ -43,8 +43,8 @@ abbrev pub holds_block : BlockReader → Bool
 holds_block r = r.held
 
 -- the fault that was answered
-abbrev pub fault_of : BlockReader → Option StreamFault
-fault_of r = r.fault
+abbrev pub noted_fault : BlockReader → Option StreamFault
+noted_fault r = r.fault
 
 -- whether the end was answered
 abbrev pub is_over : BlockReader → Bool
@@ -53,8 +53,8 @@ is_over r = r.over
 -- what is still read behind a head and some blocks
 unfoldable pub rest_at : Head → List Block → ℕ → Place → Result (Certificate × Place) ℕ
 rest_at head blocks left p = do
-  more ← many_at left (block_at (limits_of head.format) kept (counts_of head)) p
-  e ← closing_at more.1
+  more ← read_many left (read_block (limits_of head.format) narrow_number (counts_of head)) p
+  e ← read_closing more.1
   Ok (record { head = head; blocks = blocks ++ more.0 }, e)
 
 -- the blocks are counted as the head says, which has the shape of its format
@@ -84,23 +84,23 @@ pub record AreBehind (gave : ℕ → List ℕ → Type 0) (b : Blocks) (head : H
   pub passed : List ℕ
   pub behind : IsBehind gave b.lines passed
   pub read : (content : List ℕ) → StandsIn content b.lines.window passed →
-      certificate_at kept (place 1 content) ≡ rest_at head blocks b.left (place_in b.lines passed content)
+      read_certificate narrow_number (place 1 content) ≡ rest_at head blocks b.left (place_in b.lines passed content)
   pub counted : HasCounted b blocks
   pub of_head : AreOf b head
 
 -- no rule of the head and the blocks fails
-pub record IsSound (head : Head) (blocks : List Block) : Type 0 where
+pub record KeepsRules (head : Head) (blocks : List Block) : Type 0 where
   pub sound_head : head_fault head ≡ None
   pub sound_blocks : blocks_fault head.network None 0 blocks ≡ None
 
 -- the earliest fault of the head and the blocks
 abbrev pub IsEarliest : Head → List Block → RuleFault → Type 0
-IsEarliest head blocks rule = earlier (head_fault head) (blocks_fault head.network None 0 blocks) ≡ Some rule
+IsEarliest head blocks rule = earlier_fault (head_fault head) (blocks_fault head.network None 0 blocks) ≡ Some rule
 
 -- reads gave a text that has the shape of the certificate of this head and these blocks
 abbrev pub IsShapeOf : (ℕ → List ℕ → Type 0) → Head → List Block → Type 0
 IsShapeOf gave head blocks = (bytes : List ℕ) × IsWhole gave bytes
-    × ((end : Place) × (certificate_at kept (place 1 bytes) ≡ Ok (record { head = head; blocks = blocks }, end)))
+    × ((end : Place) × (read_certificate narrow_number (place 1 bytes) ≡ Ok (record { head = head; blocks = blocks }, end)))
 
 -- the reader's counts are those of the head
 abbrev pub IsReaderOf : BlockReader → Head → Type 0
@@ -109,7 +109,7 @@ IsReaderOf r head = AreOf r.blocks head
 -- the lines that reads gave before the reader's place are this head and these blocks, of which no rule fails
 pub record HasRead (gave : ℕ → List ℕ → Type 0) (r : BlockReader) (head : Head) (blocks : List Block) : Type 0 where
   pub stands : AreBehind gave r.blocks head blocks
-  pub sound : IsSound head blocks
+  pub sound : KeepsRules head blocks
   pub no_fault : r.fault ≡ None
   pub not_over : r.over ≡ false
 
@@ -143,5 +143,5 @@ StandsAfter gave r (Some fault) over = IsFaultOf gave fault
 StandsAfter gave r None false = (head : Head) × (blocks : List Block) × HasRead gave r head blocks
 StandsAfter gave r None true = (head : Head) × (blocks : List Block) × IsTextOf gave head blocks
 
-abbrev pub StandsAt : (ℕ → List ℕ → Type 0) → BlockReader → Type 0
-StandsAt gave r = StandsAfter gave r r.fault r.over
+abbrev pub ReaderStandsAt : (ℕ → List ℕ → Type 0) → BlockReader → Type 0
+ReaderStandsAt gave r = StandsAfter gave r r.fault r.over

@@ -7,7 +7,7 @@ use Rattle.block_reader.specs.declared.stream_fault.StreamFault.{StreamFault}
 use Rattle.block_reader.specs.declared.stream_fault.StreamFault.TheVariants.{Failed}
 
 -- it answers a failed read only where a read of the file failed in the call, and tells and keeps what it had
-pub record Reads {A : Type 0} (old new : Shown) (name : List ℕ) (result : Result A StreamFault) : Type 0 where
+pub record ReadsNamed {A : Type 0} (old new : Shown) (name : List ℕ) (result : Result A StreamFault) : Type 0 where
   pub failed : IsErrOf result Failed → Rose (old.faults name) (new.faults name)
   pub steady : result ≢ Err Failed → new.faults ≡ old.faults
   pub later : (other : List ℕ) → old.faults other ≤ new.faults other
@@ -16,4 +16,4 @@ pub record Reads {A : Type 0} (old new : Shown) (name : List ℕ) (result : Resu
 
 -- the same of a call that answers a fault
 abbrev pub ReadsTo : Shown → Shown → List ℕ → StreamFault → Type 0
-ReadsTo old new name fault = Reads {A = Unit {0}} old new name (Err fault)
+ReadsTo old new name fault = ReadsNamed {A = Unit {0}} old new name (Err fault)

@@ -26,14 +26,14 @@ abbrev pub limit_of : Window → ℕ
 limit_of w = w.limit
 
 -- how many bytes may still be fetched, and one more; nothing where the file is not open
-abbrev pub left_in : State → ℕ → ℕ
-left_in Open n = suc n
-left_in Ended n = 0
-left_in Failed n = 0
-left_in TooLong n = 0
+abbrev pub reads_left_in : State → ℕ → ℕ
+reads_left_in Open n = suc n
+reads_left_in Ended n = 0
+reads_left_in Failed n = 0
+reads_left_in TooLong n = 0
 
-abbrev pub left_of : Window → ℕ
-left_of w = left_in w.state (w.limit + 1 - w.fetched)
+abbrev pub reads_left : Window → ℕ
+reads_left w = reads_left_in w.state (w.limit + 1 - w.fetched)
 
 -- what reads gave at the end of the file
 abbrev pub IsEndOf : (ℕ → List ℕ → Type 0) → ℕ → ℕ → State → Type 0

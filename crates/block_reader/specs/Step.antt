@@ -12,5 +12,5 @@ abbrev pub StepsTo : {X : Type 0} → Place → Result (X × Place) ℕ → Type
 StepsTo p (Ok x) = (front : List ℕ) × Took p front x.1
 StepsTo p (Err k) = Unit {0}
 
-pub record IsStep {X : Type 0} (f : Place → Result (X × Place) ℕ) : Type 0 where
+pub record IsForwardStep {X : Type 0} (f : Place → Result (X × Place) ℕ) : Type 0 where
   pub goes : (p : Place) → StepsTo p (f p)

@@ -1,9 +1,10 @@
 //! Reading the lines of a block in place.
-ghost use Rattle.std.specs.Prelude.{◌≡◌, ◌≢◌, ◌≤◌, ◌-◌, ℕ, List, length, take, codes, OnOk, Err};
+ghost use Rattle.std.specs.Prelude.{◌≡◌, ◌≢◌, ◌≤◌, ◌-◌, length, take, OnOk, Err};
 ghost use Rattle.std.specs.List.{AllByRecursion};
-ghost use Rattle.cert_text.specs.Place.{place, Reads, ReadsAs, Appends};
-ghost use Rattle.cert_text.specs.Reading.{kept, many_at, next_number_at};
-ghost use Rattle.cert_text.specs.Grammar.{number_line_at, listing_at, row_at, sides_at, block_at};
+ghost use Rattle.cert_text.specs.Place.{ReadsViewed, Appends};
+ghost use Rattle.cert_text.specs.Takes.{Takes};
+ghost use Rattle.cert_text.specs.Reading.{narrow_number, read_many, read_next_number};
+ghost use Rattle.cert_text.specs.Grammar.{read_number_line, read_listing, read_row, read_sides, read_block};
 ghost use Rattle.cert_text.specs.Fits.{AreWords, FitsList, FitsRow, FitsSides, FitsBlock};
 ghost use Rattle.block_reader.specs.Room.{HasWidth, IsShelf, sides_of};
 
@@ -19,9 +20,8 @@ fn numbers<C: Cursor>(r: &mut Reader<C>, from: usize, list: &mut Items<u64>) -> 
     ensures count { length list.new ≡ length list.old }
     ensures words { AreWords (take from list.old) → OnOk result (AreWords list.new) }
     ensures room { result ≢ Err Stop.Memory }
-    ensures told { C.is_told r.new.source → C.is_told r.old.source }
-    ensures reads { C.is_told r.new.source → Appends result (take from list.old) list.new (place r.new.line (C.rest r.new.source))
-        (many_at (length list.old - from) next_number_at (place r.old.line (C.rest r.old.source))) }
+    ensures takes { Takes r.old r.new (Appends result (take from list.old) list.new)
+        (read_many (length list.old - from) read_next_number) }
 {
     let count = list.as_slice().len();
     for k in from..count {
@@ -32,15 +32,13 @@ fn numbers<C: Cursor>(r: &mut Reader<C>, from: usize, list: &mut Items<u64>) -> 
 }
 
 // One number or more, on a line of their own.
-#[tactic(auto, unfolding(cert_text::specs::Grammar::number_line_at))]
+#[tactic(auto, unfolding(cert_text::specs::Grammar::read_number_line))]
 fn number_line<C: Cursor>(r: &mut Reader<C>, list: &mut Items<u64>) -> Result<(), Stop>
     requires { 1 ≤ length list.old }
     ensures count { length list.new ≡ length list.old }
     ensures fits { OnOk result (FitsList (length list.old) list.new) }
     ensures room { result ≢ Err Stop.Memory }
-    ensures told { C.is_told r.new.source → C.is_told r.old.source }
-    ensures reads { C.is_told r.new.source → ReadsAs (λ _. list.new) result (place r.new.line (C.rest r.new.source))
-        (number_line_at (length list.old) (place r.old.line (C.rest r.old.source))) }
+    ensures takes { Takes r.old r.new (ReadsViewed (λ _. list.new) result) (read_number_line (length list.old)) }
 {
     let first = r.number()?;
     list.set(0, first);
@@ -49,14 +47,12 @@ fn number_line<C: Cursor>(r: &mut Reader<C>, list: &mut Items<u64>) -> Result<()
 }
 
 // A word and numbers after it, on a line of their own.
-#[tactic(auto, unfolding(cert_text::specs::Grammar::listing_at))]
+#[tactic(auto, unfolding(cert_text::specs::Grammar::read_listing))]
 fn listing<C: Cursor>(r: &mut Reader<C>, word: &[u8], list: &mut Items<u64>) -> Result<(), Stop>
     ensures count { length list.new ≡ length list.old }
     ensures fits { OnOk result (FitsList (length list.old) list.new) }
     ensures room { result ≢ Err Stop.Memory }
-    ensures told { C.is_told r.new.source → C.is_told r.old.source }
-    ensures reads { C.is_told r.new.source → ReadsAs (λ _. list.new) result (place r.new.line (C.rest r.new.source))
-        (listing_at word.now (length list.old) (place r.old.line (C.rest r.old.source))) }
+    ensures takes { Takes r.old r.new (ReadsViewed (λ _. list.new) result) (read_listing word.now (length list.old)) }
 {
     r.word(word)?;
     numbers(r, 0, list)?;
@@ -64,14 +60,12 @@ fn listing<C: Cursor>(r: &mut Reader<C>, word: &[u8], list: &mut Items<u64>) -> 
 }
 
 // The potentials of one source.
-#[tactic(auto, unfolding(cert_text::specs::Grammar::row_at))]
+#[tactic(auto, unfolding(cert_text::specs::Grammar::read_row))]
 fn row<C: Cursor>(r: &mut Reader<C>, row: &mut Row) -> Result<(), Stop>
     ensures width { HasWidth (length row.old.potential) row.new }
     ensures fits { OnOk result (FitsRow (length row.old.potential) row.new) }
     ensures room { result ≢ Err Stop.Memory }
-    ensures told { C.is_told r.new.source → C.is_told r.old.source }
-    ensures reads { C.is_told r.new.source → ReadsAs (λ _. row.new) result (place r.new.line (C.rest r.new.source))
-        (row_at kept (length row.old.potential) (place r.old.line (C.rest r.old.source))) }
+    ensures takes { Takes r.old r.new (ReadsViewed (λ _. row.new) result) (read_row narrow_number (length row.old.potential)) }
 {
     row.source = r.narrow()?;
     numbers(r, 0, &mut row.potential)?;
@@ -85,9 +79,8 @@ fn rows<C: Cursor>(r: &mut Reader<C>, rows: &mut Items<Row>, spare: &mut Row) ->
     ensures spare { HasWidth (length spare.old.potential) spare.new }
     ensures fits { OnOk result (AllByRecursion (FitsRow (length spare.old.potential)) rows.new) }
     ensures room { result ≢ Err Stop.Memory }
-    ensures told { C.is_told r.new.source → C.is_told r.old.source }
-    ensures reads { C.is_told r.new.source → ReadsAs (λ _. rows.new) result (place r.new.line (C.rest r.new.source))
-        (many_at (length rows.old) (row_at kept (length spare.old.potential)) (place r.old.line (C.rest r.old.source))) }
+    ensures takes { Takes r.old r.new (ReadsViewed (λ _. rows.new) result)
+        (read_many (length rows.old) (read_row narrow_number (length spare.old.potential))) }
 {
     let count = rows.as_slice().len();
     for k in 0..count {
@@ -98,7 +91,7 @@ fn rows<C: Cursor>(r: &mut Reader<C>, rows: &mut Items<Row>, spare: &mut Row) ->
 }
 
 // The lines `plus` and `minus`, where the set has bounds.
-#[tactic(auto, unfolding(cert_text::specs::Grammar::sides_at))]
+#[tactic(auto, unfolding(cert_text::specs::Grammar::read_sides))]
 fn sides<C: Cursor>(
     r: &mut Reader<C>,
     bounded: bool,
@@ -112,9 +105,7 @@ fn sides<C: Cursor>(
     ensures minus { length minus.new ≡ sides_of bounded pairs }
     ensures fits { OnOk result (FitsSides bounded pairs plus.new minus.new) }
     ensures room { result ≢ Err Stop.Memory }
-    ensures told { C.is_told r.new.source → C.is_told r.old.source }
-    ensures reads { C.is_told r.new.source → ReadsAs (λ _. (plus.new, minus.new)) result (place r.new.line (C.rest r.new.source))
-        (sides_at bounded pairs (place r.old.line (C.rest r.old.source))) }
+    ensures takes { Takes r.old r.new (ReadsViewed (λ _. (plus.new, minus.new)) result) (read_sides bounded pairs) }
 {
     if bounded {
         listing(r, b"plus", plus)?;
@@ -128,15 +119,14 @@ fn sides<C: Cursor>(
 /// # Errors
 ///
 /// `Stop::Shape` with the first line that is not so.
-#[tactic(auto, unfolding(cert_text::specs::Grammar::block_at))]
+#[tactic(auto, unfolding(cert_text::specs::Grammar::read_block))]
 pub(crate) fn block<C: Cursor>(r: &mut Reader<C>, room: &mut Room) -> Result<(), Stop>
     ensures limits { room.new.limits ≡ room.old.limits }
     ensures counts { room.new.counts ≡ room.old.counts }
     ensures fits { OnOk result (FitsBlock room.old.limits room.old.counts room.new.block) }
     ensures room { result ≢ Err Stop.Memory }
-    ensures told { C.is_told r.new.source → C.is_told r.old.source }
-    ensures reads { C.is_told r.new.source → ReadsAs (λ _. room.new.block) result (place r.new.line (C.rest r.new.source))
-        (block_at room.old.limits kept room.old.counts (place r.old.line (C.rest r.old.source))) }
+    ensures takes { Takes r.old r.new (ReadsViewed (λ _. room.new.block) result)
+        (read_block room.old.limits narrow_number room.old.counts) }
 {
     room.block.link = r.narrow()?;
     room.block.a = r.next_number()?;

@@ -36,10 +36,10 @@ impl BlockReader {
     ghost use Rattle.cert_text.specs.Fits.{FitsHead};
     ghost use Rattle.te_ports.specs.Ports.{Rose};
     ghost use Rattle.te_ports.specs.Record.{Grows};
-    ghost use Rattle.te_ports.specs.Shown.{shown};
+    ghost use Rattle.te_ports.specs.Shown.{shown_by};
     ghost use Rattle.block_reader.specs.Answers.{IsWell};
-    ghost use Rattle.block_reader.specs.Depots.{Reads};
-    ghost use Rattle.block_reader.specs.Blocks.{AreBehind, HasRead, IsReaderOf, IsFaultOf, IsTextOf, IsBehindHead, name_of, block_of, last_link, blocks_left, holds_block, fault_of, is_over};
+    ghost use Rattle.block_reader.specs.Depots.{ReadsNamed};
+    ghost use Rattle.block_reader.specs.Blocks.{AreBehind, HasRead, IsReaderOf, IsFaultOf, IsTextOf, IsBehindHead, name_of, lent_block, last_link, blocks_left, holds_block, noted_fault, is_over};
 
     /// Reads what stands before the blocks of the file of this name.
     ///
@@ -82,11 +82,11 @@ impl BlockReader {
         name: &str,
     ) -> Result<(BlockReader, Head), StreamFault>
         ensures stands { IfOk result (λ r. AreBehind (D.gave depot.new name.now) r.0.blocks r.1 []) }
-        ensures fresh { IfOk result (λ r. (fault_of r.0 ≡ None) × (is_over r.0 ≡ false)) }
+        ensures fresh { IfOk result (λ r. (noted_fault r.0 ≡ None) × (is_over r.0 ≡ false)) }
         ensures start { IfOk result (λ r. last_link r.0 ≡ None) }
         ensures name { IfOk result (λ r. name_of r.0 ≡ name.now) }
         ensures refused { (fault : StreamFault) → result ≡ Err fault → IsFaultOf (D.gave depot.new name.now) fault }
-        ensures reads { Reads (shown D.content D.gave D.faults depot.old) (shown D.content D.gave D.faults depot.new)
+        ensures reads { ReadsNamed (shown_by D.content D.gave D.faults depot.old) (shown_by D.content D.gave D.faults depot.new)
             name.now result }
     {
         let mut lines = Lines::open(alloc, depot, name)?;
@@ -141,26 +141,26 @@ impl BlockReader {
     pub fn next<D: Depot>(&mut self, depot: &mut D) -> Result<bool, StreamFault>
         ensures handed { result ≡ Ok true → (head : Head) → (blocks : List Block) →
             HasRead (D.gave depot.old (name_of self.old)) self.old head blocks →
-            HasRead (D.gave depot.new (name_of self.old)) self.new head (blocks ++ block_of self.new ∷ []) }
+            HasRead (D.gave depot.new (name_of self.old)) self.new head (blocks ++ lent_block self.new ∷ []) }
         ensures whole { result ≡ Ok false → (head : Head) → (blocks : List Block) →
             HasRead (D.gave depot.old (name_of self.old)) self.old head blocks →
             IsTextOf (D.gave depot.new (name_of self.old)) head blocks }
         ensures refused { (fault : StreamFault) → result ≡ Err fault → (head : Head) → (blocks : List Block) →
             HasRead (D.gave depot.old (name_of self.old)) self.old head blocks →
             IsFaultOf (D.gave depot.new (name_of self.old)) fault }
-        ensures valid { result ≡ Ok true → (head : Head) → IsReaderOf self.old head → IsValidBlock head (block_of self.new) }
-        ensures ascends { result ≡ Ok true → IsTrue (follows (last_link self.old) (block_of self.new).link)
-            × (last_link self.new ≡ Some (block_of self.new).link) }
+        ensures valid { result ≡ Ok true → (head : Head) → IsReaderOf self.old head → IsValidBlock head (lent_block self.new) }
+        ensures ascends { result ≡ Ok true → IsTrue (follows (last_link self.old) (lent_block self.new).link)
+            × (last_link self.new ≡ Some (lent_block self.new).link) }
         ensures of_head { (head : Head) → IsReaderOf self.old head → IsReaderOf self.new head }
         ensures holds { result ≡ Ok true → IsTrue (holds_block self.new) }
         ensures fewer { result ≡ Ok true → blocks_left self.new < blocks_left self.old }
         ensures ended { result ≡ Ok false → (blocks_left self.old ≡ 0) × IsTrue (is_over self.new) }
         ensures over { IsTrue (is_over self.old) → (result ≡ Ok false) × (D.faults depot.new ≡ D.faults depot.old) }
         ensures room { result ≢ Err StreamFault.Memory }
-        ensures failed { IsErrOf result StreamFault.Failed → (fault_of self.old ≡ Some StreamFault.Failed)
+        ensures failed { IsErrOf result StreamFault.Failed → (noted_fault self.old ≡ Some StreamFault.Failed)
             ⊎ Rose (D.faults depot.old (name_of self.old)) (D.faults depot.new (name_of self.old)) }
-        ensures keeps_fault { (fault : StreamFault) → result ≡ Err fault → fault_of self.new ≡ Some fault }
-        ensures again { (fault : StreamFault) → fault_of self.old ≡ Some fault →
+        ensures keeps_fault { (fault : StreamFault) → result ≡ Err fault → noted_fault self.new ≡ Some fault }
+        ensures again { (fault : StreamFault) → noted_fault self.old ≡ Some fault →
             (result ≡ Err fault) × (D.faults depot.new ≡ D.faults depot.old) }
         ensures steady { result ≢ Err StreamFault.Failed → D.faults depot.new ≡ D.faults depot.old }
         ensures later { (other : List ℕ) → D.faults depot.old other ≤ D.faults depot.new other }
@@ -191,7 +191,7 @@ impl BlockReader {
     /// The block that was read last.
     pub fn block(&self) -> &Block
         requires { IsTrue (holds_block self.now) }
-        ensures { result.now ≡ block_of self.now }
+        ensures { result.now ≡ lent_block self.now }
     {
         &self.blocks.room.block
     }

@@ -32,23 +32,23 @@ impl Blocks {
     ghost use Rattle.te_model.specs.declared.network.Network.{Network};
     ghost use Rattle.te_model.specs.Network.{node_count, link_count};
     ghost use Rattle.te_model.specs.Validity.{block_fault, follows, IsValidBlock};
-    ghost use Rattle.cert_text.specs.Reading.{kept};
-    ghost use Rattle.cert_text.specs.Grammar.{block_at};
+    ghost use Rattle.cert_text.specs.Reading.{narrow_number};
+    ghost use Rattle.cert_text.specs.Grammar.{read_block};
     ghost use Rattle.cert_text.specs.Fits.{FitsBlock};
-    ghost use Rattle.block_reader.specs.Answers.{IsWell, Answers};
-    ghost use Rattle.block_reader.specs.Blocks.{AreBehind, AreOf, IsFaultOf, IsTextOf, IsShapeOf, IsSound, IsEarliest, SameRoom, block_in};
-    ghost use Rattle.te_ports.specs.Shown.{shown};
-    ghost use Rattle.block_reader.specs.Depots.{Reads, ReadsTo};
+    ghost use Rattle.block_reader.specs.Answers.{IsWell, AnswersPart};
+    ghost use Rattle.block_reader.specs.Blocks.{AreBehind, AreOf, IsFaultOf, IsTextOf, IsShapeOf, KeepsRules, IsEarliest, SameRoom, block_in};
+    ghost use Rattle.te_ports.specs.Shown.{shown_by};
+    ghost use Rattle.block_reader.specs.Depots.{ReadsNamed, ReadsTo};
 
     // Reads the lines of the next block into the room.
     fn take_next<D: Depot>(&mut self, depot: &mut D) -> Result<(), StreamFault>
         requires well { IsWell self.old.lines }
         ensures well { OnOk result (IsWell self.new.lines) }
         ensures fits { OnOk result (FitsBlock self.old.room.limits self.old.room.counts self.new.room.block) }
-        ensures answers { Answers (D.gave depot.old (string_bytes self.old.name)) (D.gave depot.new (string_bytes self.old.name))
-            self.old.lines self.new.lines (block_at self.old.room.limits kept self.old.room.counts)
+        ensures answers { AnswersPart (D.gave depot.old (string_bytes self.old.name)) (D.gave depot.new (string_bytes self.old.name))
+            self.old.lines self.new.lines (read_block self.old.room.limits narrow_number self.old.room.counts)
             (block_in result self.new.room.block) }
-        ensures reads { Reads (shown D.content D.gave D.faults depot.old) (shown D.content D.gave D.faults depot.new)
+        ensures reads { ReadsNamed (shown_by D.content D.gave D.faults depot.old) (shown_by D.content D.gave D.faults depot.new)
             (string_bytes self.old.name) result }
         ensures memory { result ≢ Err StreamFault.Memory }
         ensures room { SameRoom self.old self.new }
@@ -99,7 +99,7 @@ impl Blocks {
         ensures refused { (fault : StreamFault) → result ≡ Err fault → (head : Head) → (blocks : List Block) →
             AreBehind (D.gave depot.old (string_bytes self.old.name)) self.old head blocks →
             IsFaultOf (D.gave depot.new (string_bytes self.old.name)) fault }
-        ensures reads { Reads (shown D.content D.gave D.faults depot.old) (shown D.content D.gave D.faults depot.new)
+        ensures reads { ReadsNamed (shown_by D.content D.gave D.faults depot.old) (shown_by D.content D.gave D.faults depot.new)
             (string_bytes self.old.name) result }
         ensures memory { result ≢ Err StreamFault.Memory }
         ensures room { SameRoom self.old self.new }
@@ -121,7 +121,7 @@ impl Blocks {
         ensures refused { (fault : StreamFault) → result ≡ Err fault → (head : Head) → (blocks : List Block) →
             AreBehind (D.gave depot.old (string_bytes self.old.name)) self.old head blocks →
             IsFaultOf (D.gave depot.new (string_bytes self.old.name)) fault }
-        ensures reads { Reads (shown D.content D.gave D.faults depot.old) (shown D.content D.gave D.faults depot.new)
+        ensures reads { ReadsNamed (shown_by D.content D.gave D.faults depot.old) (shown_by D.content D.gave D.faults depot.new)
             (string_bytes self.old.name) result }
         ensures memory { result ≢ Err StreamFault.Memory }
         ensures room { SameRoom self.old self.new }
@@ -145,7 +145,7 @@ impl Blocks {
         ensures refused { (fault : StreamFault) → result ≡ Err fault → (head : Head) → (blocks : List Block) →
             AreBehind (D.gave depot.old (string_bytes self.old.name)) self.old head blocks →
             IsFaultOf (D.gave depot.new (string_bytes self.old.name)) fault }
-        ensures reads { Reads (shown D.content D.gave D.faults depot.old) (shown D.content D.gave D.faults depot.new)
+        ensures reads { ReadsNamed (shown_by D.content D.gave D.faults depot.old) (shown_by D.content D.gave D.faults depot.new)
             (string_bytes self.old.name) result }
         ensures memory { result ≢ Err StreamFault.Memory }
         ensures room { SameRoom self.old self.new }
@@ -165,7 +165,7 @@ impl Blocks {
         ensures refused { (head : Head) → (blocks : List Block) →
             AreBehind (D.gave depot.old (string_bytes self.old.name)) self.old head blocks → IsEarliest head blocks first →
             IsFaultOf (D.gave depot.new (string_bytes self.old.name)) result }
-        ensures reads { ReadsTo (shown D.content D.gave D.faults depot.old) (shown D.content D.gave D.faults depot.new)
+        ensures reads { ReadsTo (shown_by D.content D.gave D.faults depot.old) (shown_by D.content D.gave D.faults depot.new)
             (string_bytes self.old.name) result }
         ensures memory { result ≢ StreamFault.Memory }
         ensures room { SameRoom self.old self.new }
@@ -181,21 +181,21 @@ impl Blocks {
         requires well { IsWell self.old.lines }
         ensures well { OnOk result (IsWell self.new.lines) }
         ensures handed { result ≡ Ok true → (head : Head) → (blocks : List Block) →
-            AreBehind (D.gave depot.old (string_bytes self.old.name)) self.old head blocks → IsSound head blocks →
+            AreBehind (D.gave depot.old (string_bytes self.old.name)) self.old head blocks → KeepsRules head blocks →
             AreBehind (D.gave depot.new (string_bytes self.old.name)) self.new head (blocks ++ self.new.room.block ∷ [])
-            × IsSound head (blocks ++ self.new.room.block ∷ []) }
+            × KeepsRules head (blocks ++ self.new.room.block ∷ []) }
         ensures whole { result ≡ Ok false → (head : Head) → (blocks : List Block) →
-            AreBehind (D.gave depot.old (string_bytes self.old.name)) self.old head blocks → IsSound head blocks →
+            AreBehind (D.gave depot.old (string_bytes self.old.name)) self.old head blocks → KeepsRules head blocks →
             IsTextOf (D.gave depot.new (string_bytes self.old.name)) head blocks }
         ensures refused { (fault : StreamFault) → result ≡ Err fault → (head : Head) → (blocks : List Block) →
-            AreBehind (D.gave depot.old (string_bytes self.old.name)) self.old head blocks → IsSound head blocks →
+            AreBehind (D.gave depot.old (string_bytes self.old.name)) self.old head blocks → KeepsRules head blocks →
             IsFaultOf (D.gave depot.new (string_bytes self.old.name)) fault }
         ensures valid { result ≡ Ok true → (head : Head) → AreOf self.old head → IsValidBlock head self.new.room.block }
         ensures ascends { result ≡ Ok true → IsTrue (follows self.old.before self.new.room.block.link) }
         ensures before { result ≡ Ok true → self.new.before ≡ Some self.new.room.block.link }
         ensures fewer { result ≡ Ok true → self.new.left < self.old.left }
         ensures ended { result ≡ Ok false → (self.old.left ≡ 0) × (self.new.left ≡ 0) }
-        ensures reads { Reads (shown D.content D.gave D.faults depot.old) (shown D.content D.gave D.faults depot.new)
+        ensures reads { ReadsNamed (shown_by D.content D.gave D.faults depot.old) (shown_by D.content D.gave D.faults depot.new)
             (string_bytes self.old.name) result }
         ensures memory { result ≢ Err StreamFault.Memory }
         ensures room { SameRoom self.old self.new }

@@ -3,10 +3,10 @@ ghost use Rattle.std.specs.Prelude.{◌≡◌, ℕ, List, ◌++◌, Some, codes}
 ghost use Rattle.te_model.specs.declared.limits.Limits.{Limits};
 ghost use Rattle.te_ports.specs.Record.{IsRead, IsReadPastAllowed};
 ghost use Rattle.cert_text.specs.declared.limits.Counts.{Counts};
-ghost use Rattle.cert_text.specs.Grammar.{format_at, network_at, counted_at, pair_at, set_at, ratio_at, block_at, closing_at};
+ghost use Rattle.cert_text.specs.Grammar.{read_format, read_network, read_counted, read_pair, read_set, read_ratio, read_block, read_closing};
 ghost use Rattle.block_reader.specs.declared.window.State.TheVariants.{Ended as IsEnded, TooLong as IsTooLong};
 ghost use Rattle.block_reader.specs.Standing.{ready, state_of, limit_of, StandsAt, StandsIn};
-ghost use Rattle.block_reader.specs.Ahead.{IsAhead, passing};
+ghost use Rattle.block_reader.specs.Ahead.{IsAhead, with_no_value};
 ghost use Rattle.block_reader.specs.Sizes.{format_size, network_size, count_size, pair_size, set_size, ratio_size, block_size, closing_size};
 
 use crate::Window;
@@ -27,14 +27,14 @@ pub fn windows_stand_in_what_is_told<D: Depot>(depot: &D, window: &Window)
 /// Reading of each part of a certificate of either format takes at most so many bytes, and what stands behind as many
 /// changes neither what is read nor the faulty line.
 pub fn reading_looks_so_far()
-    ensures format { IsAhead format_size format_at }
-    ensures network { (limits : Limits) → (keep : ℕ → ℕ) → IsAhead (network_size limits) (network_at limits keep) }
-    ensures pairs { (limits : Limits) → IsAhead count_size (counted_at (codes "pairs ") 0 limits.pairs) }
-    ensures pair { (limits : Limits) → (keep : ℕ → ℕ) → IsAhead (pair_size limits) (pair_at limits keep) }
-    ensures set { (limits : Limits) → (pairs : ℕ) → IsAhead (set_size pairs) (set_at limits pairs) }
-    ensures ratio { IsAhead ratio_size ratio_at }
-    ensures blocks { (limits : Limits) → IsAhead count_size (counted_at (codes "blocks ") 0 limits.links) }
+    ensures format { IsAhead format_size read_format }
+    ensures network { (limits : Limits) → (keep : ℕ → ℕ) → IsAhead (network_size limits) (read_network limits keep) }
+    ensures pairs { (limits : Limits) → IsAhead count_size (read_counted (codes "pairs ") 0 limits.pairs) }
+    ensures pair { (limits : Limits) → (keep : ℕ → ℕ) → IsAhead (pair_size limits) (read_pair limits keep) }
+    ensures set { (limits : Limits) → (pairs : ℕ) → IsAhead (set_size pairs) (read_set limits pairs) }
+    ensures ratio { IsAhead ratio_size read_ratio }
+    ensures blocks { (limits : Limits) → IsAhead count_size (read_counted (codes "blocks ") 0 limits.links) }
     ensures block { (limits : Limits) → (keep : ℕ → ℕ) → (counts : Counts) →
-        IsAhead (block_size limits.nodes counts) (block_at limits keep counts) }
-    ensures closing { IsAhead closing_size (passing closing_at) }
+        IsAhead (block_size limits.nodes counts) (read_block limits keep counts) }
+    ensures closing { IsAhead closing_size (with_no_value read_closing) }
 {}

@@ -28,9 +28,9 @@ pub(crate) struct Lines {
 
 impl Lines {
     ghost use Rattle.block_reader.specs.Standing.{StandsAt, StandsIn};
-    ghost use Rattle.block_reader.specs.Answers.{IsBehind, IsWell, HasEnough, IsClosedBy, Passes, IsDrained};
-    ghost use Rattle.te_ports.specs.Shown.{shown};
-    ghost use Rattle.block_reader.specs.Depots.{Reads, ReadsTo};
+    ghost use Rattle.block_reader.specs.Answers.{IsBehind, IsWell, HasEnough, IsClosedBy, PassesFront, IsDrained};
+    ghost use Rattle.te_ports.specs.Shown.{shown_by};
+    ghost use Rattle.block_reader.specs.Depots.{ReadsNamed, ReadsTo};
 
     /// The first bytes of the file of this name.
     ///
@@ -46,7 +46,7 @@ impl Lines {
         ensures line { IfOk result (λ lines. lines.line ≡ 1) }
         ensures well { IfOk result IsWell }
         ensures refused { (fault : StreamFault) → result ≡ Err fault → (fault ≡ StreamFault.Failed) ⊎ (fault ≡ StreamFault.Memory) }
-        ensures reads { Reads (shown D.content D.gave D.faults depot.old) (shown D.content D.gave D.faults depot.new)
+        ensures reads { ReadsNamed (shown_by D.content D.gave D.faults depot.old) (shown_by D.content D.gave D.faults depot.new)
             name.now result }
     {
         let window = Window::at_start(alloc, depot, name, &FileLimit, FIRST_LINE, ROOM)?;
@@ -80,7 +80,7 @@ impl Lines {
         requires left { left ≤ length (ready self.old.window) }
         requires line { line + left ≤ self.old.line + length (ready self.old.window) }
         ensures passes { (front : List ℕ) → (rest : List ℕ) → ready self.old.window ≡ front ++ rest → length rest ≡ left →
-            (ready self.new.window ≡ rest) × Passes self.old.window self.new.window front }
+            (ready self.new.window ≡ rest) × PassesFront self.old.window self.new.window front }
         ensures line { self.new.line ≡ line }
     {
         let count = self.window.ready().len() - left;
@@ -110,7 +110,7 @@ impl Lines {
         ensures closed { (fault : StreamFault) → result ≡ Err fault → IsClosedBy self.new.window fault }
         ensures room { result ≢ Err StreamFault.Memory }
         ensures line { self.new.line ≡ self.old.line }
-        ensures reads { Reads (shown D.content D.gave D.faults depot.old) (shown D.content D.gave D.faults depot.new)
+        ensures reads { ReadsNamed (shown_by D.content D.gave D.faults depot.old) (shown_by D.content D.gave D.faults depot.new)
             name.now result }
     {
         self.window.fill(depot, name, wanted);
@@ -128,7 +128,7 @@ impl Lines {
         ensures drained { (passed : List ℕ) → IsBehind (D.gave depot.old name.now) self.old passed →
             IsDrained (D.gave depot.new name.now) self.old.window passed (Stop.Shape line) result }
         ensures room { result ≢ StreamFault.Memory }
-        ensures reads { ReadsTo (shown D.content D.gave D.faults depot.old) (shown D.content D.gave D.faults depot.new)
+        ensures reads { ReadsTo (shown_by D.content D.gave D.faults depot.old) (shown_by D.content D.gave D.faults depot.new)
             name.now result }
     {
         let count = self.window.ready().len();
@@ -147,7 +147,7 @@ impl Lines {
         ensures drained { (passed : List ℕ) → IsBehind (D.gave depot.old name.now) self.old passed →
             IsDrained (D.gave depot.new name.now) self.old.window passed stop result }
         ensures memory { result ≡ StreamFault.Memory → stop ≡ Stop.Memory }
-        ensures reads { ReadsTo (shown D.content D.gave D.faults depot.old) (shown D.content D.gave D.faults depot.new)
+        ensures reads { ReadsTo (shown_by D.content D.gave D.faults depot.old) (shown_by D.content D.gave D.faults depot.new)
             name.now result }
     {
         match stop {

@@ -2,15 +2,15 @@
 ghost use Rattle.std.specs.Prelude.{◌≡◌, ◌≤◌, length, IfOk, OnOk, true};
 ghost use Rattle.te_model.specs.Formats.{limits_of};
 ghost use Rattle.te_model.specs.Shape.{is_count};
-ghost use Rattle.cert_text.specs.Reading.{kept, many_at};
-ghost use Rattle.cert_text.specs.Grammar.{format_at, pair_at, routes_at, head_at, opening_at};
+ghost use Rattle.cert_text.specs.Reading.{narrow_number, read_many};
+ghost use Rattle.cert_text.specs.Grammar.{read_format, read_pair, read_routes, read_head, read_opening};
 ghost use Rattle.cert_text.specs.Fits.{FitsPair, FitsRoutes, FitsHead};
 ghost use Rattle.cert_text.specs.Listed.{IsListOf};
 ghost use Rattle.block_reader.specs.Sizes.{block_size};
 ghost use Rattle.block_reader.specs.Parts.{IsFormat};
-ghost use Rattle.block_reader.specs.Answers.{IsWell, Answers};
-ghost use Rattle.te_ports.specs.Shown.{shown};
-ghost use Rattle.block_reader.specs.Depots.{Reads};
+ghost use Rattle.block_reader.specs.Answers.{IsWell, AnswersPart};
+ghost use Rattle.te_ports.specs.Shown.{shown_by};
+ghost use Rattle.block_reader.specs.Depots.{ReadsNamed};
 
 use crate::lines::Lines;
 use crate::parts::{
@@ -45,8 +45,8 @@ pub(crate) fn first_line<D: Depot>(
 ) -> Result<u32, StreamFault>
     requires well { IsWell lines.old }
     ensures well { OnOk result (IsWell lines.new) }
-    ensures answers { Answers (D.gave depot.old name.now) (D.gave depot.new name.now) lines.old lines.new format_at result }
-    ensures reads { Reads (shown D.content D.gave D.faults depot.old) (shown D.content D.gave D.faults depot.new)
+    ensures answers { AnswersPart (D.gave depot.old name.now) (D.gave depot.new name.now) lines.old lines.new read_format result }
+    ensures reads { ReadsNamed (shown_by D.content D.gave D.faults depot.old) (shown_by D.content D.gave D.faults depot.new)
         name.now result }
 {
     read_part(alloc, depot, name, lines, &FormatLine)
@@ -65,9 +65,9 @@ fn pairs<D: Depot>(
     requires well { IsWell lines.old }
     ensures well { OnOk result (IsWell lines.new) }
     ensures fits { IfOk result (IsListOf count (FitsPair limits.now)) }
-    ensures answers { Answers (D.gave depot.old name.now) (D.gave depot.new name.now) lines.old lines.new
-        (many_at count (pair_at limits.now kept)) result }
-    ensures reads { Reads (shown D.content D.gave D.faults depot.old) (shown D.content D.gave D.faults depot.new)
+    ensures answers { AnswersPart (D.gave depot.old name.now) (D.gave depot.new name.now) lines.old lines.new
+        (read_many count (read_pair limits.now narrow_number)) result }
+    ensures reads { ReadsNamed (shown_by D.content D.gave D.faults depot.old) (shown_by D.content D.gave D.faults depot.new)
         name.now result }
 {
     let mut items = Vec::with_capacity(alloc, count as usize)?;
@@ -90,9 +90,9 @@ fn routes<D: Depot>(
     requires well { IsWell lines.old }
     ensures well { OnOk result (IsWell lines.new) }
     ensures fits { IfOk result (FitsRoutes limits.now) }
-    ensures answers { Answers (D.gave depot.old name.now) (D.gave depot.new name.now) lines.old lines.new
-        (routes_at limits.now kept) result }
-    ensures reads { Reads (shown D.content D.gave D.faults depot.old) (shown D.content D.gave D.faults depot.new)
+    ensures answers { AnswersPart (D.gave depot.old name.now) (D.gave depot.new name.now) lines.old lines.new
+        (read_routes limits.now narrow_number) result }
+    ensures reads { ReadsNamed (shown_by D.content D.gave D.faults depot.old) (shown_by D.content D.gave D.faults depot.new)
         name.now result }
 {
     let count = read_part(alloc, depot, name, lines, &PairCount { limits })?;
@@ -111,9 +111,9 @@ fn head<D: Depot>(
     requires well { IsWell lines.old }
     ensures well { OnOk result (IsWell lines.new) }
     ensures fits { IfOk result (FitsHead limits.now) }
-    ensures answers { Answers (D.gave depot.old name.now) (D.gave depot.new name.now) lines.old lines.new
-        (head_at limits.now kept) result }
-    ensures reads { Reads (shown D.content D.gave D.faults depot.old) (shown D.content D.gave D.faults depot.new)
+    ensures answers { AnswersPart (D.gave depot.old name.now) (D.gave depot.new name.now) lines.old lines.new
+        (read_head limits.now narrow_number) result }
+    ensures reads { ReadsNamed (shown_by D.content D.gave D.faults depot.old) (shown_by D.content D.gave D.faults depot.new)
         name.now result }
 {
     let network = read_part(alloc, depot, name, lines, &NetworkLines { limits })?;
@@ -141,9 +141,9 @@ pub(crate) fn opening<D: Depot>(
     ensures well { OnOk result (IsWell lines.new) }
     ensures fits { IfOk result (λ x. FitsHead (limits_of x.0.format) x.0) }
     ensures count { IfOk result (λ x. is_count 0 (limits_of x.0.format).links x.1 ≡ true) }
-    ensures answers { Answers (D.gave depot.old name.now) (D.gave depot.new name.now) lines.old lines.new
-        (opening_at kept) result }
-    ensures reads { Reads (shown D.content D.gave D.faults depot.old) (shown D.content D.gave D.faults depot.new)
+    ensures answers { AnswersPart (D.gave depot.old name.now) (D.gave depot.new name.now) lines.old lines.new
+        (read_opening narrow_number) result }
+    ensures reads { ReadsNamed (shown_by D.content D.gave D.faults depot.old) (shown_by D.content D.gave D.faults depot.new)
         name.now result }
 {
     let limits = limits_of(first_line(alloc, depot, name, lines)?);

@@ -3,15 +3,15 @@ ghost use Rattle.std.specs.Prelude.{◌≡◌, ◌≢◌, ◌≤◌, ◌+◌, �
 ghost use Rattle.std.specs.declared.result.Result.{Result};
 ghost use Rattle.te_model.specs.Shape.{is_count};
 ghost use Rattle.cert_text.specs.Place.{Place, place, Reads as ReadsSo};
-ghost use Rattle.cert_text.specs.Reading.{kept};
-ghost use Rattle.cert_text.specs.Grammar.{format_at, network_at, counted_at, pair_at, set_at, ratio_at, closing_at};
+ghost use Rattle.cert_text.specs.Reading.{narrow_number};
+ghost use Rattle.cert_text.specs.Grammar.{read_format, read_network, read_counted, read_pair, read_set, read_ratio, read_closing};
 ghost use Rattle.cert_text.specs.Fits.{IsWord, FitsNetwork, FitsPair, FitsSet};
-ghost use Rattle.block_reader.specs.Ahead.{passing};
+ghost use Rattle.block_reader.specs.Ahead.{with_no_value};
 ghost use Rattle.block_reader.specs.Sizes.{format_size, network_size, count_size, pair_size, set_size, ratio_size};
-ghost use Rattle.block_reader.specs.Parts.{IsFormat, IsPart};
-ghost use Rattle.block_reader.specs.Answers.{IsBehind, Passes, IsWell, Answers, StopsAs, IsClosed, place_of};
-ghost use Rattle.te_ports.specs.Shown.{shown};
-ghost use Rattle.block_reader.specs.Depots.{Reads};
+ghost use Rattle.block_reader.specs.Parts.{IsFormat, IsReadablePart};
+ghost use Rattle.block_reader.specs.Answers.{IsBehind, PassesFront, IsWell, AnswersPart, StopsAs, IsClosed, place_of};
+ghost use Rattle.te_ports.specs.Shown.{shown_by};
+ghost use Rattle.block_reader.specs.Depots.{ReadsNamed};
 
 use crate::lines::Lines;
 use crate::stream_fault::StreamFault;
@@ -53,9 +53,9 @@ pub(crate) trait Part {
 
 // Reads a part over the bytes that stand ready, and goes past it.
 fn take_part<P: Part>(alloc: Global, lines: &mut Lines, part: &P) -> Result<P::Value, Stop>
-    requires { IsPart (P.looked part.now) (P.at part.now) }
+    requires { IsReadablePart (P.looked part.now) (P.at part.now) }
     ensures fits { IfOk result (P.Fits part.now) }
-    ensures took { IfOk result (λ x. (front : List ℕ) × Passes lines.old.window lines.new.window front
+    ensures took { IfOk result (λ x. (front : List ℕ) × PassesFront lines.old.window lines.new.window front
         × (P.at part.now (place_of lines.old) ≡ Ok (x, place_of lines.new))) }
     ensures stops { (line : ℕ) → result ≡ Err (Stop.Shape line) → P.at part.now (place_of lines.old) ≡ Err line }
     ensures same { OnErr result (lines.new ≡ lines.old) }
@@ -77,12 +77,12 @@ pub(crate) fn read_part<D: Depot, P: Part>(
     part: &P,
 ) -> Result<P::Value, StreamFault>
     requires ready { P.is_ready part.now }
-    requires part { IsPart (P.looked part.now) (P.at part.now) }
+    requires part { IsReadablePart (P.looked part.now) (P.at part.now) }
     requires well { IsWell lines.old }
     ensures well { OnOk result (IsWell lines.new) }
     ensures fits { IfOk result (P.Fits part.now) }
-    ensures answers { Answers (D.gave depot.old name.now) (D.gave depot.new name.now) lines.old lines.new (P.at part.now) result }
-    ensures reads { Reads (shown D.content D.gave D.faults depot.old) (shown D.content D.gave D.faults depot.new)
+    ensures answers { AnswersPart (D.gave depot.old name.now) (D.gave depot.new name.now) lines.old lines.new (P.at part.now) result }
+    ensures reads { ReadsNamed (shown_by D.content D.gave D.faults depot.old) (shown_by D.content D.gave D.faults depot.new)
         name.now result }
 {
     lines.fill(depot, name, part.size())?;
@@ -101,7 +101,7 @@ impl Part for FormatLine {
 
     ghost is_ready = { λ _. Unit {0} };
 
-    ghost at = { λ _. format_at };
+    ghost at = { λ _. read_format };
 
     ghost looked = { λ _. format_size };
 
@@ -127,7 +127,7 @@ impl<'a> Part for NetworkLines<'a> {
 
     ghost is_ready = { λ p. IsFormat p.limits.now };
 
-    ghost at = { λ p. network_at p.limits.now kept };
+    ghost at = { λ p. read_network p.limits.now narrow_number };
 
     ghost looked = { λ p. network_size p.limits.now };
 
@@ -153,7 +153,7 @@ impl<'a> Part for PairCount<'a> {
 
     ghost is_ready = { λ _. Unit {0} };
 
-    ghost at = { λ p. counted_at (codes "pairs ") 0 p.limits.now.pairs };
+    ghost at = { λ p. read_counted (codes "pairs ") 0 p.limits.now.pairs };
 
     ghost looked = { λ _. count_size };
 
@@ -179,7 +179,7 @@ impl<'a> Part for PairLines<'a> {
 
     ghost is_ready = { λ p. IsFormat p.limits.now };
 
-    ghost at = { λ p. pair_at p.limits.now kept };
+    ghost at = { λ p. read_pair p.limits.now narrow_number };
 
     ghost looked = { λ p. pair_size p.limits.now };
 
@@ -206,7 +206,7 @@ impl<'a> Part for SetLines<'a> {
 
     ghost is_ready = { λ p. IsFormat p.limits.now × (p.pairs ≤ p.limits.now.pairs) };
 
-    ghost at = { λ p. set_at p.limits.now p.pairs };
+    ghost at = { λ p. read_set p.limits.now p.pairs };
 
     ghost looked = { λ p. set_size p.pairs };
 
@@ -230,7 +230,7 @@ impl Part for RatioLine {
 
     ghost is_ready = { λ _. Unit {0} };
 
-    ghost at = { λ _. ratio_at };
+    ghost at = { λ _. read_ratio };
 
     ghost looked = { λ _. ratio_size };
 
@@ -256,7 +256,7 @@ impl<'a> Part for BlockCount<'a> {
 
     ghost is_ready = { λ _. Unit {0} };
 
-    ghost at = { λ p. counted_at (codes "blocks ") 0 p.limits.now.links };
+    ghost at = { λ p. read_counted (codes "blocks ") 0 p.limits.now.links };
 
     ghost looked = { λ _. count_size };
 
@@ -272,10 +272,10 @@ impl<'a> Part for BlockCount<'a> {
 }
 
 // Reads the last line over the bytes that stand ready.
-#[tactic(auto, unfolding(cert_text::specs::Grammar::closing_at))]
+#[tactic(auto, unfolding(cert_text::specs::Grammar::read_closing))]
 fn take_closing(lines: &Lines) -> Result<(), Stop>
-    ensures closes { OnOk result ((end : Place) × (closing_at (place_of lines.now) ≡ Ok end)) }
-    ensures stops { (line : ℕ) → result ≡ Err (Stop.Shape line) → closing_at (place_of lines.now) ≡ Err line }
+    ensures closes { OnOk result ((end : Place) × (read_closing (place_of lines.now) ≡ Ok end)) }
+    ensures stops { (line : ℕ) → result ≡ Err (Stop.Shape line) → read_closing (place_of lines.now) ≡ Err line }
     ensures room { result ≢ Err Stop.Memory }
 {
     let mut reader = lines.reader();
@@ -296,9 +296,9 @@ pub(crate) fn close<D: Depot>(
         IsClosed (D.gave depot.new name.now) lines.old passed) }
     ensures stops { (fault : StreamFault) → result ≡ Err fault → (passed : List ℕ) →
         IsBehind (D.gave depot.old name.now) lines.old passed →
-        StopsAs (D.gave depot.new name.now) lines.old passed (passing closing_at) fault }
+        StopsAs (D.gave depot.new name.now) lines.old passed (with_no_value read_closing) fault }
     ensures room { result ≢ Err StreamFault.Memory }
-    ensures reads { Reads (shown D.content D.gave D.faults depot.old) (shown D.content D.gave D.faults depot.new)
+    ensures reads { ReadsNamed (shown_by D.content D.gave D.faults depot.old) (shown_by D.content D.gave D.faults depot.new)
         name.now result }
 {
     lines.fill(depot, name, 5)?;

@@ -1,6 +1,6 @@
 //! Why a certificate is not read block by block.
 ghost use Rattle.std.specs.Prelude.{◌≡◌, Some};
-ghost use Rattle.te_model.specs.Validity.{earlier};
+ghost use Rattle.te_model.specs.Validity.{earlier_fault};
 ghost use Rattle.block_reader.specs.declared.stream_fault.StreamFault.TheVariants.{Memory as OutOfMemory};
 
 use std::alloc::{AllocError, AllocFailed};
@@ -39,7 +39,7 @@ impl<T: Drop> From<AllocFailed<T>> for StreamFault {
 
 /// The earlier of two faults of rules, of which the second may be none.
 pub(crate) fn earlier(first: RuleFault, second: Option<RuleFault>) -> RuleFault
-    ensures { Some result ≡ earlier (Some first) second }
+    ensures { Some result ≡ earlier_fault (Some first) second }
 {
     earlier_fault(Some(first), second).unwrap_or(first)
 }

@@ -1,9 +1,9 @@
 //! Reading a block over the bytes that stand ready.
 ghost use Rattle.std.specs.Prelude.{◌≡◌, ◌≢◌, ◌++◌, ℕ, List, OnOk, OnErr, Ok, Err};
-ghost use Rattle.cert_text.specs.Reading.{kept};
-ghost use Rattle.cert_text.specs.Grammar.{block_at};
+ghost use Rattle.cert_text.specs.Reading.{narrow_number};
+ghost use Rattle.cert_text.specs.Grammar.{read_block};
 ghost use Rattle.cert_text.specs.Fits.{FitsBlock};
-ghost use Rattle.block_reader.specs.Answers.{Passes, place_of};
+ghost use Rattle.block_reader.specs.Answers.{PassesFront, place_of};
 
 use crate::block_lines::block;
 use crate::lines::Lines;
@@ -17,10 +17,10 @@ use cert_text::Stop;
 /// `Stop::Shape` with the first line that is not of a block.
 pub(crate) fn take_block(lines: &mut Lines, room: &mut Room) -> Result<(), Stop>
     ensures fits { OnOk result (FitsBlock room.old.limits room.old.counts room.new.block) }
-    ensures took { OnOk result ((front : List ℕ) × Passes lines.old.window lines.new.window front
-        × (block_at room.old.limits kept room.old.counts (place_of lines.old) ≡ Ok (room.new.block, place_of lines.new))) }
+    ensures took { OnOk result ((front : List ℕ) × PassesFront lines.old.window lines.new.window front
+        × (read_block room.old.limits narrow_number room.old.counts (place_of lines.old) ≡ Ok (room.new.block, place_of lines.new))) }
     ensures stops { (line : ℕ) → result ≡ Err (Stop.Shape line) →
-        block_at room.old.limits kept room.old.counts (place_of lines.old) ≡ Err line }
+        read_block room.old.limits narrow_number room.old.counts (place_of lines.old) ≡ Err line }
     ensures same { OnErr result (lines.new ≡ lines.old) }
     ensures room { result ≢ Err Stop.Memory }
     ensures limits { room.new.limits ≡ room.old.limits }

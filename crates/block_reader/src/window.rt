@@ -54,7 +54,7 @@ pub struct Window {
 }
 
 impl Window {
-    ghost use Rattle.block_reader.specs.Standing.{ready, fetched_of, state_of, room_of, limit_of, left_of, StandsIn, StandsAt};
+    ghost use Rattle.block_reader.specs.Standing.{ready, fetched_of, state_of, room_of, limit_of, reads_left, StandsIn, StandsAt};
 
     /// Room for so many bytes of a file of at most `limit` bytes, of which none was fetched yet. `AllocError` where memory
     /// is short.
@@ -194,7 +194,7 @@ impl Window {
             StandsIn told self.old passed → StandsIn told self.new passed) }
         ensures behind { (more : List ℕ) × (ready self.new ≡ ready self.old ++ more) }
         ensures count { fetched_of self.new + length (ready self.old) ≡ fetched_of self.old + length (ready self.new) }
-        ensures fewer { left_of self.new < left_of self.old }
+        ensures fewer { reads_left self.new < reads_left self.old }
         ensures front { self.new.start ≡ self.old.start }
         ensures room { room_of self.new ≡ room_of self.old }
         ensures limit { limit_of self.new ≡ limit_of self.old }

@@ -11,7 +11,7 @@ use Rattle.std.proofs.lemmas.Bool.Decides.{nat_tests}
 use Rattle.std.proofs.lemmas.Fmt.{digits_decimal}
 use Rattle.te_model.specs.Network.{is_name_byte}
 use Rattle.cert_text.specs.Place.{Place, place, ◌>>=◌}
-use Rattle.cert_text.specs.Reading.{byte_from, byte_at, line_end_at, digits_from, number_from, number_at, count_at, name_from, name_at}
+use Rattle.cert_text.specs.Reading.{byte_from, read_byte, read_line_end, read_digits, number_from, read_number, read_count, name_from, read_name}
 use Rattle.te_model.specs.Faults.{line_ends}
 use Rattle.cert_text.proofs.Decimals.{own, begins, bind_ok, ok_is, where_ok, number_takes, number_again, name_takes, name_again}
 use Rattle.cert_text.proofs.Tokens.{byte_again, IsCount, count_again}
@@ -227,7 +227,7 @@ byte_stops n b (x ∷ xs) k e = chosen (eqb x b) e
     chosen false h = cc
 
 -- a byte that is no line feed
-pub byte_completable : {a : ℕ → Bool} (b : ℕ) → a b ≡ false → eqb b 10 ≡ false → IsCompletable a no_byte (silent (byte_at b))
+pub byte_completable : {a : ℕ → Bool} (b : ℕ) → a b ≡ false → eqb b 10 ≡ false → IsCompletable a no_byte (silent (read_byte b))
 byte_completable {a} b opens no_end = record {
   resumes = λ n s x q free e.
       let t = byte_read n b s q (quiet_read (byte_from n b s) x q e) in
@@ -240,24 +240,24 @@ byte_completable {a} b opens no_end = record {
         opens = λ r no. opens;
         again = λ r no. ap (λ (y : Result Place ℕ). y >>= quiet) (byte_again b n r) ∙ ap (λ (m : ℕ). Ok (tt, place m r)) (sym at);
       };
-  completes = λ n s k free e. at_once no_byte (silent (byte_at b)) n s k (byte_stops n b s k (quiet_stops (byte_from n b s) k e));
+  completes = λ n s k free e. at_once no_byte (silent (read_byte b)) n s k (byte_stops n b s k (quiet_stops (byte_from n b s) k e));
   starts = λ n. record { more = b ∷ []; value = tt; line = n; opens = λ r no. opens; again = λ r no. ap (λ (y : Result Place ℕ). y >>= quiet) (byte_again b n r) };
 }
 
-line_end_read : (n : ℕ) (s : List ℕ) (q : Place) → line_end_at (place n s) ≡ Ok q → (s ≡ 10 ∷ q.rest) × (q.line ≡ n + 1)
+line_end_read : (n : ℕ) (s : List ℕ) (q : Place) → read_line_end (place n s) ≡ Ok q → (s ≡ 10 ∷ q.rest) × (q.line ≡ n + 1)
 line_end_read n s q e =
     let d = bind_ok (byte_from n 10 s) (λ y. Ok (place (y.line + 1) y.rest)) q e in
     let t = byte_read n 10 s d.0 d.1 in
     let at : place (d.0.line + 1) d.0.rest ≡ q = ok_is (place (d.0.line + 1) d.0.rest) q d.2 in
     (t.0 ∙ ap (λ (y : Place). 10 ∷ y.rest) at, ap (λ (y : Place). y.line) (sym at) ∙ ap (λ (m : ℕ). m + 1) t.1)
 
-line_end_stops : (n : ℕ) (s : List ℕ) (k : ℕ) → line_end_at (place n s) ≡ Err k → k ≡ n
+line_end_stops : (n : ℕ) (s : List ℕ) (k : ℕ) → read_line_end (place n s) ≡ Err k → k ≡ n
 line_end_stops n s k e = elim (bind_err (byte_from n 10 s) (λ y. Ok (place (y.line + 1) y.rest)) k e) [ inl here ↦ byte_stops n 10 s k here | inr there ↦ absurd (let no = there.2 in cc) ]
 
-pub line_end_completable : {a : ℕ → Bool} → a 10 ≡ false → IsCompletable a no_byte (silent line_end_at)
+pub line_end_completable : {a : ℕ → Bool} → a 10 ≡ false → IsCompletable a no_byte (silent read_line_end)
 line_end_completable {a} opens = record {
   resumes = λ n s x q free e.
-      let t = line_end_read n s q (quiet_read (line_end_at (place n s)) x q e) in
+      let t = line_end_read n s q (quiet_read (read_line_end (place n s)) x q e) in
       let at : q.line ≡ n + 1 = t.1 in
       record {
         front = 10 ∷ [];
@@ -267,15 +267,15 @@ line_end_completable {a} opens = record {
         opens = λ r no. opens;
         again = λ r no. ap (λ (m : ℕ). Ok (tt, place m r)) (sym at);
       };
-  completes = λ n s k free e. at_once no_byte (silent line_end_at) n s k (line_end_stops n s k (quiet_stops (line_end_at (place n s)) k e));
+  completes = λ n s k free e. at_once no_byte (silent read_line_end) n s k (line_end_stops n s k (quiet_stops (read_line_end (place n s)) k e));
   starts = λ n. record { more = 10 ∷ []; value = tt; line = n + 1; opens = λ r no. opens; again = λ r no. refl };
 }
 
-digits_stops : (n d : ℕ) (xs : List ℕ) (k : ℕ) → digits_from n d xs ≡ Err k → k ≡ n
+digits_stops : (n d : ℕ) (xs : List ℕ) (k : ℕ) → read_digits n d xs ≡ Err k → k ≡ n
 digits_stops n d [] k e = absurd cc
 digits_stops n d (x ∷ xs) k e = chosen (is_ascii_digit x) (eqb d 0) (ltb (d * 10 + (x - 48)) (2 ^ 64)) (digits_stops n (d * 10 + (x - 48)) xs k) e
   where
-    chosen : (t z f : Bool) → (digits_from n (d * 10 + (x - 48)) xs ≡ Err k → k ≡ n) → cond t (cond z (Err n) (cond f (digits_from n (d * 10 + (x - 48)) xs) (Err n))) (Ok (d, place n (x ∷ xs))) ≡ Err k → k ≡ n
+    chosen : (t z f : Bool) → (read_digits n (d * 10 + (x - 48)) xs ≡ Err k → k ≡ n) → cond t (cond z (Err n) (cond f (read_digits n (d * 10 + (x - 48)) xs) (Err n))) (Ok (d, place n (x ∷ xs))) ≡ Err k → k ≡ n
     chosen true true f h e = cc
     chosen true false true h e = h e
     chosen true false false h e = cc
@@ -285,12 +285,12 @@ number_from_stops : (n : ℕ) (xs : List ℕ) (k : ℕ) → number_from n xs ≡
 number_from_stops n [] k e = cc
 number_from_stops n (x ∷ xs) k e = chosen (is_ascii_digit x) e
   where
-    chosen : (t : Bool) → cond t (digits_from n (x - 48) xs) (Err n) ≡ Err k → k ≡ n
+    chosen : (t : Bool) → cond t (read_digits n (x - 48) xs) (Err n) ≡ Err k → k ≡ n
     chosen true h = digits_stops n (x - 48) xs k h
     chosen false h = cc
 
-number_stops : (n : ℕ) (s : List ℕ) (k : ℕ) → number_at (place n s) ≡ Err k → k ≡ n
-unfolding number_at
+number_stops : (n : ℕ) (s : List ℕ) (k : ℕ) → read_number (place n s) ≡ Err k → k ≡ n
+unfolding read_number
 number_stops n s k e = number_from_stops n s k e
 
 -- digits and letters are on one line
@@ -310,10 +310,10 @@ letters_ends (b ∷ bs) all =
     let no_end : eqb b 10 ≡ false = grind (arith, nat_tests) in
     rw no_end (letters_ends bs parts.1)
 
-number_resumes : (n : ℕ) (s : List ℕ) (x : ℕ) (q : Place) → number_at (place n s) ≡ Ok (x, q) → Resumes no_byte is_ascii_digit number_at n s x q
+number_resumes : (n : ℕ) (s : List ℕ) (x : ℕ) (q : Place) → read_number (place n s) ≡ Ok (x, q) → Resumes no_byte is_ascii_digit read_number n s x q
 number_resumes n s x q e =
     let t = number_takes (place n s) x q e in
-    let there : number_at (place n s) ≡ Ok (x, place n q.rest) = ap (λ (bs : List ℕ). number_at (place n bs)) t.parts ∙ number_again n x q.rest t.small t.stop in
+    let there : read_number (place n s) ≡ Ok (x, place n q.rest) = ap (λ (bs : List ℕ). read_number (place n bs)) t.parts ∙ number_again n x q.rest t.small t.stop in
     let same : ◌≡◌ {A = ℕ × Place} (x, q) (x, place n q.rest) = ok_is {A = ℕ × Place} (x, q) (x, place n q.rest) (sym e ∙ there) in
     let at : q.line ≡ n = ap (λ (y : ℕ × Place). y.1.line) same in
     let one : line_ends (decimal x) ≡ 0 = digits_ends (decimal x) (digits_decimal own x t.small) in
@@ -326,17 +326,17 @@ number_resumes n s x q e =
       again = λ r no. number_again n x r t.small no ∙ ap (λ (m : ℕ). Ok (x, place m r)) (sym at);
     }
 
-pub number_completable : IsCompletable no_byte is_ascii_digit number_at
+pub number_completable : IsCompletable no_byte is_ascii_digit read_number
 number_completable = record {
   resumes = λ n s x q free e. number_resumes n s x q e;
-  completes = λ n s k free e. at_once is_ascii_digit number_at n s k (number_stops n s k e);
+  completes = λ n s k free e. at_once is_ascii_digit read_number n s k (number_stops n s k e);
   starts = λ n. record { more = decimal 0; value = 0; line = n; opens = λ r no. begins_with_none (decimal 0 ++ r); again = λ r no. number_again n 0 r (omega arith) no };
 }
 
-count_stops : (low high n : ℕ) (s : List ℕ) (k : ℕ) → count_at low high (place n s) ≡ Err k → k ≡ n
-unfolding count_at
+count_stops : (low high n : ℕ) (s : List ℕ) (k : ℕ) → read_count low high (place n s) ≡ Err k → k ≡ n
+unfolding read_count
 count_stops low high n s k e =
-    elim (bind_err (number_at (place n s)) (λ x. cond (nat_le low x.0 && nat_le x.0 high) (Ok x) (Err x.1.line)) k e) [
+    elim (bind_err (read_number (place n s)) (λ x. cond (nat_le low x.0 && nat_le x.0 high) (Ok x) (Err x.1.line)) k e) [
       | inl here ↦ number_stops n s k here
       | inr there ↦
           let read = number_resumes n s there.0.0 there.0.1 there.1 in
@@ -345,20 +345,20 @@ count_stops low high n s k e =
           chosen (nat_le low there.0.0 && nat_le there.0.0 high) there.0 (same_line n s there.0.0 there.0.1 there.1) there.2
     ]
   where
-    same_line : (n : ℕ) (s : List ℕ) (x : ℕ) (q : Place) → number_at (place n s) ≡ Ok (x, q) → q.line ≡ n
+    same_line : (n : ℕ) (s : List ℕ) (x : ℕ) (q : Place) → read_number (place n s) ≡ Ok (x, q) → q.line ≡ n
     same_line n s x q e =
         let t = number_takes (place n s) x q e in
-        let there : number_at (place n s) ≡ Ok (x, place n q.rest) = ap (λ (bs : List ℕ). number_at (place n bs)) t.parts ∙ number_again n x q.rest t.small t.stop in
+        let there : read_number (place n s) ≡ Ok (x, place n q.rest) = ap (λ (bs : List ℕ). read_number (place n bs)) t.parts ∙ number_again n x q.rest t.small t.stop in
         ap (λ (y : ℕ × Place). y.1.line) (ok_is {A = ℕ × Place} (x, q) (x, place n q.rest) (sym e ∙ there))
 
     chosen : (t : Bool) (x : ℕ × Place) → x.1.line ≡ n → cond t (Ok x) (Err x.1.line) ≡ Err k → k ≡ n
     chosen true x at h = absurd cc
     chosen false x at h = let stop : k ≡ x.1.line = cc in stop ∙ at
 
-count_resumes : (low high n : ℕ) (s : List ℕ) (x : ℕ) (q : Place) → count_at low high (place n s) ≡ Ok (x, q) → Resumes no_byte is_ascii_digit (count_at low high) n s x q
-unfolding count_at
+count_resumes : (low high n : ℕ) (s : List ℕ) (x : ℕ) (q : Place) → read_count low high (place n s) ≡ Ok (x, q) → Resumes no_byte is_ascii_digit (read_count low high) n s x q
+unfolding read_count
 count_resumes low high n s x q e =
-    let d = bind_ok (number_at (place n s)) (λ y. cond (nat_le low y.0 && nat_le y.0 high) (Ok y) (Err y.1.line)) (x, q) e in
+    let d = bind_ok (read_number (place n s)) (λ y. cond (nat_le low y.0 && nat_le y.0 high) (Ok y) (Err y.1.line)) (x, q) e in
     let g = where_ok (nat_le low d.0.0 && nat_le d.0.0 high) d.0.1.line d.0 (x, q) d.2 in
     let within : (nat_le low x && nat_le x high) ≡ true = subst (λ (y : ℕ × Place). (nat_le low y.0 && nat_le y.0 high) ≡ true) g.1 g.0 in
     let one = number_resumes n s x q (d.1 ∙ ap (λ (y : ℕ × Place). Ok y) g.1) in
@@ -371,10 +371,10 @@ count_resumes low high n s x q e =
       again = λ r no. ap (λ (y : Result (ℕ × Place) ℕ). y >>= λ x. cond (nat_le low x.0 && nat_le x.0 high) (Ok x) (Err x.1.line)) (one.again r no) ∙ rw within refl;
     }
 
-pub count_completable : (low high : ℕ) → IsCount low high low → low < 2 ^ 64 → IsCompletable no_byte is_ascii_digit (count_at low high)
+pub count_completable : (low high : ℕ) → IsCount low high low → low < 2 ^ 64 → IsCompletable no_byte is_ascii_digit (read_count low high)
 count_completable low high some small = record {
   resumes = λ n s x q free e. count_resumes low high n s x q e;
-  completes = λ n s k free e. at_once is_ascii_digit (count_at low high) n s k (count_stops low high n s k e);
+  completes = λ n s k free e. at_once is_ascii_digit (read_count low high) n s k (count_stops low high n s k e);
   starts = λ n. record { more = decimal low; value = low; line = n; opens = λ r no. begins_with_none (decimal low ++ r); again = λ r no. count_again low high n low r some small no };
 }
 
@@ -396,8 +396,8 @@ name_from_line n front (x ∷ xs) name q e = chosen (is_name_byte x) (eqb (lengt
     chosen true false h e = h e
     chosen false f h e = ap (λ (y : List ℕ × Place). y.1.line) (sym (ok_is {A = List ℕ × Place} (front, place n (x ∷ xs)) (name, q) e))
 
-name_stops : (n : ℕ) (s : List ℕ) (k : ℕ) → name_at (place n s) ≡ Err k → k ≡ n
-unfolding name_at
+name_stops : (n : ℕ) (s : List ℕ) (k : ℕ) → read_name (place n s) ≡ Err k → k ≡ n
+unfolding read_name
 name_stops n s k e =
     elim (bind_err (name_from n [] s) (λ x. cond (eqb (length x.0) 0) (Err x.1.line) (Ok x)) k e) [
       | inl here ↦ name_from_stops n [] s k here
@@ -408,10 +408,10 @@ name_stops n s k e =
     chosen true x at h = let stop : k ≡ x.1.line = cc in stop ∙ at
     chosen false x at h = absurd cc
 
-name_resumes : (n : ℕ) (s : List ℕ) (x : List ℕ) (q : Place) → name_at (place n s) ≡ Ok (x, q) → Resumes no_byte is_name_byte name_at n s x q
+name_resumes : (n : ℕ) (s : List ℕ) (x : List ℕ) (q : Place) → read_name (place n s) ≡ Ok (x, q) → Resumes no_byte is_name_byte read_name n s x q
 name_resumes n s x q e =
     let t = name_takes (place n s) x q e in
-    let there : name_at (place n s) ≡ Ok (x, place n q.rest) = ap (λ (bs : List ℕ). name_at (place n bs)) t.parts ∙ name_again n x q.rest t.good t.stop in
+    let there : read_name (place n s) ≡ Ok (x, place n q.rest) = ap (λ (bs : List ℕ). read_name (place n bs)) t.parts ∙ name_again n x q.rest t.good t.stop in
     let same : ◌≡◌ {A = List ℕ × Place} (x, q) (x, place n q.rest) = ok_is {A = List ℕ × Place} (x, q) (x, place n q.rest) (sym e ∙ there) in
     let at : q.line ≡ n = ap (λ (y : List ℕ × Place). y.1.line) same in
     let letters = and_parts (nat_le 1 (length x) && nat_le (length x) 32) (list_all is_name_byte x) t.good in
@@ -425,10 +425,10 @@ name_resumes n s x q e =
       again = λ r no. name_again n x r t.good no ∙ ap (λ (m : ℕ). Ok (x, place m r)) (sym at);
     }
 
-pub name_completable : IsCompletable no_byte is_name_byte name_at
+pub name_completable : IsCompletable no_byte is_name_byte read_name
 name_completable = record {
   resumes = λ n s x q free e. name_resumes n s x q e;
-  completes = λ n s k free e. at_once is_name_byte name_at n s k (name_stops n s k e);
+  completes = λ n s k free e. at_once is_name_byte read_name n s k (name_stops n s k e);
   starts = λ n. record { more = 97 ∷ []; value = 97 ∷ []; line = n; opens = λ r no. refl; again = λ r no. name_again n (97 ∷ []) r refl no };
 }
 

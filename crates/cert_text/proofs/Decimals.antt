@@ -10,18 +10,15 @@ use Rattle.std.proofs.lemmas.Bool.{ltb-true, lt-ltb, eqb-false, cases_lt, leb-tr
 use Rattle.std.proofs.lemmas.Bool.Decides.{nat_tests}
 use Rattle.std.proofs.lemmas.Str.Parse.{IsNumeralModel, numerals_by_fold}
 use Rattle.std.proofs.lemmas.Fmt.{digits_decimal, digits_value-decimal, decimal-digits_value, decimal_nonempty, first_decimal, decimal_digit}
+use Rattle.te_model.specs.Digits.{digits_from}
 use Rattle.te_model.specs.Network.{is_name_byte, is_name}
 use Rattle.cert_text.specs.Place.{Place, place, ◌>>=◌}
-use Rattle.cert_text.specs.Reading.{digits_from, number_from, number_at, name_from, name_at}
+use Rattle.cert_text.specs.Reading.{read_digits, number_from, read_number, name_from, read_name}
 
-abbrev read_on : ℕ → List ℕ → ℕ
-read_on n [] = n
-read_on n (c ∷ cs) = read_on (n * 10 + (c - 48)) cs
+pub own : IsNumeralModel (λ ds. all_ascii_digits ds ≡ true) (digits_from 0)
+own = numerals_by_fold _ (search rules) digits_from (search rules)
 
-pub own : IsNumeralModel (λ ds. all_ascii_digits ds ≡ true) (read_on 0)
-own = numerals_by_fold _ (search rules) read_on (search rules)
-
-grows : (n : ℕ) (ds : List ℕ) → n ≤ read_on n ds
+grows : (n : ℕ) (ds : List ℕ) → n ≤ digits_from n ds
 grows n [] = omega arith
 grows n (c ∷ cs) = let more = grows (n * 10 + (c - 48)) cs in omega arith
 
@@ -33,8 +30,8 @@ begins test (b ∷ bs) = test b
 abbrev pub begins_with_digit : List ℕ → Bool
 begins_with_digit bs = begins is_ascii_digit bs
 
-pub digits_again : (ds : List ℕ) (k v : ℕ) (r : List ℕ) → all_ascii_digits ds ≡ true → (v ≡ 0 → ds ≡ []) → read_on v ds < 2 ^ 64 → begins_with_digit r ≡ false
-    → digits_from k v (ds ++ r) ≡ Ok (read_on v ds, place k r)
+pub digits_again : (ds : List ℕ) (k v : ℕ) (r : List ℕ) → all_ascii_digits ds ≡ true → (v ≡ 0 → ds ≡ []) → digits_from v ds < 2 ^ 64 → begins_with_digit r ≡ false
+    → read_digits k v (ds ++ r) ≡ Ok (digits_from v ds, place k r)
 digits_again [] k v [] all lead small stop = refl
 digits_again [] k v (b ∷ bs) all lead small stop = rw stop refl
 digits_again (c ∷ cs) k v r all lead small stop =
@@ -50,7 +47,7 @@ digits_again (c ∷ cs) k v r all lead small stop =
 pub record Digits (v : ℕ) (bs : List ℕ) (n : ℕ) (q : Place) (ds : List ℕ) : Type 0 where
   pub all : all_ascii_digits ds ≡ true
   pub parts : bs ≡ ds ++ q.rest
-  pub value : n ≡ read_on v ds
+  pub value : n ≡ digits_from v ds
   pub small : n < 2 ^ 64
   pub lead : v ≡ 0 → ds ≡ []
   pub stop : begins_with_digit q.rest ≡ false
@@ -68,8 +65,8 @@ ended bs k v n q small stop e =
     ([], record { all = refl; parts = refl; value = refl; small = small; lead = λ z. refl; stop = stop })
 
 taken_step : (b : ℕ) (bs : List ℕ) (k v n : ℕ) (q : Place) (t z f : Bool) → v < 2 ^ 64 → is_ascii_digit b ≡ t → eqb v 0 ≡ z → ltb (v * 10 + (b - 48)) (2 ^ 64) ≡ f
-    → cond t (cond z (Err k) (cond f (digits_from k (v * 10 + (b - 48)) bs) (Err k))) (Ok (v, place k (b ∷ bs))) ≡ Ok (n, q)
-    → (v * 10 + (b - 48) < 2 ^ 64 → digits_from k (v * 10 + (b - 48)) bs ≡ Ok (n, q) → (ds : List ℕ) × Digits (v * 10 + (b - 48)) bs n q ds)
+    → cond t (cond z (Err k) (cond f (read_digits k (v * 10 + (b - 48)) bs) (Err k))) (Ok (v, place k (b ∷ bs))) ≡ Ok (n, q)
+    → (v * 10 + (b - 48) < 2 ^ 64 → read_digits k (v * 10 + (b - 48)) bs ≡ Ok (n, q) → (ds : List ℕ) × Digits (v * 10 + (b - 48)) bs n q ds)
     → (ds : List ℕ) × Digits v (b ∷ bs) n q ds
 taken_step b bs k v n q true true f small digit nought fits e more = absurd cc
 taken_step b bs k v n q true false false small digit nought fits e more = absurd cc
@@ -87,7 +84,7 @@ taken_step b bs k v n q true false true small digit nought fits e more =
     )
 taken_step b bs k v n q false z f small digit nought fits e more = ended (b ∷ bs) k v n q small digit e
 
-pub digits_taken : (bs : List ℕ) (k v n : ℕ) (q : Place) → v < 2 ^ 64 → digits_from k v bs ≡ Ok (n, q) → (ds : List ℕ) × Digits v bs n q ds
+pub digits_taken : (bs : List ℕ) (k v n : ℕ) (q : Place) → v < 2 ^ 64 → read_digits k v bs ≡ Ok (n, q) → (ds : List ℕ) × Digits v bs n q ds
 digits_taken [] k v n q small e = ended [] k v n q small refl e
 digits_taken (b ∷ bs) k v n q small e =
     taken_step b bs k v n q (is_ascii_digit b) (eqb v 0) (ltb (v * 10 + (b - 48)) (2 ^ 64)) small refl refl refl e
@@ -99,16 +96,16 @@ pub record TakesNumber (p : Place) (n : ℕ) (q : Place) : Type 0 where
   pub small : n < 2 ^ 64
   pub stop : begins_with_digit q.rest ≡ false
 
-first_taken : (b : ℕ) (bs : List ℕ) (k n : ℕ) (q : Place) (t : Bool) → is_ascii_digit b ≡ t → cond t (digits_from k (b - 48) bs) (Err k) ≡ Ok (n, q)
+first_taken : (b : ℕ) (bs : List ℕ) (k n : ℕ) (q : Place) (t : Bool) → is_ascii_digit b ≡ t → cond t (read_digits k (b - 48) bs) (Err k) ≡ Ok (n, q)
     → TakesNumber (place k (b ∷ bs)) n q
 first_taken b bs k n q false digit e = absurd cc
 first_taken b bs k n q true digit e =
     let low : b - 48 < 10 = grind (arith, nat_tests) in
     let d = digits_taken bs k (b - 48) n q (omega arith) e in
     let all : all_ascii_digits (b ∷ d.0) ≡ true = rw digit d.1.all in
-    let value : read_on 0 (b ∷ d.0) ≡ n = ap (λ (x : ℕ). read_on x d.0) (zero-add (b - 48)) ∙ sym d.1.value in
+    let value : digits_from 0 (b ∷ d.0) ≡ n = ap (λ (x : ℕ). digits_from x d.0) (zero-add (b - 48)) ∙ sym d.1.value in
     let lead : get_or (b ∷ d.0) 0 0 ≡ 48 → length (b ∷ d.0) ≡ 1 = λ z. let none : d.0 ≡ [] = d.1.lead (omega arith) in rw none refl in
-    let spelled : decimal (read_on 0 (b ∷ d.0)) ≡ b ∷ d.0 = decimal-digits_value own (b ∷ d.0) all (omega arith) lead (let h = d.1.small in omega (arith, value)) in
+    let spelled : decimal (digits_from 0 (b ∷ d.0)) ≡ b ∷ d.0 = decimal-digits_value own (b ∷ d.0) all (omega arith) lead (let h = d.1.small in omega (arith, value)) in
     let here : (b ∷ bs) ≡ (b ∷ d.0) ++ q.rest = ap (λ (x : List ℕ). b ∷ x) d.1.parts in
     record { parts = here ∙ ap (λ (x : List ℕ). x ++ q.rest) (sym spelled ∙ ap decimal value); small = d.1.small; stop = d.1.stop }
 
@@ -116,27 +113,27 @@ rest_taken : (bs : List ℕ) (k n : ℕ) (q : Place) → number_from k bs ≡ Ok
 rest_taken [] k n q e = absurd cc
 rest_taken (b ∷ bs) k n q e = first_taken b bs k n q (is_ascii_digit b) refl e
 
-pub number_takes : (p : Place) (n : ℕ) (q : Place) → number_at p ≡ Ok (n, q) → TakesNumber p n q
-unfolding number_at
+pub number_takes : (p : Place) (n : ℕ) (q : Place) → read_number p ≡ Ok (n, q) → TakesNumber p n q
+unfolding read_number
 number_takes p n q e = rest_taken p.rest p.line n q e
 
 -- the digits of a number, read again
-again_from : (ds : List ℕ) (k n : ℕ) (r : List ℕ) → all_ascii_digits ds ≡ true → read_on 0 ds ≡ n → 0 < length ds → n < 2 ^ 64
+again_from : (ds : List ℕ) (k n : ℕ) (r : List ℕ) → all_ascii_digits ds ≡ true → digits_from 0 ds ≡ n → 0 < length ds → n < 2 ^ 64
     → (0 < n → 48 < get_or ds 0 0) → (n ≡ 0 → length ds ≡ 1) → begins_with_digit r ≡ false → number_from k (ds ++ r) ≡ Ok (n, place k r)
 again_from [] k n r all value some small lead one stop = absurd (omega arith)
 again_from (b ∷ bs) k n r all value some small lead one stop =
     let parts = and_parts (is_ascii_digit b) (all_ascii_digits bs) all in
     let alone : b - 48 ≡ 0 → bs ≡ [] = λ z. only bs (elim (cases_lt 0 n) [ inl pos ↦ absurd (let h = lead pos in omega arith) | inr none ↦ one (omega arith) ]) in
-    let same : read_on (b - 48) bs ≡ n = ap (λ (x : ℕ). read_on x bs) (sym (zero-add (b - 48))) ∙ value in
-    let fits : read_on (b - 48) bs < 2 ^ 64 = omega (arith, same) in
+    let same : digits_from (b - 48) bs ≡ n = ap (λ (x : ℕ). digits_from x bs) (sym (zero-add (b - 48))) ∙ value in
+    let fits : digits_from (b - 48) bs < 2 ^ 64 = omega (arith, same) in
     rw parts.0 (digits_again bs k (b - 48) r parts.1 alone fits stop ∙ ap (λ (x : ℕ). Ok (x, place k r)) same)
   where
     only : (bs : List ℕ) → length (b ∷ bs) ≡ 1 → bs ≡ []
     only [] e = refl
     only (x ∷ xs) e = absurd (omega arith)
 
-pub number_again : (k n : ℕ) (r : List ℕ) → n < 2 ^ 64 → begins_with_digit r ≡ false → number_at (place k (decimal n ++ r)) ≡ Ok (n, place k r)
-unfolding number_at
+pub number_again : (k n : ℕ) (r : List ℕ) → n < 2 ^ 64 → begins_with_digit r ≡ false → read_number (place k (decimal n ++ r)) ≡ Ok (n, place k r)
+unfolding read_number
 number_again k n r small stop =
     again_from (decimal n) k n r (digits_decimal own n small) (digits_value-decimal own n small) (decimal_nonempty n small) small
     (λ pos. first_decimal n pos small) (λ none. ap length (ap decimal none ∙ decimal_digit 0 (omega arith))) stop
@@ -213,8 +210,8 @@ pub record TakesName (p : Place) (name : List ℕ) (q : Place) : Type 0 where
   pub good : is_name name ≡ true
   pub stop : begins_with_letter q.rest ≡ false
 
-pub name_takes : (p : Place) (name : List ℕ) (q : Place) → name_at p ≡ Ok (name, q) → TakesName p name q
-unfolding name_at
+pub name_takes : (p : Place) (name : List ℕ) (q : Place) → read_name p ≡ Ok (name, q) → TakesName p name q
+unfolding read_name
 name_takes p name q e =
     let a = bind_ok (name_from p.line [] p.rest) (λ x. cond (eqb (length x.0) 0) (Err x.1.line) (Ok x)) (name, q) e in
     let g = unless_ok (eqb (length a.0.0) 0) a.0.1.line a.0 (name, q) a.2 in
@@ -226,8 +223,8 @@ name_takes p name q e =
     let high : nat_le (length name) 32 ≡ true = le-leb _ _ t.1.short in
     record { parts = t.1.parts ∙ ap (λ (x : List ℕ). x ++ q.rest) (sym same); good = rw (low, high, all) refl; stop = t.1.stop }
 
-pub name_again : (k : ℕ) (name r : List ℕ) → is_name name ≡ true → begins_with_letter r ≡ false → name_at (place k (name ++ r)) ≡ Ok (name, place k r)
-unfolding name_at
+pub name_again : (k : ℕ) (name r : List ℕ) → is_name name ≡ true → begins_with_letter r ≡ false → read_name (place k (name ++ r)) ≡ Ok (name, place k r)
+unfolding read_name
 name_again k name r ok stop =
     let a = and_parts (nat_le 1 (length name) && nat_le (length name) 32) (list_all is_name_byte name) ok in
     let b = and_parts (nat_le 1 (length name)) (nat_le (length name) 32) a.0 in

@@ -6,7 +6,7 @@ use Rattle.te_model.specs.Network.{is_name_byte}
 use Rattle.std.specs.Char.{is_ascii_digit}
 use Rattle.std.proofs.lemmas.Bool.{le-ltb}
 use Rattle.cert_text.specs.Place.{Place, place}
-use Rattle.cert_text.specs.Reading.{digits_from, name_from}
+use Rattle.cert_text.specs.Reading.{read_digits, name_from}
 
 -- what stands first in a list
 first_is : (bs : List ℕ) (b : ℕ) → Some b ≡ slice_get bs 0 → bs ≡ b ∷ drop 1 bs
@@ -17,22 +17,22 @@ none_is : (bs : List ℕ) → None ≡ slice_get bs 0 → bs ≡ []
 none_is [] e = refl
 none_is (x ∷ xs) e = absurd cc
 
-pub digits_zero : (k v : ℕ) (bs : List ℕ) (b : ℕ) → Some b ≡ slice_get bs 0 → is_ascii_digit b ≡ true → v ≡ 0 → digits_from k v bs ≡ Err k
+pub digits_zero : (k v : ℕ) (bs : List ℕ) (b : ℕ) → Some b ≡ slice_get bs 0 → is_ascii_digit b ≡ true → v ≡ 0 → read_digits k v bs ≡ Err k
 digits_zero k v bs b first digit nothing = rw (first_is bs b first, digit, nothing) refl
 
 refused : (t : Bool) (k : ℕ) (more : Result (ℕ × Place) ℕ) → cond t (Err k) (cond false more (Err k)) ≡ Err k
 refused true k more = refl
 refused false k more = refl
 
-pub digits_over : (k v : ℕ) (bs : List ℕ) (b : ℕ) → Some b ≡ slice_get bs 0 → is_ascii_digit b ≡ true → ¬ (v * 10 + (b - 48) < 2 ^ 64) → digits_from k v bs ≡ Err k
+pub digits_over : (k v : ℕ) (bs : List ℕ) (b : ℕ) → Some b ≡ slice_get bs 0 → is_ascii_digit b ≡ true → ¬ (v * 10 + (b - 48) < 2 ^ 64) → read_digits k v bs ≡ Err k
 digits_over k v bs b first digit large =
     let over : ltb (v * 10 + (b - 48)) (2 ^ 64) ≡ false = le-ltb _ _ (omega arith) in
-    rw (first_is bs b first, digit, over) (refused (eqb v 0) k (digits_from k (v * 10 + (b - 48)) (drop 1 bs)))
+    rw (first_is bs b first, digit, over) (refused (eqb v 0) k (read_digits k (v * 10 + (b - 48)) (drop 1 bs)))
 
-pub digits_stop : (k v : ℕ) (bs : List ℕ) (b : ℕ) → Some b ≡ slice_get bs 0 → is_ascii_digit b ≡ false → digits_from k v bs ≡ Ok (v, place k bs)
+pub digits_stop : (k v : ℕ) (bs : List ℕ) (b : ℕ) → Some b ≡ slice_get bs 0 → is_ascii_digit b ≡ false → read_digits k v bs ≡ Ok (v, place k bs)
 digits_stop k v bs b first digit = rw (first_is bs b first, digit) refl
 
-pub digits_end : (k v : ℕ) (bs : List ℕ) → None ≡ slice_get bs 0 → digits_from k v bs ≡ Ok (v, place k bs)
+pub digits_end : (k v : ℕ) (bs : List ℕ) → None ≡ slice_get bs 0 → read_digits k v bs ≡ Ok (v, place k bs)
 digits_end k v bs none = rw (none_is bs none) refl
 
 pub name_long : (k : ℕ) (front bs : List ℕ) (b : ℕ) → Some b ≡ slice_get bs 0 → is_name_byte b ≡ true → length front ≡ 32 → name_from k front bs ≡ Err k

@@ -25,7 +25,7 @@ use Rattle.te_model.specs.Shape.{is_count}
 use Rattle.te_model.specs.Validity.{pair_below, follows_previous, is_sound_pair, has_sound_paths, has_ascending_paths, has_whole_weight, with_first, has_margin_numbers, has_pair_bounds, has_ratio, block_at, has_block_numbers, follows, link_before, is_sound_block, sound_at, rows_ascend, is_small, has_small_numbers, small_at, fault_at, rule_fault, first_rule}
 use Rattle.te_model.proofs.Tests.{and_true, or_else_none, first_failing_none_at}
 use Rattle.te_model.proofs.Searches.{first_below-same}
-use Rattle.cert_text.specs.Reading.{kept}
+use Rattle.cert_text.specs.Reading.{narrow_number}
 use Rattle.cert_text.specs.Kept.{keep_link, keep_network, keep_path, keep_pair, keep_head, keep_row, keep_block, keep_certificate}
 use Rattle.cert_text.specs.Fits.{FitsFormat}
 
@@ -36,23 +36,23 @@ widest = 2 ^ 32 - 1
 -- ---- numbers
 
 -- a number up to the widest is kept as it is
-kept_whole : (n : ℕ) → n ≤ widest → kept n ≡ n
+kept_whole : (n : ℕ) → n ≤ widest → narrow_number n ≡ n
 kept_whole n le = omega arith
 
-kept_wide : (n : ℕ) → widest ≤ n → kept n ≡ widest
+kept_wide : (n : ℕ) → widest ≤ n → narrow_number n ≡ widest
 kept_wide n ge = omega arith
 
 not_below : (a b : ℕ) → b ≤ a → ltb a b ≡ false
 not_below a b le = grind (arith, nat_tests)
 
 -- a test against a number that the field can hold comes out the same
-kept_below : (n m : ℕ) → m ≤ widest → ltb (kept n) m ≡ ltb n m
+kept_below : (n m : ℕ) → m ≤ widest → ltb (narrow_number n) m ≡ ltb n m
 kept_below n m le = elim (cases_lt n widest) [
   | inl lt ↦ ap (λ (k : ℕ). ltb k m) (kept_whole n (omega arith))
   | inr ge ↦ ap (λ (k : ℕ). ltb k m) (kept_wide n ge) ∙ not_below widest m (omega arith) ∙ sym (not_below n m (omega arith))
 ]
 
-kept_equals : (n m : ℕ) → m < widest → eqb (kept n) m ≡ eqb n m
+kept_equals : (n m : ℕ) → m < widest → eqb (narrow_number n) m ≡ eqb n m
 kept_equals n m lt = elim (cases_lt n widest) [
   | inl lt ↦ ap (λ (k : ℕ). eqb k m) (kept_whole n (omega arith))
   | inr ge ↦ ap (λ (k : ℕ). eqb k m) (kept_wide n ge) ∙ differs widest m (omega arith) ∙ sym (differs n m (omega arith))
@@ -76,7 +76,7 @@ and_same false b c e = refl
 bounded_same : (a b c d : Bool) → a ≡ b → (b ≡ true → c ≡ d) → (a && c) ≡ (b && d)
 bounded_same a b c d e f = ap (λ (x : Bool). x && c) e ∙ and_same b c d f
 
-kept_upto : (n m : ℕ) → m < widest → leb (kept n) m ≡ leb n m
+kept_upto : (n m : ℕ) → m < widest → leb (narrow_number n) m ≡ leb n m
 kept_upto n m lt = elim (cases_lt n widest) [
   | inl low ↦ ap (λ (k : ℕ). leb k m) (kept_whole n (omega arith))
   | inr ge ↦ ap (λ (k : ℕ). leb k m) (kept_wide n ge) ∙ above widest m (omega arith) ∙ sym (above n m (omega arith))
@@ -85,17 +85,17 @@ kept_upto n m lt = elim (cases_lt n widest) [
     above : (a b : ℕ) → b < a → leb a b ≡ false
     above a b lt = grind (arith, nat_tests)
 
-kept_from_one : (n : ℕ) → leb 1 (kept n) ≡ leb 1 n
+kept_from_one : (n : ℕ) → leb 1 (narrow_number n) ≡ leb 1 n
 kept_from_one n = elim (cases_lt n widest) [
   | inl low ↦ ap (λ (k : ℕ). leb 1 k) (kept_whole n (omega arith))
   | inr ge ↦ ap (λ (k : ℕ). leb 1 k) (kept_wide n ge) ∙ le-leb 1 widest (omega arith) ∙ sym (le-leb 1 n (omega arith))
 ]
 
 -- two different numbers below a bound
-two_kept : (s t n : ℕ) → n ≤ widest → (ltb (kept s) n && ltb (kept t) n && not (eqb (kept s) (kept t))) ≡ (ltb s n && ltb t n && not (eqb s t))
+two_kept : (s t n : ℕ) → n ≤ widest → (ltb (narrow_number s) n && ltb (narrow_number t) n && not (eqb (narrow_number s) (narrow_number t))) ≡ (ltb s n && ltb t n && not (eqb s t))
 two_kept s t n le =
-    let bounds : (ltb (kept s) n && ltb (kept t) n) ≡ (ltb s n && ltb t n) = rw (kept_below s n le, kept_below t n le) refl in
-    bounded_same (ltb (kept s) n && ltb (kept t) n) (ltb s n && ltb t n) (not (eqb (kept s) (kept t))) (not (eqb s t)) bounds
+    let bounds : (ltb (narrow_number s) n && ltb (narrow_number t) n) ≡ (ltb s n && ltb t n) = rw (kept_below s n le, kept_below t n le) refl in
+    bounded_same (ltb (narrow_number s) n && ltb (narrow_number t) n) (ltb s n && ltb t n) (not (eqb (narrow_number s) (narrow_number t))) (not (eqb s t)) bounds
     (λ both.
     let f = and_true (ltb s n) (ltb t n) both in
     let low : s < n = ltb-true s n f.0 in
@@ -125,10 +125,10 @@ link_kept net h = get_or-map keep_link net.links h no_link
 sound_numbers : ℕ → ℕ → ℕ → ℕ → ℕ → Bool
 sound_numbers t h capacity cost n = ltb t n && ltb h n && not (eqb t h) && leb 1 capacity && leb capacity (2 ^ 32) && leb 1 cost && leb cost 65535
 
-sound_numbers_kept : (t h capacity cost n : ℕ) → n ≤ widest → sound_numbers (kept t) (kept h) capacity (kept cost) n ≡ sound_numbers t h capacity cost n
+sound_numbers_kept : (t h capacity cost n : ℕ) → n ≤ widest → sound_numbers (narrow_number t) (narrow_number h) capacity (narrow_number cost) n ≡ sound_numbers t h capacity cost n
 unfolding sound_numbers
 sound_numbers_kept t h capacity cost n le =
-    ap (λ (x : Bool). x && leb 1 capacity && leb capacity (2 ^ 32) && leb 1 (kept cost) && leb (kept cost) 65535) (two_kept t h n le)
+    ap (λ (x : Bool). x && leb 1 capacity && leb capacity (2 ^ 32) && leb 1 (narrow_number cost) && leb (narrow_number cost) 65535) (two_kept t h n le)
     ∙ rw (kept_from_one cost, kept_upto cost 65535 (omega arith)) refl
 
 sound_link_kept : (net : Network) (h : ℕ) → node_count net ≤ widest → is_sound_link (keep_network net) h ≡ is_sound_link net h
@@ -143,10 +143,10 @@ sound_link_whole net h le sound =
     let t : l.tail < node_count net = grind (arith, nat_tests) in
     let e : l.head < node_count net = grind (arith, nat_tests) in
     let c : l.cost ≤ 65535 = grind (arith, nat_tests) in
-    let tail : kept l.tail ≡ l.tail = kept_whole l.tail (omega arith) in
-    let head : kept l.head ≡ l.head = kept_whole l.head (omega arith) in
-    let cost : kept l.cost ≡ l.cost = kept_whole l.cost (omega arith) in
-    made l (kept l.tail) (kept l.head) (kept l.cost) tail head cost
+    let tail : narrow_number l.tail ≡ l.tail = kept_whole l.tail (omega arith) in
+    let head : narrow_number l.head ≡ l.head = kept_whole l.head (omega arith) in
+    let cost : narrow_number l.cost ≡ l.cost = kept_whole l.cost (omega arith) in
+    made l (narrow_number l.tail) (narrow_number l.head) (narrow_number l.cost) tail head cost
   where
     made : (l : Link) (t h c : ℕ) → t ≡ l.tail → h ≡ l.head → c ≡ l.cost → ◌≡◌ {A = Link} (record { tail = t; head = h; capacity = l.capacity; cost = c }) l
     made l t h c e f g = rw (e, f, g) refl
@@ -161,7 +161,7 @@ network_whole net le sound =
 routes_kept : (routes : List PairRoutes) (p : ℕ) → routes_at (map keep_pair routes) p ≡ keep_pair (routes_at routes p)
 routes_kept routes p = get_or-map keep_pair routes p no_routes
 
-order_kept : (s' d' s d : ℕ) → s < widest → d < widest → (ltb (kept s') (kept s) || (eqb (kept s') (kept s) && ltb (kept d') (kept d))) ≡ (ltb s' s || (eqb s' s && ltb d' d))
+order_kept : (s' d' s d : ℕ) → s < widest → d < widest → (ltb (narrow_number s') (narrow_number s) || (eqb (narrow_number s') (narrow_number s) && ltb (narrow_number d') (narrow_number d))) ≡ (ltb s' s || (eqb s' s && ltb d' d))
 order_kept s' d' s d low high =
     rw (kept_whole s (omega arith), kept_whole d (omega arith)) (rw (kept_below s' s (omega arith), kept_equals s' s low, kept_below d' d (omega arith)) refl)
 
@@ -196,7 +196,7 @@ sound_pair_kept h p le =
     order_at h.routes p (omega arith) (omega arith))
 
 -- the numbers of a sound pair are kept whole
-pair_whole : (h : Head) (p : ℕ) → node_count h.network ≤ widest → is_sound_pair h p ≡ true → (kept (source_of h.routes p) ≡ source_of h.routes p) × (kept (destination_of h.routes p) ≡ destination_of h.routes p)
+pair_whole : (h : Head) (p : ℕ) → node_count h.network ≤ widest → is_sound_pair h p ≡ true → (narrow_number (source_of h.routes p) ≡ source_of h.routes p) × (narrow_number (destination_of h.routes p) ≡ destination_of h.routes p)
 pair_whole h p le sound =
     let s : source_of h.routes p < node_count h.network = grind (arith, nat_tests) in
     let d : destination_of h.routes p < node_count h.network = grind (arith, nat_tests) in
@@ -204,20 +204,20 @@ pair_whole h p le sound =
 
 -- ---- paths
 
-chains_kept : (net : Network) (t : ℕ) → link_count net ≤ widest → (hs : List ℕ) (s : ℕ) → chains net s t (map kept hs) ≡ chains net s t hs
+chains_kept : (net : Network) (t : ℕ) → link_count net ≤ widest → (hs : List ℕ) (s : ℕ) → chains net s t (map narrow_number hs) ≡ chains net s t hs
 chains_kept net t le [] s = refl
 chains_kept net t le (h ∷ hs) s = elim (cases_lt h widest) [
   | inl lt ↦
-      ap (λ (k : ℕ). ltb k (link_count net) && eqb (tail_of net k) s && chains net (head_of net k) t (map kept hs)) (kept_whole h (omega arith))
+      ap (λ (k : ℕ). ltb k (link_count net) && eqb (tail_of net k) s && chains net (head_of net k) t (map narrow_number hs)) (kept_whole h (omega arith))
       ∙ ap (λ (b : Bool). ltb h (link_count net) && eqb (tail_of net h) s && b) (chains_kept net t le hs (head_of net h))
   | inr ge ↦
-      past (kept h) (map kept hs) (omega arith) ∙ sym (past h hs (omega arith))
+      past (narrow_number h) (map narrow_number hs) (omega arith) ∙ sym (past h hs (omega arith))
 ]
   where
     past : (k : ℕ) (rest : List ℕ) → link_count net ≤ k → (ltb k (link_count net) && eqb (tail_of net k) s && chains net (head_of net k) t rest) ≡ false
     past k rest above = let no : ltb k (link_count net) ≡ false = not_below k (link_count net) above in rw no refl
 
-chained_whole : (net : Network) (t : ℕ) → link_count net ≤ widest → (hs : List ℕ) (s : ℕ) → chains net s t hs ≡ true → map kept hs ≡ hs
+chained_whole : (net : Network) (t : ℕ) → link_count net ≤ widest → (hs : List ℕ) (s : ℕ) → chains net s t hs ≡ true → map narrow_number hs ≡ hs
 chained_whole net t le [] s e = refl
 chained_whole net t le (h ∷ hs) s e =
     let f = and_true (ltb h (link_count net) && eqb (tail_of net h) s) (chains net (head_of net h) t hs) e in
@@ -225,21 +225,21 @@ chained_whole net t le (h ∷ hs) s e =
     let low : h < link_count net = ltb-true h (link_count net) g.0 in
     rw (kept_whole h (omega arith), chained_whole net t le hs (head_of net h) f.1) refl
 
-path_test_kept : (net : Network) (s t : ℕ) (hs : List ℕ) → link_count net ≤ widest → is_path net s t (map kept hs) ≡ is_path net s t hs
+path_test_kept : (net : Network) (s t : ℕ) (hs : List ℕ) → link_count net ≤ widest → is_path net s t (map narrow_number hs) ≡ is_path net s t hs
 path_test_kept net s t hs le =
-    bounded_same (chains net s t (map kept hs)) (chains net s t hs) (is_distinct (nodes_visited net s (map kept hs))) (is_distinct (nodes_visited net s hs)) (chains_kept net t le hs s)
+    bounded_same (chains net s t (map narrow_number hs)) (chains net s t hs) (is_distinct (nodes_visited net s (map narrow_number hs))) (is_distinct (nodes_visited net s hs)) (chains_kept net t le hs s)
     (λ chained. ap (λ (ks : List ℕ). is_distinct (nodes_visited net s ks)) (chained_whole net t le hs s chained))
 
 sound_paths_kept : (h : Head) (p : ℕ) → link_count h.network ≤ widest → keep_network h.network ≡ h.network
-    → (kept (source_of h.routes p) ≡ source_of h.routes p) × (kept (destination_of h.routes p) ≡ destination_of h.routes p) → has_sound_paths (keep_head h) p ≡ has_sound_paths h p
+    → (narrow_number (source_of h.routes p) ≡ source_of h.routes p) × (narrow_number (destination_of h.routes p) ≡ destination_of h.routes p) → has_sound_paths (keep_head h) p ≡ has_sound_paths h p
 sound_paths_kept h p le net pair =
     let r = routes_at h.routes p in
     ap (λ (q : PairRoutes). list_all (λ s. is_path (keep_network h.network) q.pair.src q.pair.dst s.links) q.paths) (routes_kept h.routes p)
-    ∙ ap (λ (n : Network). list_all (λ s. is_path n (kept r.pair.src) (kept r.pair.dst) s.links) (map keep_path r.paths)) net
-    ∙ ap (λ (k : ℕ). list_all (λ s. is_path h.network k (kept r.pair.dst) s.links) (map keep_path r.paths)) pair.0
+    ∙ ap (λ (n : Network). list_all (λ s. is_path n (narrow_number r.pair.src) (narrow_number r.pair.dst) s.links) (map keep_path r.paths)) net
+    ∙ ap (λ (k : ℕ). list_all (λ s. is_path h.network k (narrow_number r.pair.dst) s.links) (map keep_path r.paths)) pair.0
     ∙ ap (λ (k : ℕ). list_all (λ s. is_path h.network r.pair.src k s.links) (map keep_path r.paths)) pair.1
     ∙ list_all-map (λ s. is_path h.network r.pair.src r.pair.dst s.links) keep_path r.paths
-    ∙ list_all_same (λ s. is_path h.network r.pair.src r.pair.dst (map kept s.links)) (λ s. is_path h.network r.pair.src r.pair.dst s.links) (λ s. path_test_kept h.network r.pair.src r.pair.dst s.links le) r.paths
+    ∙ list_all_same (λ s. is_path h.network r.pair.src r.pair.dst (map narrow_number s.links)) (λ s. is_path h.network r.pair.src r.pair.dst s.links) (λ s. path_test_kept h.network r.pair.src r.pair.dst s.links le) r.paths
 
 made_pair : (r : PairRoutes) (s d : ℕ) (paths : List PathShare) → s ≡ r.pair.src → d ≡ r.pair.dst → paths ≡ r.paths → ◌≡◌ {A = PairRoutes} (record { pair = record { src = s; dst = d }; paths = paths }) r
 made_pair r s d paths e f g = rw (e, f, g) refl
@@ -248,21 +248,21 @@ routes_whole : (h : Head) → node_count h.network ≤ widest → link_count h.n
     → ((p : ℕ) → p < length h.routes → is_sound_pair h p ≡ true) → ((p : ℕ) → p < length h.routes → has_sound_paths h p ≡ true) → map keep_pair h.routes ≡ h.routes
 routes_whole h nodes links pairs paths = map_whole keep_pair h.routes no_routes (λ p lt. one p (pair_whole h p nodes (pairs p lt)) (paths p lt))
   where
-    one : (p : ℕ) → (kept (source_of h.routes p) ≡ source_of h.routes p) × (kept (destination_of h.routes p) ≡ destination_of h.routes p) → has_sound_paths h p ≡ true → keep_pair (routes_at h.routes p) ≡ routes_at h.routes p
+    one : (p : ℕ) → (narrow_number (source_of h.routes p) ≡ source_of h.routes p) × (narrow_number (destination_of h.routes p) ≡ destination_of h.routes p) → has_sound_paths h p ≡ true → keep_pair (routes_at h.routes p) ≡ routes_at h.routes p
     one p pair sound =
         let r = routes_at h.routes p in
         let whole : map keep_path r.paths ≡ r.paths =
         map_whole_all keep_path (λ s. is_path h.network r.pair.src r.pair.dst s.links)
         (λ s ok. ap (λ (ks : List ℕ). record { links = ks; weight = s.weight })
         (chained_whole h.network r.pair.dst links s.links r.pair.src (and_true (chains h.network r.pair.src r.pair.dst s.links) (is_distinct (nodes_visited h.network r.pair.src s.links)) ok).0)) r.paths sound in
-        made_pair r (kept r.pair.src) (kept r.pair.dst) (map keep_path r.paths) pair.0 pair.1 whole
+        made_pair r (narrow_number r.pair.src) (narrow_number r.pair.dst) (map keep_path r.paths) pair.0 pair.1 whole
 
 -- ---- rows and blocks
 
 small_rows_kept : (n : ℕ) → n ≤ widest → (rows : List Row) → list_all (λ r. ltb r.source n && list_all is_small r.potential) (map keep_row rows) ≡ list_all (λ r. ltb r.source n && list_all is_small r.potential) rows
 small_rows_kept n le rows =
     list_all-map (λ r. ltb r.source n && list_all is_small r.potential) keep_row rows
-    ∙ list_all_same (λ r. ltb (kept r.source) n && list_all is_small r.potential) (λ r. ltb r.source n && list_all is_small r.potential)
+    ∙ list_all_same (λ r. ltb (narrow_number r.source) n && list_all is_small r.potential) (λ r. ltb r.source n && list_all is_small r.potential)
     (λ r. ap (λ (b : Bool). b && list_all is_small r.potential) (kept_below r.source n le)) rows
 
 rows_whole : (n : ℕ) → n ≤ widest → (rows : List Row) → list_all (λ r. ltb r.source n && list_all is_small r.potential) rows ≡ true → map keep_row rows ≡ rows
@@ -292,7 +292,7 @@ sound_block_kept : (net : Network) (blocks : List Block) (k : ℕ) → link_coun
 sound_block_kept net blocks k le =
     let b = block_at blocks k in
     let numbers : has_block_numbers net (keep_block b) ≡ has_block_numbers net b = ap (λ (x : Bool). x && leb b.a (2 ^ 36) && leb 1 b.b && leb b.b (2 ^ 36)) (kept_below b.link (link_count net) le) in
-    bounded_same (has_block_numbers net (keep_block b)) (has_block_numbers net b) (follows (link_before (map keep_block blocks) k) (kept b.link)) (follows (link_before blocks k) b.link) numbers
+    bounded_same (has_block_numbers net (keep_block b)) (has_block_numbers net b) (follows (link_before (map keep_block blocks) k) (narrow_number b.link)) (follows (link_before blocks k) b.link) numbers
     (λ ok.
     let low : b.link < link_count net = grind (arith, nat_tests) in
     ap (λ (l : ℕ). follows (link_before (map keep_block blocks) k) l) (kept_whole b.link (omega arith)) ∙ follows_kept blocks k b.link (omega arith))
@@ -301,7 +301,7 @@ block_whole : (net : Network) (before : Option ℕ) (b : Block) → node_count n
 block_whole net before b nodes links sound small =
     let low : b.link < link_count net = grind (arith, nat_tests) in
     let rows : list_all (λ r. ltb r.source (node_count net) && list_all is_small r.potential) b.rows ≡ true = grind (arith, nat_tests) in
-    made b (kept b.link) (map keep_row b.rows) (kept_whole b.link (omega arith)) (rows_whole (node_count net) nodes b.rows rows)
+    made b (narrow_number b.link) (map keep_row b.rows) (kept_whole b.link (omega arith)) (rows_whole (node_count net) nodes b.rows rows)
   where
     made : (b : Block) (link : ℕ) (rows : List Row) → link ≡ b.link → rows ≡ b.rows → ◌≡◌ {A = Block} (record { link = link; a = b.a; b = b.b; weights = b.weights; rows = rows; plus = b.plus; minus = b.minus }) b
     made b link rows e f = rw (e, f) refl

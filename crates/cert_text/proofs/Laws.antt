@@ -8,8 +8,8 @@ use Rattle.te_model.specs.Shape.{is_shaped}
 use Rattle.te_model.specs.declared.certificate.RuleFault.{RuleFault}
 use Rattle.te_model.specs.Formats.{limits_of}
 use Rattle.cert_text.specs.Place.{Place, place}
-use Rattle.cert_text.specs.Reading.{kept}
-use Rattle.cert_text.specs.Grammar.{certificate_at}
+use Rattle.cert_text.specs.Reading.{narrow_number}
+use Rattle.cert_text.specs.Grammar.{read_certificate}
 use Rattle.cert_text.specs.Fits.{FitsFormat}
 use Rattle.cert_text.specs.Kept.{keep_certificate}
 use Rattle.cert_text.proofs.Decimals.{bind_ok, ok_is}
@@ -28,24 +28,24 @@ use Rattle.std.proofs.lemmas.Bool.Decides.{nat_tests}
 abbrev pub WasText : List ℕ → Certificate → Type 0
 WasText bytes c = (e : Certificate) × FitsFormat e × (bytes ≡ text e) × (c ≡ keep_certificate e)
 
-pub read_is_text : (bytes : List ℕ) (c : Certificate) (q : Place) → certificate_at kept (place 1 bytes) ≡ Ok (c, q) → WasText bytes c
+pub read_is_text : (bytes : List ℕ) (c : Certificate) (q : Place) → read_certificate narrow_number (place 1 bytes) ≡ Ok (c, q) → WasText bytes c
 read_is_text bytes c q e =
-    let natural : carry keep_certificate (certificate_at exact (place 1 bytes)) ≡ Ok (c, q) = sym (certificate_kept (place 1 bytes)) ∙ e in
-    let a = bind_ok (certificate_at exact (place 1 bytes)) (λ x. Ok (keep_certificate x.0, x.1)) (c, q) natural in
+    let natural : carry keep_certificate (read_certificate exact (place 1 bytes)) ≡ Ok (c, q) = sym (certificate_kept (place 1 bytes)) ∙ e in
+    let a = bind_ok (read_certificate exact (place 1 bytes)) (λ x. Ok (keep_certificate x.0, x.1)) (c, q) natural in
     let t = certificate_takes (place 1 bytes) a.0.0 a.0.1 a.1 in
     let same : keep_certificate a.0.0 ≡ c = ap (λ (y : Certificate × Place). y.0) (ok_is {A = Certificate × Place} (keep_certificate a.0.0, a.0.1) (c, q) a.2) in
     (a.0.0, t.good, t.parts ∙ sym (text_is a.0.0), sym same)
 
 -- a text is read again, and nothing after it
-text_again : (e : Certificate) (r : List ℕ) → FitsFormat e → (m : ℕ) × (certificate_at exact (place 1 (text e ++ r)) ≡ at_end e m r)
+text_again : (e : Certificate) (r : List ℕ) → FitsFormat e → (m : ℕ) × (read_certificate exact (place 1 (text e ++ r)) ≡ at_end e m r)
 text_again e r fits =
     let a = certificate_again e 1 r fits in
-    (a.0, ap (λ (bs : List ℕ). certificate_at exact (place 1 (bs ++ r))) (text_is e) ∙ a.1)
+    (a.0, ap (λ (bs : List ℕ). read_certificate exact (place 1 (bs ++ r))) (text_is e) ∙ a.1)
 
-pub text_is_read : (e : Certificate) → FitsFormat e → (m : ℕ) × (certificate_at kept (place 1 (text e)) ≡ Ok (keep_certificate e, place m []))
+pub text_is_read : (e : Certificate) → FitsFormat e → (m : ℕ) × (read_certificate narrow_number (place 1 (text e)) ≡ Ok (keep_certificate e, place m []))
 text_is_read e fits =
     let a = text_again e [] fits in
-    let whole : certificate_at exact (place 1 (text e)) ≡ Ok (e, place a.0 []) = ap (λ (bs : List ℕ). certificate_at exact (place 1 bs)) (sym (append-nil (text e))) ∙ a.1 in
+    let whole : read_certificate exact (place 1 (text e)) ≡ Ok (e, place a.0 []) = ap (λ (bs : List ℕ). read_certificate exact (place 1 bs)) (sym (append-nil (text e))) ∙ a.1 in
     (a.0, certificate_kept _ ∙ ap (carry keep_certificate) whole)
 
 -- no text of the format has the first k lines of the bytes
@@ -57,22 +57,22 @@ stopped : {A : Type 0} (r : Result A ℕ) (k : ℕ) (y : A) → r ≡ Err k → 
 stopped r k y e f = cc
 
 -- up to the line at fault the bytes are those of no text
-no_text : (bytes : List ℕ) (k : ℕ) → certificate_at exact (place 1 bytes) ≡ Err k → IsNoTextsLine bytes k
+no_text : (bytes : List ℕ) (k : ℕ) → read_certificate exact (place 1 bytes) ≡ Err k → IsNoTextsLine bytes k
 no_text bytes k fault e fits shares =
     let front = shares.0 in
-    let here : certificate_at exact (place 1 (front ++ shares.1)) ≡ Err k = ap (λ (bs : List ℕ). certificate_at exact (place 1 bs)) (sym shares.3) ∙ fault in
-    let there : certificate_at exact (place 1 (front ++ shares.2)) ≡ Err k = moved (certificate_at exact (place 1 (front ++ shares.1))) here ((certificate_steady exact).local 1 front shares.1 shares.2).1 in
+    let here : read_certificate exact (place 1 (front ++ shares.1)) ≡ Err k = ap (λ (bs : List ℕ). read_certificate exact (place 1 bs)) (sym shares.3) ∙ fault in
+    let there : read_certificate exact (place 1 (front ++ shares.2)) ≡ Err k = moved (read_certificate exact (place 1 (front ++ shares.1))) here ((certificate_steady exact).local 1 front shares.1 shares.2).1 in
     let again = text_again e [] fits in
-    stopped (certificate_at exact (place 1 (front ++ shares.2))) k (e, place again.0 []) there
-    (ap (λ (bs : List ℕ). certificate_at exact (place 1 bs)) (sym shares.4 ∙ sym (append-nil (text e))) ∙ again.1)
+    stopped (read_certificate exact (place 1 (front ++ shares.2))) k (e, place again.0 []) there
+    (ap (λ (bs : List ℕ). read_certificate exact (place 1 bs)) (sym shares.4 ∙ sym (append-nil (text e))) ∙ again.1)
   where
-    moved : (r : Result (Certificate × Place) ℕ) → r ≡ Err k → GoesSame (1 + line_ends shares.0) shares.1 shares.2 r (certificate_at exact (place 1 (shares.0 ++ shares.2))) → certificate_at exact (place 1 (shares.0 ++ shares.2)) ≡ Err k
+    moved : (r : Result (Certificate × Place) ℕ) → r ≡ Err k → GoesSame (1 + line_ends shares.0) shares.1 shares.2 r (read_certificate exact (place 1 (shares.0 ++ shares.2))) → read_certificate exact (place 1 (shares.0 ++ shares.2)) ≡ Err k
     moved (Ok x) e h = absurd cc
     moved (Err j) e h = let same : j ≡ k = cc in let below : j < 1 + line_ends shares.0 = omega (arith, shares.5) in h below ∙ ap (λ (i : ℕ). Err i) same
 
 -- a fault is one whether or not wide numbers are kept whole
-fault_exact : (p : Place) (k : ℕ) → certificate_at kept p ≡ Err k → certificate_at exact p ≡ Err k
-fault_exact p k fault = carried (certificate_at exact p) (sym (certificate_kept p) ∙ fault)
+fault_exact : (p : Place) (k : ℕ) → read_certificate narrow_number p ≡ Err k → read_certificate exact p ≡ Err k
+fault_exact p k fault = carried (read_certificate exact p) (sym (certificate_kept p) ∙ fault)
   where
     carried : (r : Result (Certificate × Place) ℕ) → carry keep_certificate r ≡ Err k → r ≡ Err k
     carried (Ok x) e = absurd cc
@@ -82,14 +82,14 @@ fault_exact p k fault = carried (certificate_at exact p) (sym (certificate_kept 
 abbrev pub HasTextsLines : List ℕ → ℕ → Type 0
 HasTextsLines bytes k = (e : Certificate) × FitsFormat e × SharesLines k bytes (text e)
 
-text_goes_on : (bytes front left more : List ℕ) (e : Certificate) (line : ℕ) → bytes ≡ front ++ left → certificate_at exact (place 1 (front ++ more)) ≡ Ok (e, place line [])
+text_goes_on : (bytes front left more : List ℕ) (e : Certificate) (line : ℕ) → bytes ≡ front ++ left → read_certificate exact (place 1 (front ++ more)) ≡ Ok (e, place line [])
     → HasTextsLines bytes (line_ends front)
 text_goes_on bytes front left more e line parts read =
     let t = certificate_takes (place 1 (front ++ more)) e (place line []) read in
     (e, t.good, (front, left, more, parts, text_is e ∙ sym t.parts, refl))
 
 -- before the line at fault the bytes are those of a text
-pub fault_reached : (bytes : List ℕ) (k : ℕ) → certificate_at exact (place 1 bytes) ≡ Err k → (1 ≤ k) × HasTextsLines bytes (k - 1)
+pub fault_reached : (bytes : List ℕ) (k : ℕ) → read_certificate exact (place 1 bytes) ≡ Err k → (1 ≤ k) × HasTextsLines bytes (k - 1)
 fault_reached bytes k fault =
     let c = (certificate_steady exact).completable in
     let h = c.completes 1 bytes k (begins_with_none bytes) fault in (
@@ -111,8 +111,8 @@ pub one_text : (e o : Certificate) (r : List ℕ) → FitsFormat e → FitsForma
 one_text e o r fits fits' longer =
     let one = text_again e r fits in
     let two = text_again o [] fits' in
-    let again : certificate_at exact (place 1 (text e ++ r)) ≡ Ok (o, place two.0 []) =
-    ap (λ (bs : List ℕ). certificate_at exact (place 1 bs)) (sym longer ∙ sym (append-nil (text o))) ∙ two.1 in
+    let again : read_certificate exact (place 1 (text e ++ r)) ≡ Ok (o, place two.0 []) =
+    ap (λ (bs : List ℕ). read_certificate exact (place 1 bs)) (sym longer ∙ sym (append-nil (text o))) ∙ two.1 in
     ended r one.0 two.0 (sym one.1 ∙ again)
   where
     ended : (r : List ℕ) (m k : ℕ) → at_end e m r ≡ Ok (o, place k []) → (e ≡ o) × (r ≡ [])
@@ -122,18 +122,18 @@ one_text e o r fits fits' longer =
 -- ---- faults of shape
 
 -- a text is read
-text_is_exact : (bytes : List ℕ) (e : Certificate) → FitsFormat e → bytes ≡ text e → (m : ℕ) × (certificate_at exact (place 1 bytes) ≡ Ok (e, place m []))
+text_is_exact : (bytes : List ℕ) (e : Certificate) → FitsFormat e → bytes ≡ text e → (m : ℕ) × (read_certificate exact (place 1 bytes) ≡ Ok (e, place m []))
 text_is_exact bytes e fits same =
     let again = text_again e [] fits in
-    (again.0, ap (λ (bs : List ℕ). certificate_at exact (place 1 bs)) (same ∙ sym (append-nil (text e))) ∙ again.1)
+    (again.0, ap (λ (bs : List ℕ). read_certificate exact (place 1 bs)) (same ∙ sym (append-nil (text e))) ∙ again.1)
 
 -- the line at which reading stops is that of the fault of shape
-pub stop_is_fault : (bytes : List ℕ) (k : ℕ) → certificate_at exact (place 1 bytes) ≡ Err k → IsShapeFault bytes k
+pub stop_is_fault : (bytes : List ℕ) (k : ℕ) → read_certificate exact (place 1 bytes) ≡ Err k → IsShapeFault bytes k
 stop_is_fault bytes k fault =
     let reached = fault_reached bytes k fault in
     record {
       counted = reached.0;
-      no_file = λ e shaped same. let t = text_is_exact bytes e (shaped_fits e shaped) same in stopped (certificate_at exact (place 1 bytes)) k (e, place t.0 []) fault t.1;
+      no_file = λ e shaped same. let t = text_is_exact bytes e (shaped_fits e shaped) same in stopped (read_certificate exact (place 1 bytes)) k (e, place t.0 []) fault t.1;
       before = let t = reached.1 in (t.0, fits_shaped t.0 t.1, t.2);
       leaves = λ begins. no_text bytes k fault begins.0 (shaped_fits begins.0 begins.1) begins.2;
     }
@@ -184,13 +184,13 @@ one_shape_fault bytes j k f g =
 -- bytes are the file of some rightly shaped certificate, or have a fault of shape
 pub file_or_fault : (bytes : List ℕ)
     → ((e : Certificate) × FitsFormat e × (bytes ≡ text e)) ⊎ ((k : ℕ) × IsShapeFault bytes k)
-file_or_fault bytes = cases (certificate_at exact (place 1 bytes)) refl
+file_or_fault bytes = cases (read_certificate exact (place 1 bytes)) refl
   where
-    cases : (r : Result (Certificate × Place) ℕ) → certificate_at exact (place 1 bytes) ≡ r → ((e : Certificate) × FitsFormat e × (bytes ≡ text e)) ⊎ ((k : ℕ) × IsShapeFault bytes k)
+    cases : (r : Result (Certificate × Place) ℕ) → read_certificate exact (place 1 bytes) ≡ r → ((e : Certificate) × FitsFormat e × (bytes ≡ text e)) ⊎ ((k : ℕ) × IsShapeFault bytes k)
     cases (Ok x) read = let t = certificate_takes (place 1 bytes) x.0 x.1 read in inl (x.0, t.good, t.parts ∙ sym (text_is x.0))
     cases (Err k) read = inr (k, stop_is_fault bytes k read)
 
-pub fault_is : (bytes : List ℕ) (k : ℕ) → certificate_at kept (place 1 bytes) ≡ Err k → IsShapeFault bytes k
+pub fault_is : (bytes : List ℕ) (k : ℕ) → read_certificate narrow_number (place 1 bytes) ≡ Err k → IsShapeFault bytes k
 fault_is bytes k fault = stop_is_fault bytes k (fault_exact (place 1 bytes) k fault)
 
 pub one_fault : (bytes : List ℕ) (j k : ℕ) → IsShapeFault bytes j → IsShapeFault bytes k → j ≡ k

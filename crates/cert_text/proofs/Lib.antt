@@ -1,5 +1,6 @@
 pub mod Digits
 pub mod Loop
+pub mod Taking
 pub mod Decimals
 pub mod Tokens
 pub mod Productions

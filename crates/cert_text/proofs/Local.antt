@@ -1,12 +1,12 @@
 -- What is read before a fault depends on the lines up to the fault alone.
-use Rattle.std.proofs.Common.{◌≡◌, ℕ, zero, suc, ◌+◌, ◌-◌, ◌*◌, ◌^◌, ◌<◌, ◌≤◌, Bool, true, false, ◌&&◌, not, cond, List, [], ◌∷◌, ◌++◌, length, Result, Ok, Err, refl, sym, ap, subst, arith, eqb, ltb, get_or, inl, inr}
+use Rattle.std.proofs.Common.{◌≡◌, ℕ, suc, ◌+◌, ◌-◌, ◌*◌, ◌^◌, ◌<◌, ◌≤◌, Bool, true, false, ◌&&◌, not, cond, List, [], ◌∷◌, ◌++◌, length, Result, Ok, Err, refl, sym, ap, subst, arith, eqb, ltb, get_or, inl, inr}
 use Rattle.std.specs.Prelude.{nat_le}
 use Rattle.std.specs.Char.{is_ascii_digit}
 use Rattle.std.proofs.lemmas.Bool.{cases_lt, eqb-true}
 use Rattle.std.proofs.lemmas.Bool.Decides.{nat_tests}
 use Rattle.te_model.specs.Network.{is_name_byte}
 use Rattle.cert_text.specs.Place.{Place, place, ◌>>=◌}
-use Rattle.cert_text.specs.Reading.{byte_from, byte_at, word_at, line_end_at, digits_from, number_from, number_at, count_at, narrow_at, next_number_at, next_narrow_at, next_count_at, many_at, name_from, name_at}
+use Rattle.cert_text.specs.Reading.{byte_from, read_byte, read_line_end, read_digits, number_from, read_number, read_count, name_from, read_name}
 use Rattle.te_model.specs.Faults.{line_ends}
 
 -- the line of the fault, or of the place after what was read, is this one or a later one
@@ -73,11 +73,6 @@ done_local x n u v w = (omega arith, λ lt. (u, refl, refl, refl))
 
 -- ---- tokens
 
--- where a line line_ends in u, u has a first byte
-pub some_byte : (u : List ℕ) → 0 < line_ends u → (b : ℕ) × (bs : List ℕ) × (u ≡ b ∷ bs)
-some_byte [] h = absurd (omega arith)
-some_byte (b ∷ bs) h = (b, bs, refl)
-
 vacuous : {X : Type 0} (n : ℕ) (v w : List ℕ) (r s : Result (X × Place) ℕ) → IsFrom n r → IsFrom n r × GoesSame (n + line_ends []) v w r s
 vacuous n v w r s from = (from, late n (n + 0) v w r s from (omega arith))
 
@@ -90,7 +85,7 @@ byte_from_line n b (x ∷ xs) = chosen (eqb x b)
     chosen false = omega arith
 
 -- a byte that is no line feed
-pub byte_local : (b : ℕ) → eqb b 10 ≡ false → IsLocal (silent (byte_at b))
+pub byte_local : (b : ℕ) → eqb b 10 ≡ false → IsLocal (silent (read_byte b))
 byte_local b no_end n [] v w = vacuous n v w (byte_from n b v >>= quiet) (byte_from n b w >>= quiet) (byte_from_line n b v)
 byte_local b no_end n (x ∷ u) v w = chosen (eqb x b) refl
   where
@@ -100,10 +95,10 @@ byte_local b no_end n (x ∷ u) v w = chosen (eqb x b) refl
         (omega arith, λ lt. (u, refl, refl, rw same refl))
     chosen false is = (omega arith, λ lt. refl)
 
-pub line_end_local : IsLocal (silent line_end_at)
-line_end_local n [] v w = vacuous n v w (silent line_end_at (place n v)) (silent line_end_at (place n w)) (from v)
+pub line_end_local : IsLocal (silent read_line_end)
+line_end_local n [] v w = vacuous n v w (silent read_line_end (place n v)) (silent read_line_end (place n w)) (from v)
   where
-    from : (xs : List ℕ) → IsFrom n (silent line_end_at (place n xs))
+    from : (xs : List ℕ) → IsFrom n (silent read_line_end (place n xs))
     from [] = omega arith
     from (x ∷ xs) = chosen (eqb x 10)
       where
@@ -117,23 +112,23 @@ line_end_local n (x ∷ u) v w = chosen (eqb x 10) refl
     chosen false is = (omega arith, λ lt. refl)
 
 -- digits
-digits_from_line : (n d : ℕ) (xs : List ℕ) → IsFrom n (digits_from n d xs)
+digits_from_line : (n d : ℕ) (xs : List ℕ) → IsFrom n (read_digits n d xs)
 digits_from_line n d [] = omega arith
 digits_from_line n d (x ∷ xs) = chosen (is_ascii_digit x) (eqb d 0) (ltb (d * 10 + (x - 48)) (2 ^ 64)) (digits_from_line n (d * 10 + (x - 48)) xs)
   where
-    chosen : (t z f : Bool) → IsFrom n (digits_from n (d * 10 + (x - 48)) xs) → IsFrom n (cond t (cond z (Err n) (cond f (digits_from n (d * 10 + (x - 48)) xs) (Err n))) (Ok (d, place n (x ∷ xs))))
+    chosen : (t z f : Bool) → IsFrom n (read_digits n (d * 10 + (x - 48)) xs) → IsFrom n (cond t (cond z (Err n) (cond f (read_digits n (d * 10 + (x - 48)) xs) (Err n))) (Ok (d, place n (x ∷ xs))))
     chosen true true f h = omega arith
     chosen true false true h = h
     chosen true false false h = omega arith
     chosen false z f h = omega arith
 
-digits_local : (d : ℕ) → IsLocal (λ p. digits_from p.line d p.rest)
-digits_local d n [] v w = vacuous n v w (digits_from n d v) (digits_from n d w) (digits_from_line n d v)
+digits_local : (d : ℕ) → IsLocal (λ p. read_digits p.line d p.rest)
+digits_local d n [] v w = vacuous n v w (read_digits n d v) (read_digits n d w) (digits_from_line n d v)
 digits_local d n (x ∷ u) v w = chosen (is_ascii_digit x) (eqb d 0) (ltb (d * 10 + (x - 48)) (2 ^ 64)) refl (digits_local (d * 10 + (x - 48)) n u v w)
   where
-    chosen : (t z f : Bool) → is_ascii_digit x ≡ t → IsFrom n (digits_from n (d * 10 + (x - 48)) (u ++ v)) × GoesSame (n + line_ends u) v w (digits_from n (d * 10 + (x - 48)) (u ++ v)) (digits_from n (d * 10 + (x - 48)) (u ++ w))
-        → IsFrom n (cond t (cond z (Err n) (cond f (digits_from n (d * 10 + (x - 48)) (u ++ v)) (Err n))) (Ok (d, place n (x ∷ (u ++ v)))))
-        × GoesSame (n + line_ends (x ∷ u)) v w (cond t (cond z (Err n) (cond f (digits_from n (d * 10 + (x - 48)) (u ++ v)) (Err n))) (Ok (d, place n (x ∷ (u ++ v))))) (cond t (cond z (Err n) (cond f (digits_from n (d * 10 + (x - 48)) (u ++ w)) (Err n))) (Ok (d, place n (x ∷ (u ++ w)))))
+    chosen : (t z f : Bool) → is_ascii_digit x ≡ t → IsFrom n (read_digits n (d * 10 + (x - 48)) (u ++ v)) × GoesSame (n + line_ends u) v w (read_digits n (d * 10 + (x - 48)) (u ++ v)) (read_digits n (d * 10 + (x - 48)) (u ++ w))
+        → IsFrom n (cond t (cond z (Err n) (cond f (read_digits n (d * 10 + (x - 48)) (u ++ v)) (Err n))) (Ok (d, place n (x ∷ (u ++ v)))))
+        × GoesSame (n + line_ends (x ∷ u)) v w (cond t (cond z (Err n) (cond f (read_digits n (d * 10 + (x - 48)) (u ++ v)) (Err n))) (Ok (d, place n (x ∷ (u ++ v))))) (cond t (cond z (Err n) (cond f (read_digits n (d * 10 + (x - 48)) (u ++ w)) (Err n))) (Ok (d, place n (x ∷ (u ++ w)))))
     chosen true true f digit h = (omega arith, λ lt. refl)
     chosen true false true digit h =
         let no_end : eqb x 10 ≡ false = grind (arith, nat_tests) in
@@ -148,18 +143,18 @@ number_from_local n [] v w = vacuous n v w (number_from n v) (number_from n w) (
     from [] = omega arith
     from (x ∷ xs) = chosen (is_ascii_digit x) (digits_from_line n (x - 48) xs)
       where
-        chosen : (t : Bool) → IsFrom n (digits_from n (x - 48) xs) → IsFrom n (cond t (digits_from n (x - 48) xs) (Err n))
+        chosen : (t : Bool) → IsFrom n (read_digits n (x - 48) xs) → IsFrom n (cond t (read_digits n (x - 48) xs) (Err n))
         chosen true h = h
         chosen false h = omega arith
 number_from_local n (x ∷ u) v w = chosen (is_ascii_digit x) refl (digits_local (x - 48) n u v w)
   where
-    chosen : (t : Bool) → is_ascii_digit x ≡ t → IsFrom n (digits_from n (x - 48) (u ++ v)) × GoesSame (n + line_ends u) v w (digits_from n (x - 48) (u ++ v)) (digits_from n (x - 48) (u ++ w))
-        → IsFrom n (cond t (digits_from n (x - 48) (u ++ v)) (Err n)) × GoesSame (n + line_ends (x ∷ u)) v w (cond t (digits_from n (x - 48) (u ++ v)) (Err n)) (cond t (digits_from n (x - 48) (u ++ w)) (Err n))
+    chosen : (t : Bool) → is_ascii_digit x ≡ t → IsFrom n (read_digits n (x - 48) (u ++ v)) × GoesSame (n + line_ends u) v w (read_digits n (x - 48) (u ++ v)) (read_digits n (x - 48) (u ++ w))
+        → IsFrom n (cond t (read_digits n (x - 48) (u ++ v)) (Err n)) × GoesSame (n + line_ends (x ∷ u)) v w (cond t (read_digits n (x - 48) (u ++ v)) (Err n)) (cond t (read_digits n (x - 48) (u ++ w)) (Err n))
     chosen true digit h = let no_end : eqb x 10 ≡ false = grind (arith, nat_tests) in rw no_end h
     chosen false digit h = (omega arith, λ lt. refl)
 
-pub number_local : IsLocal number_at
-unfolding number_at
+pub number_local : IsLocal read_number
+unfolding read_number
 number_local = number_from_local
 
 guard_local : {X : Type 0} (x : X) (t : Bool) → IsLocal (λ p. cond t (Ok (x, p)) (Err p.line))
@@ -170,31 +165,9 @@ unless_local : {X : Type 0} (x : X) (t : Bool) → IsLocal (λ p. cond t (Err p.
 unless_local x false n u v w = (omega arith, λ lt. (u, refl, refl, refl))
 unless_local x true n u v w = (omega arith, λ lt. refl)
 
-pub count_local : (low high : ℕ) → IsLocal (count_at low high)
-unfolding count_at
-count_local low high = then_local number_at (λ x p. cond (nat_le low x && nat_le x high) (Ok (x, p)) (Err p.line)) number_local (λ x. guard_local x (nat_le low x && nat_le x high))
-
-narrow_local : (keep : ℕ → ℕ) → IsLocal (narrow_at keep)
-unfolding narrow_at
-narrow_local keep = then_local number_at (λ x p. Ok (keep x, p)) number_local (λ x. done_local (keep x))
-
-next_number_local : IsLocal next_number_at
-unfolding next_number_at
-next_number_local = then_silent (byte_at 32) number_at (byte_local 32 refl) number_local
-
-next_narrow_local : (keep : ℕ → ℕ) → IsLocal (next_narrow_at keep)
-unfolding next_narrow_at
-next_narrow_local keep = then_silent (byte_at 32) (narrow_at keep) (byte_local 32 refl) (narrow_local keep)
-
-next_count_local : (low high : ℕ) → IsLocal (next_count_at low high)
-unfolding next_count_at
-next_count_local low high = then_silent (byte_at 32) (count_at low high) (byte_local 32 refl) (count_local low high)
-
-many_local : {X : Type 0} (item : Place → Result (X × Place) ℕ) → IsLocal item → (n : ℕ) → IsLocal (many_at n item)
-unfolding many_at
-many_local item l zero = done_local []
-many_local {X} item l (suc n) = then_local item (λ x p. many_at n item p >>= λ others. Ok (x ∷ others.0, others.1)) l
-    (λ x. then_local (many_at n item) (λ xs p. Ok (x ∷ xs, p)) (many_local item l n) (λ xs. done_local (x ∷ xs)))
+pub count_local : (low high : ℕ) → IsLocal (read_count low high)
+unfolding read_count
+count_local low high = then_local read_number (λ x p. cond (nat_le low x && nat_le x high) (Ok (x, p)) (Err p.line)) number_local (λ x. guard_local x (nat_le low x && nat_le x high))
 
 name_from_line : (n : ℕ) (front xs : List ℕ) → IsFrom n (name_from n front xs)
 name_from_line n front [] = omega arith
@@ -216,8 +189,8 @@ letters_local front n (x ∷ u) v w = chosen (is_name_byte x) (eqb (length front
     chosen true false letter h = let no_end : eqb x 10 ≡ false = grind (arith, nat_tests) in rw no_end h
     chosen false f letter h = (omega arith, λ lt. (x ∷ u, refl, refl, refl))
 
-pub name_local : IsLocal name_at
-unfolding name_at
+pub name_local : IsLocal read_name
+unfolding read_name
 name_local = then_local (λ p. name_from p.line [] p.rest) (λ x p. cond (eqb (length x) 0) (Err p.line) (Ok (x, p))) (letters_local []) (λ x. unless_local x (eqb (length x) 0))
 
 pub same_local : {X : Type 0} (f g : Place → Result (X × Place) ℕ) → ((p : Place) → f p ≡ g p) → IsLocal f → IsLocal g
@@ -233,14 +206,6 @@ regroup_silent (Err k) f = refl
 abbrev pub is_one_line : List ℕ → Bool
 is_one_line [] = true
 is_one_line (b ∷ bs) = not (eqb b 10) && is_one_line bs
-
-pub word_local : (w : List ℕ) → is_one_line w ≡ true → IsLocal (silent (word_at w))
-word_local [] one = done_local tt
-word_local (b ∷ bs) one =
-    let first : eqb b 10 ≡ false = grind (arith, nat_tests) in
-    let others : is_one_line bs ≡ true = grind (arith, nat_tests) in
-    same_local (λ p. byte_at b p >>= silent (word_at bs)) (silent (word_at (b ∷ bs))) (λ p. regroup_silent (byte_at b p) (word_at bs))
-    (then_silent (byte_at b) (silent (word_at bs)) (byte_local b first) (word_local bs others))
 
 -- two ways to read, of which the first is taken where this byte stands next
 pub fork_local : {X : Type 0} (byte : ℕ) (f g : Place → Result (X × Place) ℕ) → IsLocal f → IsLocal g → IsLocal (λ a. cond (eqb (get_or a.rest 0 0) byte) (f a) (g a))

@@ -9,12 +9,12 @@ use Rattle.te_model.specs.Faults.{IsShapeFault, IsRuleFault}
 use Rattle.cert_text.specs.declared.fault.CertFault.{CertFault}
 use Rattle.cert_text.specs.declared.fault.CertFault.TheVariants as faults
 use Rattle.cert_text.specs.Place.{Place, place}
-use Rattle.cert_text.specs.Reading.{kept}
-use Rattle.cert_text.specs.Grammar.{certificate_at}
+use Rattle.cert_text.specs.Reading.{narrow_number}
+use Rattle.cert_text.specs.Grammar.{read_certificate}
 use Rattle.cert_text.specs.Fits.{FitsFormat}
 use Rattle.cert_text.specs.Kept.{keep_certificate}
-use Rattle.cert_text.specs.Answer.{IsShaped, IsAnswer}
-use Rattle.cert_text.specs.Outcome.{GivesOrMemory}
+use Rattle.cert_text.specs.Answer.{IsShaped, IsAnswerOfReading}
+use Rattle.cert_text.specs.Outcome.{IsDueOrMemory}
 use Rattle.cert_text.proofs.Decimals.{ok_is}
 use Rattle.cert_text.proofs.Shaped.{shaped_fits, fits_shaped}
 use Rattle.cert_text.proofs.KeptRules.{first_rule_kept, valid_kept}
@@ -22,7 +22,7 @@ use Rattle.cert_text.proofs.Laws.{read_is_text, text_is_read, fault_is, one_faul
 
 -- what is read of the bytes
 abbrev pub read_of : List ℕ → Result (Certificate × Place) ℕ
-read_of bytes = certificate_at kept (place 1 bytes)
+read_of bytes = read_certificate narrow_number (place 1 bytes)
 
 -- what is read of a text is what is kept of its certificate
 what_is_read : (bytes : List ℕ) (e c : Certificate) (q : Place) → FitsFormat e → bytes ≡ text e → read_of bytes ≡ Ok (c, q) → c ≡ keep_certificate e
@@ -38,7 +38,7 @@ no_fault bytes e k fits same fault =
     let both : Err k ≡ Ok (keep_certificate e, place again.0 []) = sym fault ∙ ap read_of same ∙ again.1 in
     absurd cc
 
-pub is_spelled : (bytes : List ℕ) (r : Result Certificate CertFault) → IsAnswer r (read_of bytes) → IfOk r (λ c. Spells bytes c)
+pub is_spelled : (bytes : List ℕ) (r : Result Certificate CertFault) → IsAnswerOfReading r (read_of bytes) → IfOk r (λ c. Spells bytes c)
 is_spelled bytes (Err f) h = tt
 is_spelled bytes (Ok c) h =
     let was = read_is_text bytes c h.0 h.1 in
@@ -47,7 +47,7 @@ is_spelled bytes (Ok c) h =
     let same : was.0 ≡ c = sym (valid_kept was.0 fits valid) ∙ sym was.3 in
     subst (λ (y : Certificate). Spells bytes y) same ((fits_shaped was.0 fits, valid), was.2)
 
-pub is_accepted : (bytes : List ℕ) (r : Result Certificate CertFault) → IsAnswer r (read_of bytes) → (c : Certificate) → Spells bytes c → GivesOrMemory r (Ok c)
+pub is_accepted : (bytes : List ℕ) (r : Result Certificate CertFault) → IsAnswerOfReading r (read_of bytes) → (c : Certificate) → Spells bytes c → IsDueOrMemory r (Ok c)
 is_accepted bytes (Ok x) h c s =
     let fits = shaped_fits c s.0.0 in
     let read : x ≡ keep_certificate c = what_is_read bytes c x h.0 fits s.1 h.1 in
@@ -60,13 +60,13 @@ is_accepted bytes (Err (faults.Rule f)) h c s =
     let fault : None ≡ Some f = sym s.0.1 ∙ ap first_rule (sym (read ∙ valid_kept c fits s.0.1)) ∙ h.3 in
     absurd cc
 
-pub is_shape_fault : (bytes : List ℕ) (r : Result Certificate CertFault) → IsAnswer r (read_of bytes) → (k : ℕ) → r ≡ Err (faults.Shape k) → IsShapeFault bytes k
+pub is_shape_fault : (bytes : List ℕ) (r : Result Certificate CertFault) → IsAnswerOfReading r (read_of bytes) → (k : ℕ) → r ≡ Err (faults.Shape k) → IsShapeFault bytes k
 is_shape_fault bytes (Ok c) h k e = absurd cc
 is_shape_fault bytes (Err faults.Memory) h k e = absurd cc
 is_shape_fault bytes (Err (faults.Rule f)) h k e = absurd cc
 is_shape_fault bytes (Err (faults.Shape j)) h k e = let same : j ≡ k = cc in subst (IsShapeFault bytes) same (fault_is bytes j h)
 
-pub is_misshaped : (bytes : List ℕ) (r : Result Certificate CertFault) → IsAnswer r (read_of bytes) → (k : ℕ) → IsShapeFault bytes k → GivesOrMemory r (Err (faults.Shape k))
+pub is_misshaped : (bytes : List ℕ) (r : Result Certificate CertFault) → IsAnswerOfReading r (read_of bytes) → (k : ℕ) → IsShapeFault bytes k → IsDueOrMemory r (Err (faults.Shape k))
 is_misshaped bytes (Ok c) h k fault =
     let was = read_is_text bytes c h.0 h.1 in
     absurd (fault.no_file was.0 (fits_shaped was.0 was.1) was.2)
@@ -76,7 +76,7 @@ is_misshaped bytes (Err (faults.Rule f)) h k fault =
     let was = read_is_text bytes h.0 h.1 h.2 in
     absurd (fault.no_file was.0 (fits_shaped was.0 was.1) was.2)
 
-pub is_rule_fault : (bytes : List ℕ) (r : Result Certificate CertFault) → IsAnswer r (read_of bytes) → (f : RuleFault) → r ≡ Err (faults.Rule f) → IsRuleFault bytes f
+pub is_rule_fault : (bytes : List ℕ) (r : Result Certificate CertFault) → IsAnswerOfReading r (read_of bytes) → (f : RuleFault) → r ≡ Err (faults.Rule f) → IsRuleFault bytes f
 is_rule_fault bytes (Ok c) h f e = absurd cc
 is_rule_fault bytes (Err faults.Memory) h f e = absurd cc
 is_rule_fault bytes (Err (faults.Shape k)) h f e = absurd cc
@@ -86,7 +86,7 @@ is_rule_fault bytes (Err (faults.Rule g)) h f e =
     let first : first_rule was.0 ≡ Some g = sym (first_rule_kept was.0 was.1) ∙ ap first_rule (sym was.3) ∙ h.3 in
     subst (IsRuleFault bytes) same (record { spelled = was.0; shaped = fits_shaped was.0 was.1; file = was.2; first = first })
 
-pub is_invalid : (bytes : List ℕ) (r : Result Certificate CertFault) → IsAnswer r (read_of bytes) → (f : RuleFault) → IsRuleFault bytes f → GivesOrMemory r (Err (faults.Rule f))
+pub is_invalid : (bytes : List ℕ) (r : Result Certificate CertFault) → IsAnswerOfReading r (read_of bytes) → (f : RuleFault) → IsRuleFault bytes f → IsDueOrMemory r (Err (faults.Rule f))
 is_invalid bytes (Ok c) h f fault =
     let fits = shaped_fits fault.spelled fault.shaped in
     let read : c ≡ keep_certificate fault.spelled = what_is_read bytes fault.spelled c h.0 fits fault.file h.1 in
@@ -102,7 +102,7 @@ is_invalid bytes (Err (faults.Rule g)) h f fault =
     inl (ap (λ (x : RuleFault). Err (faults.Rule x)) same)
 
 -- a fault of shape, or want of memory, is the answer
-pub shape_answers : (bytes : List ℕ) (e : CertFault) → IsShaped (Err e) (read_of bytes) → IsAnswer (Err e) (read_of bytes)
+pub shape_answers : (bytes : List ℕ) (e : CertFault) → IsShaped (Err e) (read_of bytes) → IsAnswerOfReading (Err e) (read_of bytes)
 shape_answers bytes faults.Memory h = tt
 shape_answers bytes (faults.Shape k) h = h
 shape_answers bytes (faults.Rule f) h = absurd h
@@ -110,6 +110,6 @@ shape_answers bytes (faults.Rule f) h = absurd h
 -- else the answer is by the rules
 pub rules_answer : (bytes : List ℕ) (x : Certificate) (r : Result Certificate CertFault) → IsShaped (Ok x) (read_of bytes)
     → MatchResult r (λ c. (c ≡ x) × (first_rule x ≡ None)) (λ e. (f : RuleFault) × (e ≡ faults.Rule f) × (first_rule x ≡ Some f))
-    → IsAnswer r (read_of bytes)
-rules_answer bytes x (Ok c) h m = subst (λ (y : Certificate). IsAnswer (Ok y) (read_of bytes)) (sym m.0) (h.0, h.1, m.1)
-rules_answer bytes x (Err e) h m = subst (λ (y : CertFault). IsAnswer (Err y) (read_of bytes)) (sym m.1) (x, h.0, h.1, m.2)
+    → IsAnswerOfReading r (read_of bytes)
+rules_answer bytes x (Ok c) h m = subst (λ (y : Certificate). IsAnswerOfReading (Ok y) (read_of bytes)) (sym m.0) (h.0, h.1, m.1)
+rules_answer bytes x (Err e) h m = subst (λ (y : CertFault). IsAnswerOfReading (Err y) (read_of bytes)) (sym m.1) (x, h.0, h.1, m.2)

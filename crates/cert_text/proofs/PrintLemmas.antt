@@ -9,26 +9,26 @@ use Rattle.te_model.specs.declared.network.Network.{Network}
 use Rattle.te_model.specs.declared.certificate.Row.{Row}
 use Rattle.te_model.specs.Text.{numbers, link_line, path_line, words}
 use Rattle.std.proofs.lemmas.List.Concat.{flat_map-append}
-use Rattle.cert_text.specs.Pieces.{spaced, ended, counted_text, link_text, path_text, pair_text, network_text, row_text, number_line}
+use Rattle.cert_text.specs.Pieces.{with_space, with_line_end, counted_text, link_text, path_text, pair_text, network_text, row_text, number_line}
 use Rattle.cert_text.proofs.Productions.{joined, flat_map_map}
 
 -- `grind` is shown the call first
-pub row_is : (r : Row) → row_text r ≡ decimal r.source ++ (flat_map spaced r.potential ++ 10 ∷ [])
-row_is r = ap ended (joined (decimal r.source) r.potential) ∙ append_assoc (decimal r.source) (flat_map spaced r.potential) (10 ∷ [])
+pub row_is : (r : Row) → row_text r ≡ decimal r.source ++ (flat_map with_space r.potential ++ 10 ∷ [])
+row_is r = ap with_line_end (joined (decimal r.source) r.potential) ∙ append_assoc (decimal r.source) (flat_map with_space r.potential) (10 ∷ [])
 
-pub path_is : (s : PathShare) → path_text s ≡ decimal s.weight ++ (spaced (length s.links) ++ (flat_map spaced s.links ++ 10 ∷ []))
+pub path_is : (s : PathShare) → path_text s ≡ decimal s.weight ++ (with_space (length s.links) ++ (flat_map with_space s.links ++ 10 ∷ []))
 path_is s = rw (joined (decimal (length s.links)) s.links) (simp append_assoc)
 
-pub pair_is : (r : PairRoutes) → pair_text r ≡ (decimal r.pair.src ++ (spaced r.pair.dst ++ (spaced (length r.paths) ++ 10 ∷ []))) ++ flat_map path_text r.paths
+pub pair_is : (r : PairRoutes) → pair_text r ≡ (decimal r.pair.src ++ (with_space r.pair.dst ++ (with_space (length r.paths) ++ 10 ∷ []))) ++ flat_map path_text r.paths
 pair_is r =
-    let paths : flat_map ended (map path_line r.paths) ≡ flat_map path_text r.paths = flat_map_map ended path_line r.paths in
-    ap (λ (y : List ℕ). ended (numbers (r.pair.src ∷ r.pair.dst ∷ length r.paths ∷ [])) ++ y) paths ∙ ap (λ (y : List ℕ). y ++ flat_map path_text r.paths) (head r.pair.src r.pair.dst (length r.paths))
+    let paths : flat_map with_line_end (map path_line r.paths) ≡ flat_map path_text r.paths = flat_map_map with_line_end path_line r.paths in
+    ap (λ (y : List ℕ). with_line_end (numbers (r.pair.src ∷ r.pair.dst ∷ length r.paths ∷ [])) ++ y) paths ∙ ap (λ (y : List ℕ). y ++ flat_map path_text r.paths) (head r.pair.src r.pair.dst (length r.paths))
   where
-    head : (a b c : ℕ) → ended (numbers (a ∷ b ∷ c ∷ [])) ≡ decimal a ++ (spaced b ++ (spaced c ++ 10 ∷ []))
+    head : (a b c : ℕ) → with_line_end (numbers (a ∷ b ∷ c ∷ [])) ≡ decimal a ++ (with_space b ++ (with_space c ++ 10 ∷ []))
     head a b c = simp append_assoc
 
-pub number_line_is : (n : ℕ) (ns : List ℕ) → number_line (n ∷ ns) ≡ decimal n ++ (flat_map spaced ns ++ 10 ∷ [])
-number_line_is n ns = ap ended (joined (decimal n) ns) ∙ append_assoc (decimal n) (flat_map spaced ns) (10 ∷ [])
+pub number_line_is : (n : ℕ) (ns : List ℕ) → number_line (n ∷ ns) ≡ decimal n ++ (flat_map with_space ns ++ 10 ∷ [])
+number_line_is n ns = ap with_line_end (joined (decimal n) ns) ∙ append_assoc (decimal n) (flat_map with_space ns) (10 ∷ [])
 
 -- pieces put at the end one after the other
 pub put_three : (old a b c all : List ℕ) → all ≡ a ++ (b ++ c) → ((old ++ a) ++ b) ++ c ≡ old ++ all
@@ -40,10 +40,10 @@ put_four old a b c d all e = rw e (simp append_assoc)
 pub put_five : (old a b c d f all : List ℕ) → all ≡ (a ++ (b ++ (c ++ d))) ++ f → ((((old ++ a) ++ b) ++ c) ++ d) ++ f ≡ old ++ all
 put_five old a b c d f all e = rw e (simp append_assoc)
 
-pub network_is : (n : Network) → network_text n ≡ counted_text (codes "nodes ") (length n.names) ++ (flat_map ended n.names ++ (counted_text (codes "links ") (length n.links) ++ flat_map link_text n.links))
+pub network_is : (n : Network) → network_text n ≡ counted_text (codes "nodes ") (length n.names) ++ (flat_map with_line_end n.names ++ (counted_text (codes "links ") (length n.links) ++ flat_map link_text n.links))
 network_is n =
-    let links : flat_map ended (map link_line n.links) ≡ flat_map link_text n.links = flat_map_map ended link_line n.links in
+    let links : flat_map with_line_end (map link_line n.links) ≡ flat_map link_text n.links = flat_map_map with_line_end link_line n.links in
     let count = words (codes "links") (length n.links ∷ []) in
-    let after : flat_map ended (n.names ++ (count ∷ map link_line n.links)) ≡ flat_map ended n.names ++ (ended count ++ flat_map link_text n.links) =
-    flat_map-append ended n.names (count ∷ map link_line n.links) ∙ ap (λ (y : List ℕ). flat_map ended n.names ++ (ended count ++ y)) links in
-    ap (λ (y : List ℕ). ended (words (codes "nodes") (length n.names ∷ [])) ++ y) after
+    let after : flat_map with_line_end (n.names ++ (count ∷ map link_line n.links)) ≡ flat_map with_line_end n.names ++ (with_line_end count ++ flat_map link_text n.links) =
+    flat_map-append with_line_end n.names (count ∷ map link_line n.links) ∙ ap (λ (y : List ℕ). flat_map with_line_end n.names ++ (with_line_end count ++ y)) links in
+    ap (λ (y : List ℕ). with_line_end (words (codes "nodes") (length n.names ∷ [])) ++ y) after

@@ -6,9 +6,9 @@ use Rattle.std.specs.List.{flat_map, AllByRecursion}
 use Rattle.std.proofs.lemmas.Bool.{eqb-true}
 use Rattle.te_model.specs.Shape.{is_count}
 use Rattle.cert_text.specs.Place.{Place, place, ◌>>=◌}
-use Rattle.cert_text.specs.Reading.{byte_from, byte_at, word_at, line_end_at, number_at, count_at, narrow_at, next_number_at, next_narrow_at, next_count_at, many_at}
+use Rattle.cert_text.specs.Reading.{byte_from, read_byte, read_word, read_line_end, read_number, read_count, read_narrow, read_next_number, read_next_narrow, read_next_count, read_many}
 use Rattle.cert_text.specs.Fits.{IsWord}
-use Rattle.cert_text.specs.Pieces.{spaced}
+use Rattle.cert_text.specs.Pieces.{with_space}
 use Rattle.cert_text.proofs.Decimals.{bind_ok, where_ok, ok_is, number_takes, number_again, begins_with_digit}
 
 -- all of a number is kept
@@ -26,28 +26,28 @@ byte_taken : (k b : ℕ) (bs : List ℕ) (q : Place) → byte_from k b bs ≡ Ok
 byte_taken k b [] q e = absurd cc
 byte_taken k b (x ∷ xs) q e = byte_tested k b x xs q (eqb x b) refl e
 
-pub byte_takes : (b : ℕ) (p q : Place) → byte_at b p ≡ Ok q → p.rest ≡ (b ∷ []) ++ q.rest
+pub byte_takes : (b : ℕ) (p q : Place) → read_byte b p ≡ Ok q → p.rest ≡ (b ∷ []) ++ q.rest
 byte_takes b p q e = byte_taken p.line b p.rest q e
 
-pub byte_again : (b k : ℕ) (r : List ℕ) → byte_at b (place k (b ∷ r)) ≡ Ok (place k r)
+pub byte_again : (b k : ℕ) (r : List ℕ) → read_byte b (place k (b ∷ r)) ≡ Ok (place k r)
 byte_again b k r = rw (eq-eqb b b refl) refl
 
-pub word_takes : (w : List ℕ) (p q : Place) → word_at w p ≡ Ok q → p.rest ≡ w ++ q.rest
+pub word_takes : (w : List ℕ) (p q : Place) → read_word w p ≡ Ok q → p.rest ≡ w ++ q.rest
 word_takes [] p q e = ap (λ (y : Place). y.rest) (ok_is p q e)
 word_takes (b ∷ bs) p q e =
-    let a = bind_ok (byte_at b p) (word_at bs) q e in
+    let a = bind_ok (read_byte b p) (read_word bs) q e in
     byte_takes b p a.0 a.1 ∙ ap (λ (x : List ℕ). b ∷ x) (word_takes bs a.0 q a.2)
 
-pub word_again : (w : List ℕ) (k : ℕ) (r : List ℕ) → word_at w (place k (w ++ r)) ≡ Ok (place k r)
+pub word_again : (w : List ℕ) (k : ℕ) (r : List ℕ) → read_word w (place k (w ++ r)) ≡ Ok (place k r)
 word_again [] k r = refl
 word_again (b ∷ bs) k r = rw (byte_again b k (bs ++ r)) (word_again bs k r)
 
-pub line_end_takes : (p q : Place) → line_end_at p ≡ Ok q → p.rest ≡ (10 ∷ []) ++ q.rest
+pub line_end_takes : (p q : Place) → read_line_end p ≡ Ok q → p.rest ≡ (10 ∷ []) ++ q.rest
 line_end_takes p q e =
-    let a = bind_ok (byte_at 10 p) (λ x. Ok (place (x.line + 1) x.rest)) q e in
+    let a = bind_ok (read_byte 10 p) (λ x. Ok (place (x.line + 1) x.rest)) q e in
     byte_takes 10 p a.0 a.1 ∙ ap (λ (y : Place). 10 ∷ y.rest) (ok_is (place (a.0.line + 1) a.0.rest) q a.2)
 
-pub line_end_again : (k : ℕ) (r : List ℕ) → line_end_at (place k (10 ∷ r)) ≡ Ok (place (k + 1) r)
+pub line_end_again : (k : ℕ) (r : List ℕ) → read_line_end (place k (10 ∷ r)) ≡ Ok (place (k + 1) r)
 line_end_again k r = refl
 
 -- what a reader of a value takes from the front: its text, of a value that fits
@@ -55,80 +55,80 @@ pub record Took {X : Type 0} (text : X → List ℕ) (fits : X → Type 0) (p : 
   pub parts : p.rest ≡ text x ++ q.rest
   pub good : fits x
 
-pub word_takes_number : (p : Place) (n : ℕ) (q : Place) → number_at p ≡ Ok (n, q) → Took decimal IsWord p n q
+pub word_takes_number : (p : Place) (n : ℕ) (q : Place) → read_number p ≡ Ok (n, q) → Took decimal IsWord p n q
 word_takes_number p n q e = let t = number_takes p n q e in record { parts = t.parts; good = t.small }
 
-pub narrow_takes : (p : Place) (n : ℕ) (q : Place) → narrow_at exact p ≡ Ok (n, q) → Took decimal IsWord p n q
-unfolding narrow_at
+pub narrow_takes : (p : Place) (n : ℕ) (q : Place) → read_narrow exact p ≡ Ok (n, q) → Took decimal IsWord p n q
+unfolding read_narrow
 narrow_takes p n q e =
-    let a = bind_ok (number_at p) (λ x. Ok (x.0, x.1)) (n, q) e in
+    let a = bind_ok (read_number p) (λ x. Ok (x.0, x.1)) (n, q) e in
     word_takes_number p n q (a.1 ∙ a.2)
 
-pub narrow_again : (k n : ℕ) (r : List ℕ) → IsWord n → begins_with_digit r ≡ false → narrow_at exact (place k (decimal n ++ r)) ≡ Ok (n, place k r)
-unfolding narrow_at
+pub narrow_again : (k n : ℕ) (r : List ℕ) → IsWord n → begins_with_digit r ≡ false → read_narrow exact (place k (decimal n ++ r)) ≡ Ok (n, place k r)
+unfolding read_narrow
 narrow_again k n r small stop = rw (number_again k n r small stop) refl
 
 abbrev pub IsCount : ℕ → ℕ → ℕ → Type 0
 IsCount low high n = is_count low high n ≡ true
 
-pub count_takes : (low high : ℕ) (p : Place) (n : ℕ) (q : Place) → count_at low high p ≡ Ok (n, q) → Took decimal (IsCount low high) p n q
-unfolding count_at
+pub count_takes : (low high : ℕ) (p : Place) (n : ℕ) (q : Place) → read_count low high p ≡ Ok (n, q) → Took decimal (IsCount low high) p n q
+unfolding read_count
 count_takes low high p n q e =
-    let a = bind_ok (number_at p) (λ x. cond (nat_le low x.0 && nat_le x.0 high) (Ok x) (Err x.1.line)) (n, q) e in
+    let a = bind_ok (read_number p) (λ x. cond (nat_le low x.0 && nat_le x.0 high) (Ok x) (Err x.1.line)) (n, q) e in
     let g = where_ok (nat_le low a.0.0 && nat_le a.0.0 high) a.0.1.line a.0 (n, q) a.2 in
     let t = number_takes p a.0.0 a.0.1 a.1 in
     subst (λ (y : ℕ × Place). Took decimal (IsCount low high) p y.0 y.1) g.1 (record { parts = t.parts; good = g.0 })
 
-pub count_again : (low high k n : ℕ) (r : List ℕ) → IsCount low high n → IsWord n → begins_with_digit r ≡ false → count_at low high (place k (decimal n ++ r)) ≡ Ok (n, place k r)
-unfolding count_at
+pub count_again : (low high k n : ℕ) (r : List ℕ) → IsCount low high n → IsWord n → begins_with_digit r ≡ false → read_count low high (place k (decimal n ++ r)) ≡ Ok (n, place k r)
+unfolding read_count
 count_again low high k n r within small stop = rw (number_again k n r small stop, within) refl
 
-pub next_number_takes : (p : Place) (n : ℕ) (q : Place) → next_number_at p ≡ Ok (n, q) → Took spaced IsWord p n q
-unfolding next_number_at
+pub next_number_takes : (p : Place) (n : ℕ) (q : Place) → read_next_number p ≡ Ok (n, q) → Took with_space IsWord p n q
+unfolding read_next_number
 next_number_takes p n q e =
-    let a = bind_ok (byte_at 32 p) number_at (n, q) e in
+    let a = bind_ok (read_byte 32 p) read_number (n, q) e in
     let t = number_takes a.0 n q a.2 in
     record { parts = byte_takes 32 p a.0 a.1 ∙ ap (λ (x : List ℕ). 32 ∷ x) t.parts; good = t.small }
 
-pub next_number_again : (k n : ℕ) (r : List ℕ) → IsWord n → begins_with_digit r ≡ false → next_number_at (place k (spaced n ++ r)) ≡ Ok (n, place k r)
-unfolding next_number_at
+pub next_number_again : (k n : ℕ) (r : List ℕ) → IsWord n → begins_with_digit r ≡ false → read_next_number (place k (with_space n ++ r)) ≡ Ok (n, place k r)
+unfolding read_next_number
 next_number_again k n r small stop = number_again k n r small stop
 
-pub next_narrow_takes : (p : Place) (n : ℕ) (q : Place) → next_narrow_at exact p ≡ Ok (n, q) → Took spaced IsWord p n q
-unfolding next_narrow_at
+pub next_narrow_takes : (p : Place) (n : ℕ) (q : Place) → read_next_narrow exact p ≡ Ok (n, q) → Took with_space IsWord p n q
+unfolding read_next_narrow
 next_narrow_takes p n q e =
-    let a = bind_ok (byte_at 32 p) (narrow_at exact) (n, q) e in
+    let a = bind_ok (read_byte 32 p) (read_narrow exact) (n, q) e in
     let t = narrow_takes a.0 n q a.2 in
     record { parts = byte_takes 32 p a.0 a.1 ∙ ap (λ (x : List ℕ). 32 ∷ x) t.parts; good = t.good }
 
-pub next_narrow_again : (k n : ℕ) (r : List ℕ) → IsWord n → begins_with_digit r ≡ false → next_narrow_at exact (place k (spaced n ++ r)) ≡ Ok (n, place k r)
-unfolding next_narrow_at
+pub next_narrow_again : (k n : ℕ) (r : List ℕ) → IsWord n → begins_with_digit r ≡ false → read_next_narrow exact (place k (with_space n ++ r)) ≡ Ok (n, place k r)
+unfolding read_next_narrow
 next_narrow_again k n r small stop = narrow_again k n r small stop
 
-pub next_count_takes : (low high : ℕ) (p : Place) (n : ℕ) (q : Place) → next_count_at low high p ≡ Ok (n, q) → Took spaced (IsCount low high) p n q
-unfolding next_count_at
+pub next_count_takes : (low high : ℕ) (p : Place) (n : ℕ) (q : Place) → read_next_count low high p ≡ Ok (n, q) → Took with_space (IsCount low high) p n q
+unfolding read_next_count
 next_count_takes low high p n q e =
-    let a = bind_ok (byte_at 32 p) (count_at low high) (n, q) e in
+    let a = bind_ok (read_byte 32 p) (read_count low high) (n, q) e in
     let t = count_takes low high a.0 n q a.2 in
     record { parts = byte_takes 32 p a.0 a.1 ∙ ap (λ (x : List ℕ). 32 ∷ x) t.parts; good = t.good }
 
-pub next_count_again : (low high k n : ℕ) (r : List ℕ) → IsCount low high n → IsWord n → begins_with_digit r ≡ false → next_count_at low high (place k (spaced n ++ r)) ≡ Ok (n, place k r)
-unfolding next_count_at
+pub next_count_again : (low high k n : ℕ) (r : List ℕ) → IsCount low high n → IsWord n → begins_with_digit r ≡ false → read_next_count low high (place k (with_space n ++ r)) ≡ Ok (n, place k r)
+unfolding read_next_count
 next_count_again low high k n r within small stop = count_again low high k n r within small stop
 
 -- ---- items one after the other
 
 pub many_takes : {X : Type 0} (item : Place → Result (X × Place) ℕ) (text : X → List ℕ) (fits : X → Type 0)
     → ((p : Place) (x : X) (q : Place) → item p ≡ Ok (x, q) → Took text fits p x q)
-    → (n : ℕ) (p : Place) (xs : List X) (q : Place) → many_at n item p ≡ Ok (xs, q)
+    → (n : ℕ) (p : Place) (xs : List X) (q : Place) → read_many n item p ≡ Ok (xs, q)
     → (p.rest ≡ flat_map text xs ++ q.rest) × (length xs ≡ n) × AllByRecursion fits xs
-unfolding many_at
+unfolding read_many
 many_takes {X} item text fits takes zero p xs q e =
     subst (λ (y : List X × Place). (p.rest ≡ flat_map text y.0 ++ y.1.rest) × (length y.0 ≡ 0) × AllByRecursion fits y.0)
     (ok_is {A = List X × Place} ([], p) (xs, q) e) (refl, refl, tt)
 many_takes {X} item text fits takes (suc n) p xs q e =
-    let a = bind_ok (item p) (λ first. many_at n item first.1 >>= λ others. Ok (first.0 ∷ others.0, others.1)) (xs, q) e in
-    let b = bind_ok (many_at n item a.0.1) (λ others. Ok (a.0.0 ∷ others.0, others.1)) (xs, q) a.2 in
+    let a = bind_ok (item p) (λ first. read_many n item first.1 >>= λ others. Ok (first.0 ∷ others.0, others.1)) (xs, q) e in
+    let b = bind_ok (read_many n item a.0.1) (λ others. Ok (a.0.0 ∷ others.0, others.1)) (xs, q) a.2 in
     let one = takes p a.0.0 a.0.1 a.1 in
     let more = many_takes item text fits takes n a.0.1 b.0.0 b.0.1 b.1 in
     let joined : p.rest ≡ flat_map text (a.0.0 ∷ b.0.0) ++ b.0.1.rest =
@@ -143,14 +143,14 @@ Again item text x r k = (m : ℕ) × (item (place k (text ++ r)) ≡ Ok (x, plac
 pub many_again : {X : Type 0} (item : Place → Result (X × Place) ℕ) (text : X → List ℕ) (fits : X → Type 0) (may_follow : List ℕ → Type 0)
     → ((x : X) (r : List ℕ) → may_follow (text x ++ r))
     → ((x : X) (k : ℕ) (r : List ℕ) → fits x → may_follow r → Again item (text x) x r k)
-    → (xs : List X) (k : ℕ) (r : List ℕ) → AllByRecursion fits xs → may_follow r → Again (many_at (length xs) item) (flat_map text xs) xs r k
-unfolding many_at
+    → (xs : List X) (k : ℕ) (r : List ℕ) → AllByRecursion fits xs → may_follow r → Again (read_many (length xs) item) (flat_map text xs) xs r k
+unfolding read_many
 many_again item text fits may_follow starts again [] k r all follows = (k, refl)
 many_again {X} item text fits may_follow starts again (x ∷ xs) k r all follows =
     let next = follow xs in
     let one = again x k (flat_map text xs ++ r) all.0 next in
     let more = many_again item text fits may_follow starts again xs one.0 r all.1 follows in
-    (more.0, ap (λ (bs : List ℕ). many_at (suc (length xs)) item (place k bs)) (append_assoc (text x) (flat_map text xs) r) ∙ rw (one.1, more.1) refl)
+    (more.0, ap (λ (bs : List ℕ). read_many (suc (length xs)) item (place k bs)) (append_assoc (text x) (flat_map text xs) r) ∙ rw (one.1, more.1) refl)
   where
     follow : (ys : List X) → may_follow (flat_map text ys ++ r)
     follow [] = follows

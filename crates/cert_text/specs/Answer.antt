@@ -14,8 +14,8 @@ IsShaped (Err (faults.Shape k)) read = read ≡ Err k
 IsShaped (Err (faults.Rule f)) read = ⊥
 
 -- the same, with the rules
-abbrev pub IsAnswer : Result Certificate CertFault → Result (Certificate × Place) ℕ → Type 0
-IsAnswer (Ok c) read = (q : Place) × (read ≡ Ok (c, q)) × (first_rule c ≡ None)
-IsAnswer (Err faults.Memory) read = Unit {0}
-IsAnswer (Err (faults.Shape k)) read = read ≡ Err k
-IsAnswer (Err (faults.Rule f)) read = (c : Certificate) × (q : Place) × (read ≡ Ok (c, q)) × (first_rule c ≡ Some f)
+abbrev pub IsAnswerOfReading : Result Certificate CertFault → Result (Certificate × Place) ℕ → Type 0
+IsAnswerOfReading (Ok c) read = (q : Place) × (read ≡ Ok (c, q)) × (first_rule c ≡ None)
+IsAnswerOfReading (Err faults.Memory) read = Unit {0}
+IsAnswerOfReading (Err (faults.Shape k)) read = read ≡ Err k
+IsAnswerOfReading (Err (faults.Rule f)) read = (c : Certificate) × (q : Place) × (read ≡ Ok (c, q)) × (first_rule c ≡ Some f)

@@ -1,4 +1,5 @@
 pub mod Place
+pub mod Takes
 pub mod Reading
 pub mod Grammar
 pub mod Listed

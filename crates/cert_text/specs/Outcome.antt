@@ -5,5 +5,5 @@ use Rattle.cert_text.specs.declared.fault.CertFault.{CertFault}
 use Rattle.cert_text.specs.declared.fault.CertFault.TheVariants as faults
 
 -- the answer is the one that is due, or memory ran out
-abbrev pub GivesOrMemory : Result Certificate CertFault → Result Certificate CertFault → Type 0
-GivesOrMemory result due = (result ≡ due) ⊎ (result ≡ Err faults.Memory)
+abbrev pub IsDueOrMemory : Result Certificate CertFault → Result Certificate CertFault → Type 0
+IsDueOrMemory result due = (result ≡ due) ⊎ (result ≡ Err faults.Memory)

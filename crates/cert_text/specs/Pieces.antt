@@ -16,12 +16,12 @@ use Rattle.te_model.specs.Text.{numbers, link_line, path_line, pair_lines, row_l
 use Rattle.cert_text.specs.Grammar.{has_bounds}
 
 -- a space and a number in decimal
-abbrev pub spaced : ℕ → List ℕ
-spaced n = 32 ∷ decimal n
+abbrev pub with_space : ℕ → List ℕ
+with_space n = 32 ∷ decimal n
 
 -- a line and its line feed
-abbrev pub ended : List ℕ → List ℕ
-ended line = line ++ 10 ∷ []
+abbrev pub with_line_end : List ℕ → List ℕ
+with_line_end line = line ++ 10 ∷ []
 
 -- a line of a word and a number
 abbrev pub counted_text : List ℕ → ℕ → List ℕ
@@ -29,27 +29,27 @@ counted_text word n = word ++ (decimal n ++ 10 ∷ [])
 
 -- a line of a word and the numbers after it
 abbrev pub listing_text : List ℕ → List ℕ → List ℕ
-listing_text word xs = word ++ (flat_map spaced xs ++ 10 ∷ [])
+listing_text word xs = word ++ (flat_map with_space xs ++ 10 ∷ [])
 
 -- a link: tail, head, capacity and cost
 abbrev pub link_text : Link → List ℕ
-link_text l = ended (link_line l)
+link_text l = with_line_end (link_line l)
 
 -- a path: its weight, how many links it has, and the links
 abbrev pub path_text : PathShare → List ℕ
-path_text s = ended (path_line s)
+path_text s = with_line_end (path_line s)
 
 -- a pair and its paths: source, destination and how many paths, and then a line for each
 abbrev pub pair_text : PairRoutes → List ℕ
-pair_text r = flat_map ended (pair_lines r)
+pair_text r = flat_map with_line_end (pair_lines r)
 
 -- the nodes by their names, and the links
 abbrev pub network_text : Network → List ℕ
-network_text net = flat_map ended (network_lines net)
+network_text net = flat_map with_line_end (network_lines net)
 
 -- a row: its source and a potential for each node
 abbrev pub row_text : Row → List ℕ
-row_text r = ended (row_line r)
+row_text r = with_line_end (row_line r)
 
 -- the count of the pairs, and each pair
 abbrev pub routes_text : List PairRoutes → List ℕ
@@ -58,7 +58,7 @@ routes_text rs = counted_text (codes "pairs ") (length rs) ++ flat_map pair_text
 -- the set of demands: all, the margin and its base, or the box and its bounds
 abbrev pub set_text : DemandSet → List ℕ
 set_text All = codes "set all" ++ 10 ∷ []
-set_text (Margin num den base) = codes "set margin " ++ (decimal num ++ (spaced den ++ ((10 ∷ []) ++ listing_text (codes "base") base.demand)))
+set_text (Margin num den base) = codes "set margin " ++ (decimal num ++ (with_space den ++ ((10 ∷ []) ++ listing_text (codes "base") base.demand)))
 set_text (Box lower upper) = codes "set box" ++ ((10 ∷ []) ++ (listing_text (codes "lower") lower.demand ++ listing_text (codes "upper") upper.demand))
 
 -- what stands before the blocks, but for the first line
@@ -67,7 +67,7 @@ head_text h = network_text h.network ++ (routes_text h.routes ++ (set_text h.set
 
 -- a line of numbers
 abbrev pub number_line : List ℕ → List ℕ
-number_line xs = ended (numbers xs)
+number_line xs = with_line_end (numbers xs)
 
 -- the lines plus and minus, which a set with bounds has
 abbrev pub sides_text : Bool → List ℕ × List ℕ → List ℕ

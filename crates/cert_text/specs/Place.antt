@@ -27,9 +27,9 @@ Reads (Ok x) after read = read ≡ Ok (x, after)
 Reads (Err e) after read = Stops e read
 
 -- The same of a value that is seen by view.
-abbrev pub ReadsAs : {X Y : Type 0} → (X → Y) → Result X Stop → Place → Result (Y × Place) ℕ → Type 0
-ReadsAs view (Ok x) after read = read ≡ Ok (view x, after)
-ReadsAs view (Err e) after read = Stops e read
+abbrev pub ReadsViewed : {X Y : Type 0} → (X → Y) → Result X Stop → Place → Result (Y × Place) ℕ → Type 0
+ReadsViewed view (Ok x) after read = read ≡ Ok (view x, after)
+ReadsViewed view (Err e) after read = Stops e read
 
 -- The same where no value is read.
 abbrev pub Passes : {X : Type 0} → Result X Stop → Place → Result Place ℕ → Type 0

@@ -1,13 +1,14 @@
 //! Reading a certificate's parts, line by line. What is handed out is shaped whether or not the content is told.
 //!
 //! The first line names the format, whose limits the lines after it keep.
-ghost use Rattle.std.specs.Prelude.{◌≡◌, ◌+◌, ◌<◌, ◌≤◌, ◌^◌, ◌++◌, length, Ok, [], codes, true, false, IfOk};
-ghost use Rattle.cert_text.specs.Place.{Place, place, Reads, Passes, Appends};
-ghost use Rattle.cert_text.specs.Reading.{kept, many_at, next_narrow_at};
+ghost use Rattle.std.specs.Prelude.{◌≡◌, ◌<◌, ◌≤◌, true, false, IfOk};
+ghost use Rattle.cert_text.specs.Place.{Reads, Passes};
+ghost use Rattle.cert_text.specs.Takes.{Takes};
+ghost use Rattle.cert_text.specs.Reading.{narrow_number, read_many, read_next_narrow};
 ghost use Rattle.te_model.specs.Shape.{is_count};
 ghost use Rattle.cert_text.specs.Listed.{IsListOf};
 ghost use Rattle.cert_text.specs.Fits.{IsWord, IsNamed, FitsLink, FitsNetwork, FitsPath, FitsPair, FitsRoutes, FitsList, FitsSet, FitsHead, FitsRow, FitsSides, FitsBlock};
-ghost use Rattle.cert_text.specs.Grammar.{counted_at, listing_at, name_line_at, link_line_at, network_at, path_at, pair_at, routes_at, all_at, margin_at, set_at, ratio_at, head_at, number_line_at, row_at, sides_at, block_at, closing_at, opening_at, certificate_at, counts_of, box_at, has_boxes, bounds_at, has_bounds, digit_at, format_at};
+ghost use Rattle.cert_text.specs.Grammar.{read_counted, read_listing, read_name_line, read_link_line, read_network, read_path, read_pair, read_routes, read_all, read_margin, read_set, read_ratio, read_head, read_number_line, read_row, read_sides, read_block, read_closing, read_opening, read_certificate, counts_of, read_box, has_boxes, read_digit, read_format};
 ghost use Rattle.te_model.specs.Formats.{limits_of};
 
 use crate::cursor::Cursor;
@@ -25,12 +26,10 @@ use te_model::{
 /// # Errors
 ///
 /// `Stop::Shape` with the line that is not so.
-#[tactic(auto, unfolding(crate::specs::Grammar::counted_at))]
+#[tactic(auto, unfolding(crate::specs::Grammar::read_counted))]
 pub fn counted<C: Cursor>(r: &mut Reader<C>, word: &[u8], low: u64, high: u64) -> Result<u64, Stop>
     ensures fits { IfOk result (λ x. is_count low high x ≡ true) }
-    ensures told { C.is_told r.new.source → C.is_told r.old.source }
-    ensures reads { C.is_told r.new.source → Reads result (place r.new.line (C.rest r.new.source))
-        (counted_at word.now low high (place r.old.line (C.rest r.old.source))) }
+    ensures takes { Takes r.old r.new (Reads result) (read_counted word.now low high) }
 {
     r.word(word)?;
     let n = r.count(low, high)?;
@@ -39,7 +38,7 @@ pub fn counted<C: Cursor>(r: &mut Reader<C>, word: &[u8], low: u64, high: u64) -
 }
 
 // A word and so many numbers after it, on a line of their own.
-#[tactic(auto, unfolding(crate::specs::Grammar::listing_at))]
+#[tactic(auto, unfolding(crate::specs::Grammar::read_listing))]
 fn listing<C: Cursor>(
     r: &mut Reader<C>,
     alloc: Global,
@@ -47,9 +46,7 @@ fn listing<C: Cursor>(
     count: u64,
 ) -> Result<Items<u64>, Stop>
     ensures fits { IfOk result (λ x. FitsList count x) }
-    ensures told { C.is_told r.new.source → C.is_told r.old.source }
-    ensures reads { C.is_told r.new.source → Reads result (place r.new.line (C.rest r.new.source))
-        (listing_at word.now count (place r.old.line (C.rest r.old.source))) }
+    ensures takes { Takes r.old r.new (Reads result) (read_listing word.now count) }
 {
     r.word(word)?;
     let mut list = Vec::with_capacity(alloc, count as usize)?;
@@ -58,24 +55,20 @@ fn listing<C: Cursor>(
     Ok(Items::new(list))
 }
 
-#[tactic(auto, unfolding(crate::specs::Grammar::name_line_at))]
+#[tactic(auto, unfolding(crate::specs::Grammar::read_name_line))]
 fn name_line<C: Cursor>(r: &mut Reader<C>, alloc: Global) -> Result<Name, Stop>
     ensures fits { IfOk result (λ x. IsNamed x) }
-    ensures told { C.is_told r.new.source → C.is_told r.old.source }
-    ensures reads { C.is_told r.new.source → Reads result (place r.new.line (C.rest r.new.source))
-        (name_line_at (place r.old.line (C.rest r.old.source))) }
+    ensures takes { Takes r.old r.new (Reads result) read_name_line }
 {
     let name = r.name(alloc)?;
     r.end_line()?;
     Ok(name)
 }
 
-#[tactic(auto, unfolding(crate::specs::Grammar::link_line_at))]
+#[tactic(auto, unfolding(crate::specs::Grammar::read_link_line))]
 fn link_line<C: Cursor>(r: &mut Reader<C>) -> Result<Link, Stop>
     ensures fits { IfOk result (λ x. FitsLink x) }
-    ensures told { C.is_told r.new.source → C.is_told r.old.source }
-    ensures reads { C.is_told r.new.source → Reads result (place r.new.line (C.rest r.new.source))
-        (link_line_at kept (place r.old.line (C.rest r.old.source))) }
+    ensures takes { Takes r.old r.new (Reads result) (read_link_line narrow_number) }
 {
     let tail = r.narrow()?;
     let head = r.next_narrow()?;
@@ -92,9 +85,7 @@ fn link_line<C: Cursor>(r: &mut Reader<C>) -> Result<Link, Stop>
 
 fn names<C: Cursor>(r: &mut Reader<C>, alloc: Global, count: u64) -> Result<Items<Name>, Stop>
     ensures fits { IfOk result (λ x. IsListOf count IsNamed x) }
-    ensures told { C.is_told r.new.source → C.is_told r.old.source }
-    ensures reads { C.is_told r.new.source → Reads result (place r.new.line (C.rest r.new.source))
-        (many_at count name_line_at (place r.old.line (C.rest r.old.source))) }
+    ensures takes { Takes r.old r.new (Reads result) (read_many count read_name_line) }
 {
     let mut items = Vec::with_capacity(alloc, count as usize)?;
     for _ in 0..count {
@@ -106,9 +97,7 @@ fn names<C: Cursor>(r: &mut Reader<C>, alloc: Global, count: u64) -> Result<Item
 
 fn links<C: Cursor>(r: &mut Reader<C>, alloc: Global, count: u64) -> Result<Items<Link>, Stop>
     ensures fits { IfOk result (λ x. IsListOf count FitsLink x) }
-    ensures told { C.is_told r.new.source → C.is_told r.old.source }
-    ensures reads { C.is_told r.new.source → Reads result (place r.new.line (C.rest r.new.source))
-        (many_at count (link_line_at kept) (place r.old.line (C.rest r.old.source))) }
+    ensures takes { Takes r.old r.new (Reads result) (read_many count (read_link_line narrow_number)) }
 {
     let mut items = Vec::with_capacity(alloc, count as usize)?;
     for _ in 0..count {
@@ -123,16 +112,14 @@ fn links<C: Cursor>(r: &mut Reader<C>, alloc: Global, count: u64) -> Result<Item
 /// # Errors
 ///
 /// `Stop::Shape` with the first line that is not so; `Stop::Memory` where memory is short.
-#[tactic(auto, unfolding(crate::specs::Grammar::network_at))]
+#[tactic(auto, unfolding(crate::specs::Grammar::read_network))]
 pub fn network<C: Cursor>(
     r: &mut Reader<C>,
     alloc: Global,
     limits: &Limits,
 ) -> Result<Network, Stop>
     ensures fits { IfOk result (λ x. FitsNetwork limits.now x) }
-    ensures told { C.is_told r.new.source → C.is_told r.old.source }
-    ensures reads { C.is_told r.new.source → Reads result (place r.new.line (C.rest r.new.source))
-        (network_at limits.now kept (place r.old.line (C.rest r.old.source))) }
+    ensures takes { Takes r.old r.new (Reads result) (read_network limits.now narrow_number) }
 {
     let nodes = counted(r, b"nodes ", 2, limits.nodes)?;
     let names = names(r, alloc, nodes)?;
@@ -143,9 +130,7 @@ pub fn network<C: Cursor>(
 
 fn hops<C: Cursor>(r: &mut Reader<C>, alloc: Global, count: u64) -> Result<Items<u32>, Stop>
     ensures fits { IfOk result (λ x. IsListOf count IsWord x) }
-    ensures told { C.is_told r.new.source → C.is_told r.old.source }
-    ensures reads { C.is_told r.new.source → Reads result (place r.new.line (C.rest r.new.source))
-        (many_at count (next_narrow_at kept) (place r.old.line (C.rest r.old.source))) }
+    ensures takes { Takes r.old r.new (Reads result) (read_many count (read_next_narrow narrow_number)) }
 {
     let mut items = Vec::with_capacity(alloc, count as usize)?;
     for _ in 0..count {
@@ -155,12 +140,10 @@ fn hops<C: Cursor>(r: &mut Reader<C>, alloc: Global, count: u64) -> Result<Items
     Ok(Items::new(items))
 }
 
-#[tactic(auto, unfolding(crate::specs::Grammar::path_at))]
+#[tactic(auto, unfolding(crate::specs::Grammar::read_path))]
 fn path<C: Cursor>(r: &mut Reader<C>, alloc: Global, limits: &Limits) -> Result<PathShare, Stop>
     ensures fits { IfOk result (λ x. FitsPath limits.now x) }
-    ensures told { C.is_told r.new.source → C.is_told r.old.source }
-    ensures reads { C.is_told r.new.source → Reads result (place r.new.line (C.rest r.new.source))
-        (path_at limits.now kept (place r.old.line (C.rest r.old.source))) }
+    ensures takes { Takes r.old r.new (Reads result) (read_path limits.now narrow_number) }
 {
     let weight = r.number()?;
     let count = r.next_count(1, limits.hops)?;
@@ -176,9 +159,7 @@ fn paths<C: Cursor>(
     limits: &Limits,
 ) -> Result<Items<PathShare>, Stop>
     ensures fits { IfOk result (λ x. IsListOf count (FitsPath limits.now) x) }
-    ensures told { C.is_told r.new.source → C.is_told r.old.source }
-    ensures reads { C.is_told r.new.source → Reads result (place r.new.line (C.rest r.new.source))
-        (many_at count (path_at limits.now kept) (place r.old.line (C.rest r.old.source))) }
+    ensures takes { Takes r.old r.new (Reads result) (read_many count (read_path limits.now narrow_number)) }
 {
     let mut items = Vec::with_capacity(alloc, count as usize)?;
     for _ in 0..count {
@@ -193,16 +174,14 @@ fn paths<C: Cursor>(
 /// # Errors
 ///
 /// `Stop::Shape` with the first line that is not so; `Stop::Memory` where memory is short.
-#[tactic(auto, unfolding(crate::specs::Grammar::pair_at))]
+#[tactic(auto, unfolding(crate::specs::Grammar::read_pair))]
 pub fn pair<C: Cursor>(
     r: &mut Reader<C>,
     alloc: Global,
     limits: &Limits,
 ) -> Result<PairRoutes, Stop>
     ensures fits { IfOk result (λ x. FitsPair limits.now x) }
-    ensures told { C.is_told r.new.source → C.is_told r.old.source }
-    ensures reads { C.is_told r.new.source → Reads result (place r.new.line (C.rest r.new.source))
-        (pair_at limits.now kept (place r.old.line (C.rest r.old.source))) }
+    ensures takes { Takes r.old r.new (Reads result) (read_pair limits.now narrow_number) }
 {
     let src = r.narrow()?;
     let dst = r.next_narrow()?;
@@ -222,9 +201,7 @@ fn pairs<C: Cursor>(
     limits: &Limits,
 ) -> Result<Items<PairRoutes>, Stop>
     ensures fits { IfOk result (λ x. IsListOf count (FitsPair limits.now) x) }
-    ensures told { C.is_told r.new.source → C.is_told r.old.source }
-    ensures reads { C.is_told r.new.source → Reads result (place r.new.line (C.rest r.new.source))
-        (many_at count (pair_at limits.now kept) (place r.old.line (C.rest r.old.source))) }
+    ensures takes { Takes r.old r.new (Reads result) (read_many count (read_pair limits.now narrow_number)) }
 {
     let mut items = Vec::with_capacity(alloc, count as usize)?;
     for _ in 0..count {
@@ -234,34 +211,30 @@ fn pairs<C: Cursor>(
     Ok(Items::new(items))
 }
 
-#[tactic(auto, unfolding(crate::specs::Grammar::routes_at))]
+#[tactic(auto, unfolding(crate::specs::Grammar::read_routes))]
 fn routes<C: Cursor>(
     r: &mut Reader<C>,
     alloc: Global,
     limits: &Limits,
 ) -> Result<Items<PairRoutes>, Stop>
     ensures fits { IfOk result (λ x. FitsRoutes limits.now x) }
-    ensures told { C.is_told r.new.source → C.is_told r.old.source }
-    ensures reads { C.is_told r.new.source → Reads result (place r.new.line (C.rest r.new.source))
-        (routes_at limits.now kept (place r.old.line (C.rest r.old.source))) }
+    ensures takes { Takes r.old r.new (Reads result) (read_routes limits.now narrow_number) }
 {
     let count = counted(r, b"pairs ", 0, limits.pairs)?;
     pairs(r, alloc, count, limits)
 }
 
-#[tactic(auto, unfolding(crate::specs::Grammar::all_at))]
+#[tactic(auto, unfolding(crate::specs::Grammar::read_all))]
 fn all<C: Cursor>(r: &mut Reader<C>) -> Result<DemandSet, Stop>
     ensures value { IfOk result (λ x. x ≡ DemandSet.All) }
-    ensures told { C.is_told r.new.source → C.is_told r.old.source }
-    ensures reads { C.is_told r.new.source → Reads result (place r.new.line (C.rest r.new.source))
-        (all_at (place r.old.line (C.rest r.old.source))) }
+    ensures takes { Takes r.old r.new (Reads result) read_all }
 {
     r.word(b"all")?;
     r.end_line()?;
     Ok(DemandSet::All)
 }
 
-#[tactic(auto, unfolding(crate::specs::Grammar::margin_at))]
+#[tactic(auto, unfolding(crate::specs::Grammar::read_margin))]
 fn margin<C: Cursor>(
     r: &mut Reader<C>,
     alloc: Global,
@@ -270,9 +243,7 @@ fn margin<C: Cursor>(
 ) -> Result<DemandSet, Stop>
     requires { has_boxes limits.now ≡ false }
     ensures fits { IfOk result (λ x. FitsSet limits.now pairs x) }
-    ensures told { C.is_told r.new.source → C.is_told r.old.source }
-    ensures reads { C.is_told r.new.source → Reads result (place r.new.line (C.rest r.new.source))
-        (margin_at pairs (place r.old.line (C.rest r.old.source))) }
+    ensures takes { Takes r.old r.new (Reads result) (read_margin pairs) }
 {
     r.word(b"margin ")?;
     let num = r.number()?;
@@ -286,7 +257,7 @@ fn margin<C: Cursor>(
     })
 }
 
-#[tactic(auto, unfolding(crate::specs::Grammar::box_at))]
+#[tactic(auto, unfolding(crate::specs::Grammar::read_box))]
 fn bounds<C: Cursor>(
     r: &mut Reader<C>,
     alloc: Global,
@@ -295,9 +266,7 @@ fn bounds<C: Cursor>(
 ) -> Result<DemandSet, Stop>
     requires { has_boxes limits.now ≡ true }
     ensures fits { IfOk result (λ x. FitsSet limits.now pairs x) }
-    ensures told { C.is_told r.new.source → C.is_told r.old.source }
-    ensures reads { C.is_told r.new.source → Reads result (place r.new.line (C.rest r.new.source))
-        (box_at pairs (place r.old.line (C.rest r.old.source))) }
+    ensures takes { Takes r.old r.new (Reads result) (read_box pairs) }
 {
     r.word(b"box")?;
     r.end_line()?;
@@ -314,7 +283,7 @@ fn bounds<C: Cursor>(
 /// # Errors
 ///
 /// `Stop::Shape` with the first line that is not so; `Stop::Memory` where memory is short.
-#[tactic(auto, unfolding(crate::specs::Grammar::set_at))]
+#[tactic(auto, unfolding(crate::specs::Grammar::read_set))]
 pub fn set<C: Cursor>(
     r: &mut Reader<C>,
     alloc: Global,
@@ -322,9 +291,7 @@ pub fn set<C: Cursor>(
     pairs: u64,
 ) -> Result<DemandSet, Stop>
     ensures fits { IfOk result (λ x. FitsSet limits.now pairs x) }
-    ensures told { C.is_told r.new.source → C.is_told r.old.source }
-    ensures reads { C.is_told r.new.source → Reads result (place r.new.line (C.rest r.new.source))
-        (set_at limits.now pairs (place r.old.line (C.rest r.old.source))) }
+    ensures takes { Takes r.old r.new (Reads result) (read_set limits.now pairs) }
 {
     r.word(b"set ")?;
     if r.is_next(b'a') {
@@ -341,11 +308,9 @@ pub fn set<C: Cursor>(
 /// # Errors
 ///
 /// `Stop::Shape` with the line that is not so.
-#[tactic(auto, unfolding(crate::specs::Grammar::ratio_at))]
+#[tactic(auto, unfolding(crate::specs::Grammar::read_ratio))]
 pub fn ratio<C: Cursor>(r: &mut Reader<C>) -> Result<u64, Stop>
-    ensures told { C.is_told r.new.source → C.is_told r.old.source }
-    ensures reads { C.is_told r.new.source → Reads result (place r.new.line (C.rest r.new.source))
-        (ratio_at (place r.old.line (C.rest r.old.source))) }
+    ensures takes { Takes r.old r.new (Reads result) read_ratio }
 {
     r.word(b"ratio ")?;
     let ratio = r.number()?;
@@ -353,12 +318,10 @@ pub fn ratio<C: Cursor>(r: &mut Reader<C>) -> Result<u64, Stop>
     Ok(ratio)
 }
 
-#[tactic(auto, unfolding(crate::specs::Grammar::head_at))]
+#[tactic(auto, unfolding(crate::specs::Grammar::read_head))]
 fn head<C: Cursor>(r: &mut Reader<C>, alloc: Global, limits: &Limits) -> Result<Head, Stop>
     ensures fits { IfOk result (λ x. FitsHead limits.now x) }
-    ensures told { C.is_told r.new.source → C.is_told r.old.source }
-    ensures reads { C.is_told r.new.source → Reads result (place r.new.line (C.rest r.new.source))
-        (head_at limits.now kept (place r.old.line (C.rest r.old.source))) }
+    ensures takes { Takes r.old r.new (Reads result) (read_head limits.now narrow_number) }
 {
     let network = network(r, alloc, limits)?;
     let routes = routes(r, alloc, limits)?;
@@ -375,13 +338,11 @@ fn head<C: Cursor>(r: &mut Reader<C>, alloc: Global, limits: &Limits) -> Result<
 }
 
 // So many numbers, on a line of their own.
-#[tactic(auto, unfolding(crate::specs::Grammar::number_line_at))]
+#[tactic(auto, unfolding(crate::specs::Grammar::read_number_line))]
 fn number_line<C: Cursor>(r: &mut Reader<C>, alloc: Global, count: u64) -> Result<Items<u64>, Stop>
     requires { 1 ≤ count }
     ensures fits { IfOk result (λ x. FitsList count x) }
-    ensures told { C.is_told r.new.source → C.is_told r.old.source }
-    ensures reads { C.is_told r.new.source → Reads result (place r.new.line (C.rest r.new.source))
-        (number_line_at count (place r.old.line (C.rest r.old.source))) }
+    ensures takes { Takes r.old r.new (Reads result) (read_number_line count) }
 {
     let first = r.number()?;
     let mut list = Vec::with_capacity(alloc, count as usize)?;
@@ -392,12 +353,10 @@ fn number_line<C: Cursor>(r: &mut Reader<C>, alloc: Global, count: u64) -> Resul
 }
 
 // The potentials of one source.
-#[tactic(auto, unfolding(crate::specs::Grammar::row_at))]
+#[tactic(auto, unfolding(crate::specs::Grammar::read_row))]
 fn row<C: Cursor>(r: &mut Reader<C>, alloc: Global, nodes: u64) -> Result<Row, Stop>
     ensures fits { IfOk result (λ x. FitsRow nodes x) }
-    ensures told { C.is_told r.new.source → C.is_told r.old.source }
-    ensures reads { C.is_told r.new.source → Reads result (place r.new.line (C.rest r.new.source))
-        (row_at kept nodes (place r.old.line (C.rest r.old.source))) }
+    ensures takes { Takes r.old r.new (Reads result) (read_row narrow_number nodes) }
 {
     let source = r.narrow()?;
     let mut list = Vec::with_capacity(alloc, nodes as usize)?;
@@ -416,9 +375,7 @@ fn rows<C: Cursor>(
     nodes: u64,
 ) -> Result<Items<Row>, Stop>
     ensures fits { IfOk result (λ x. IsListOf count (FitsRow nodes) x) }
-    ensures told { C.is_told r.new.source → C.is_told r.old.source }
-    ensures reads { C.is_told r.new.source → Reads result (place r.new.line (C.rest r.new.source))
-        (many_at count (row_at kept nodes) (place r.old.line (C.rest r.old.source))) }
+    ensures takes { Takes r.old r.new (Reads result) (read_many count (read_row narrow_number nodes)) }
 {
     let mut items = Vec::with_capacity(alloc, count as usize)?;
     for _ in 0..count {
@@ -429,7 +386,7 @@ fn rows<C: Cursor>(
 }
 
 // The lines `plus` and `minus`, where the set has bounds.
-#[tactic(auto, unfolding(crate::specs::Grammar::sides_at))]
+#[tactic(auto, unfolding(crate::specs::Grammar::read_sides))]
 fn sides<C: Cursor>(
     r: &mut Reader<C>,
     alloc: Global,
@@ -437,9 +394,7 @@ fn sides<C: Cursor>(
     pairs: u64,
 ) -> Result<(Items<u64>, Items<u64>), Stop>
     ensures fits { IfOk result (λ x. FitsSides bounded pairs x.0 x.1) }
-    ensures told { C.is_told r.new.source → C.is_told r.old.source }
-    ensures reads { C.is_told r.new.source → Reads result (place r.new.line (C.rest r.new.source))
-        (sides_at bounded pairs (place r.old.line (C.rest r.old.source))) }
+    ensures takes { Takes r.old r.new (Reads result) (read_sides bounded pairs) }
 {
     if !bounded {
         return Ok((Items::new(Vec::new(alloc)), Items::new(Vec::new(alloc))));
@@ -449,7 +404,7 @@ fn sides<C: Cursor>(
     Ok((plus, minus))
 }
 
-#[tactic(auto, unfolding(crate::specs::Grammar::block_at))]
+#[tactic(auto, unfolding(crate::specs::Grammar::read_block))]
 fn block<C: Cursor>(
     r: &mut Reader<C>,
     alloc: Global,
@@ -458,9 +413,7 @@ fn block<C: Cursor>(
 ) -> Result<Block, Stop>
     requires { 1 ≤ counts.now.links }
     ensures fits { IfOk result (λ x. FitsBlock limits.now counts.now x) }
-    ensures told { C.is_told r.new.source → C.is_told r.old.source }
-    ensures reads { C.is_told r.new.source → Reads result (place r.new.line (C.rest r.new.source))
-        (block_at limits.now kept counts.now (place r.old.line (C.rest r.old.source))) }
+    ensures takes { Takes r.old r.new (Reads result) (read_block limits.now narrow_number counts.now) }
 {
     let link = r.narrow()?;
     let a = r.next_number()?;
@@ -490,9 +443,7 @@ fn blocks<C: Cursor>(
 ) -> Result<Items<Block>, Stop>
     requires { 1 ≤ counts.now.links }
     ensures fits { IfOk result (λ x. IsListOf count (FitsBlock limits.now counts.now) x) }
-    ensures told { C.is_told r.new.source → C.is_told r.old.source }
-    ensures reads { C.is_told r.new.source → Reads result (place r.new.line (C.rest r.new.source))
-        (many_at count (block_at limits.now kept counts.now) (place r.old.line (C.rest r.old.source))) }
+    ensures takes { Takes r.old r.new (Reads result) (read_many count (read_block limits.now narrow_number counts.now)) }
 {
     let mut items = Vec::with_capacity(alloc, count as usize)?;
     for _ in 0..count {
@@ -507,11 +458,9 @@ fn blocks<C: Cursor>(
 /// # Errors
 ///
 /// `Stop::Shape` with the line that is not so.
-#[tactic(auto, unfolding(crate::specs::Grammar::closing_at))]
+#[tactic(auto, unfolding(crate::specs::Grammar::read_closing))]
 pub fn closing<C: Cursor>(r: &mut Reader<C>) -> Result<(), Stop>
-    ensures told { C.is_told r.new.source → C.is_told r.old.source }
-    ensures reads { C.is_told r.new.source → Passes result (place r.new.line (C.rest r.new.source))
-        (closing_at (place r.old.line (C.rest r.old.source))) }
+    ensures takes { Takes r.old r.new (Passes result) read_closing }
 {
     r.word(b"end")?;
     r.end_line()?;
@@ -519,12 +468,10 @@ pub fn closing<C: Cursor>(r: &mut Reader<C>) -> Result<(), Stop>
 }
 
 // The digit of the format, which ends the first line.
-#[tactic(auto, unfolding(crate::specs::Grammar::digit_at))]
+#[tactic(auto, unfolding(crate::specs::Grammar::read_digit))]
 fn digit<C: Cursor>(r: &mut Reader<C>, format: u8) -> Result<u32, Stop>
     requires { format < 10 }
-    ensures told { C.is_told r.new.source → C.is_told r.old.source }
-    ensures reads { C.is_told r.new.source → Reads result (place r.new.line (C.rest r.new.source))
-        (digit_at format (place r.old.line (C.rest r.old.source))) }
+    ensures takes { Takes r.old r.new (Reads result) (read_digit format) }
 {
     r.byte(b'0' + format)?;
     r.end_line()?;
@@ -536,11 +483,9 @@ fn digit<C: Cursor>(r: &mut Reader<C>, format: u8) -> Result<u32, Stop>
 /// # Errors
 ///
 /// `Stop::Shape` with the line that is not so.
-#[tactic(auto, unfolding(crate::specs::Grammar::format_at))]
+#[tactic(auto, unfolding(crate::specs::Grammar::read_format))]
 pub fn format<C: Cursor>(r: &mut Reader<C>) -> Result<u32, Stop>
-    ensures told { C.is_told r.new.source → C.is_told r.old.source }
-    ensures reads { C.is_told r.new.source → Reads result (place r.new.line (C.rest r.new.source))
-        (format_at (place r.old.line (C.rest r.old.source))) }
+    ensures takes { Takes r.old r.new (Reads result) read_format }
 {
     r.word(b"yates-ratio ")?;
     if r.is_next(b'2') {
@@ -551,12 +496,10 @@ pub fn format<C: Cursor>(r: &mut Reader<C>) -> Result<u32, Stop>
 }
 
 // The first line, which gives the limits, the head and the count of the blocks.
-#[tactic(auto, unfolding(crate::specs::Grammar::opening_at))]
+#[tactic(auto, unfolding(crate::specs::Grammar::read_opening))]
 fn opening<C: Cursor>(r: &mut Reader<C>, alloc: Global) -> Result<(Head, u64), Stop>
     ensures fits { IfOk result (λ x. FitsHead (limits_of x.0.format) x.0) }
-    ensures told { C.is_told r.new.source → C.is_told r.old.source }
-    ensures reads { C.is_told r.new.source → Reads result (place r.new.line (C.rest r.new.source))
-        (opening_at kept (place r.old.line (C.rest r.old.source))) }
+    ensures takes { Takes r.old r.new (Reads result) (read_opening narrow_number) }
 {
     let limits = limits_of(format(r)?);
     let head = head(r, alloc, &limits)?;
@@ -577,11 +520,9 @@ pub fn counts_of_head(head: &Head) -> Counts
 }
 
 /// A whole certificate of either format, whether or not its rules hold.
-#[tactic(auto, unfolding(crate::specs::Grammar::certificate_at))]
+#[tactic(auto, unfolding(crate::specs::Grammar::read_certificate))]
 pub fn certificate<C: Cursor>(r: &mut Reader<C>, alloc: Global) -> Result<Certificate, Stop>
-    ensures told { C.is_told r.new.source → C.is_told r.old.source }
-    ensures reads { C.is_told r.new.source → Reads result (place r.new.line (C.rest r.new.source))
-        (certificate_at kept (place r.old.line (C.rest r.old.source))) }
+    ensures takes { Takes r.old r.new (Reads result) (read_certificate narrow_number) }
 {
     let (head, count) = opening(r, alloc)?;
     let limits = limits_of(head.format);

@@ -1,7 +1,7 @@
 //! Printing a certificate: each part is put at the end of one buffer.
 ghost use Rattle.std.specs.Prelude.{◌≡◌, ◌++◌, ◌∷◌, [], OnOk, IfOk, codes, length};
 ghost use Rattle.std.specs.List.{flat_map};
-ghost use Rattle.cert_text.specs.Pieces.{listing_text, counted_text, link_text, row_text, ended, network_text, path_text, pair_text, routes_text, set_text, format_text, head_text, number_line as number_line_text, sides_text, block_text, certificate_text};
+ghost use Rattle.cert_text.specs.Pieces.{listing_text, counted_text, link_text, row_text, with_line_end, network_text, path_text, pair_text, routes_text, set_text, format_text, head_text, number_line as number_line_text, sides_text, block_text, certificate_text};
 ghost use Rattle.cert_text.specs.Grammar.{has_bounds};
 ghost use Rattle.te_model.specs.Text.{text};
 
@@ -60,7 +60,7 @@ fn counted(out: &mut Vec<u8>, word: &[u8], count: u64) -> Result<(), AllocError>
 }
 
 fn name_lines(out: &mut Vec<u8>, names: &[Name]) -> Result<(), AllocError>
-    ensures { OnOk result (out.new.items ≡ out.old.items ++ flat_map ended names.now) }
+    ensures { OnOk result (out.new.items ≡ out.old.items ++ flat_map with_line_end names.now) }
 {
     for name in names {
         out.extend_from_slice(name.as_str().as_bytes())?;

@@ -1,12 +1,6 @@
 //! Reading the lines of a certificate.
-ghost use Rattle.std.specs.Prelude.{◌≡◌, ◌≢◌, ◌+◌, ◌<◌, ◌≤◌, ◌^◌, ◌++◌, length, Ok, Err, if◌then◌else◌, ◌*◌, [], OnOk, IfOk, IfErr, slice_index, ◌==◌, string_bytes, true};
+ghost use Rattle.std.specs.Prelude.{◌+◌, ◌<◌, ◌^◌, ◌*◌};
 ghost use Rattle.std.specs.Option.{SomeIff};
-ghost use Rattle.std.specs.List.{list_all};
-ghost use Rattle.te_model.specs.Network.{is_name_byte, is_name};
-ghost use Rattle.te_model.specs.Shape.{is_count};
-ghost use Rattle.cert_text.specs.Fits.{AreWords};
-ghost use Rattle.cert_text.specs.Place.{Place, place, Reads, ReadsAs, Passes, Appends};
-ghost use Rattle.cert_text.specs.Reading.{byte_at, word_at, line_end_at, number_at, count_at, narrow_at, kept, next_number_at, next_narrow_at, next_count_at, many_at, name_from, name_at};
 
 use crate::cursor::Cursor;
 use crate::fault::Stop;
@@ -29,6 +23,15 @@ pub struct Reader<C: Cursor> {
 }
 
 impl<C: Cursor> Reader<C> {
+    ghost use Rattle.std.specs.Prelude.{◌≡◌, ◌≢◌, ◌≤◌, ◌==◌, Ok, Err, if◌then◌else◌, [], OnOk, IfOk, length, slice_index, string_bytes, true};
+    ghost use Rattle.std.specs.List.{list_all};
+    ghost use Rattle.te_model.specs.Network.{is_name_byte, is_name};
+    ghost use Rattle.te_model.specs.Shape.{is_count};
+    ghost use Rattle.cert_text.specs.Fits.{AreWords};
+    ghost use Rattle.cert_text.specs.Place.{place, Reads, ReadsViewed, Passes, Appends};
+    ghost use Rattle.cert_text.specs.Reading.{read_byte, read_word, read_line_end, read_number, read_count, read_narrow, narrow_number, read_next_number, read_next_narrow, read_next_count, read_many, name_from, read_name};
+    ghost use Rattle.cert_text.specs.Takes.{Takes};
+
     /// Stands at the first line.
     pub fn new(source: C) -> Reader<C>
         requires { 1 + C.bound source < 2 ^ 64 }
@@ -72,10 +75,7 @@ impl<C: Cursor> Reader<C> {
         ensures fewer { OnOk result
             (self.new.line + C.bound self.new.source < self.old.line + C.bound self.old.source) }
         ensures room { result ≢ Err Stop.Memory }
-        ensures told { C.is_told self.new.source → C.is_told self.old.source }
-        ensures reads { C.is_told self.new.source →
-            Passes result (place self.new.line (C.rest self.new.source))
-            (byte_at wanted (place self.old.line (C.rest self.old.source))) }
+        ensures takes { Takes self.old self.new (Passes result) (read_byte wanted) }
     {
         match self.source.peek() {
             Some(b) if b == wanted => {
@@ -89,10 +89,7 @@ impl<C: Cursor> Reader<C> {
     /// Takes these bytes.
     pub fn word(&mut self, wanted: &[u8]) -> Result<(), Stop>
         ensures room { result ≢ Err Stop.Memory }
-        ensures told { C.is_told self.new.source → C.is_told self.old.source }
-        ensures reads { C.is_told self.new.source →
-            Passes result (place self.new.line (C.rest self.new.source))
-            (word_at wanted.now (place self.old.line (C.rest self.old.source))) }
+        ensures takes { Takes self.old self.new (Passes result) (read_word wanted.now) }
     {
         for b in wanted {
             self.byte(*b)?;
@@ -103,10 +100,7 @@ impl<C: Cursor> Reader<C> {
     /// Takes the line feed, after which the next line begins.
     pub fn end_line(&mut self) -> Result<(), Stop>
         ensures room { result ≢ Err Stop.Memory }
-        ensures told { C.is_told self.new.source → C.is_told self.old.source }
-        ensures reads { C.is_told self.new.source →
-            Passes result (place self.new.line (C.rest self.new.source))
-            (line_end_at (place self.old.line (C.rest self.old.source))) }
+        ensures takes { Takes self.old self.new (Passes result) read_line_end }
     {
         self.byte(b'\n')?;
         self.line += 1;
@@ -114,13 +108,10 @@ impl<C: Cursor> Reader<C> {
     }
 
     /// Takes a number in decimal, without a leading zero and below 2^64.
-    #[tactic(auto, unfolding(crate::specs::Reading::number_at))]
+    #[tactic(auto, unfolding(crate::specs::Reading::read_number))]
     pub fn number(&mut self) -> Result<u64, Stop>
         ensures room { result ≢ Err Stop.Memory }
-        ensures told { C.is_told self.new.source → C.is_told self.old.source }
-        ensures reads { C.is_told self.new.source →
-            Reads result (place self.new.line (C.rest self.new.source))
-            (number_at (place self.old.line (C.rest self.old.source))) }
+        ensures takes { Takes self.old self.new (Reads result) read_number }
     {
         let mut value = match self.source.peek() {
             Some(b) if b.is_ascii_digit() => u64::from(b - b'0'),
@@ -144,14 +135,11 @@ impl<C: Cursor> Reader<C> {
     }
 
     /// Takes a number within the range.
-    #[tactic(auto, unfolding(crate::specs::Reading::count_at))]
+    #[tactic(auto, unfolding(crate::specs::Reading::read_count))]
     pub fn count(&mut self, low: u64, high: u64) -> Result<u64, Stop>
         ensures fits { IfOk result (λ n. is_count low high n ≡ true) }
         ensures room { result ≢ Err Stop.Memory }
-        ensures told { C.is_told self.new.source → C.is_told self.old.source }
-        ensures reads { C.is_told self.new.source →
-            Reads result (place self.new.line (C.rest self.new.source))
-            (count_at low high (place self.old.line (C.rest self.old.source))) }
+        ensures takes { Takes self.old self.new (Reads result) (read_count low high) }
     {
         let n = self.number()?;
         if low <= n && n <= high {
@@ -162,26 +150,20 @@ impl<C: Cursor> Reader<C> {
     }
 
     /// Takes a number, of which a field of 32 bits keeps the greatest that it can hold where it is greater.
-    #[tactic(auto, unfolding(crate::specs::Reading::narrow_at))]
+    #[tactic(auto, unfolding(crate::specs::Reading::read_narrow))]
     pub fn narrow(&mut self) -> Result<u32, Stop>
         ensures room { result ≢ Err Stop.Memory }
-        ensures told { C.is_told self.new.source → C.is_told self.old.source }
-        ensures reads { C.is_told self.new.source →
-            Reads result (place self.new.line (C.rest self.new.source))
-            (narrow_at kept (place self.old.line (C.rest self.old.source))) }
+        ensures takes { Takes self.old self.new (Reads result) (read_narrow narrow_number) }
     {
         let n = self.number()?;
         Ok(n.min(u64::from(u32::MAX)) as u32)
     }
 
     /// Takes a space and a number.
-    #[tactic(auto, unfolding(crate::specs::Reading::next_number_at))]
+    #[tactic(auto, unfolding(crate::specs::Reading::read_next_number))]
     pub fn next_number(&mut self) -> Result<u64, Stop>
         ensures room { result ≢ Err Stop.Memory }
-        ensures told { C.is_told self.new.source → C.is_told self.old.source }
-        ensures reads { C.is_told self.new.source →
-            Reads result (place self.new.line (C.rest self.new.source))
-            (next_number_at (place self.old.line (C.rest self.old.source))) }
+        ensures takes { Takes self.old self.new (Reads result) read_next_number }
     {
         self.byte(b' ')?;
         self.number()
@@ -191,10 +173,8 @@ impl<C: Cursor> Reader<C> {
     pub fn numbers(&mut self, count: u64, list: &mut Vec<u64>) -> Result<(), Stop>
         ensures count { OnOk result (length list.new.items ≡ length list.old.items + count) }
         ensures words { AreWords list.old.items → OnOk result (AreWords list.new.items) }
-        ensures told { C.is_told self.new.source → C.is_told self.old.source }
-        ensures reads { C.is_told self.new.source →
-            Appends result list.old.items list.new.items (place self.new.line (C.rest self.new.source))
-            (many_at count next_number_at (place self.old.line (C.rest self.old.source))) }
+        ensures takes { Takes self.old self.new (Appends result list.old.items list.new.items)
+            (read_many count read_next_number) }
     {
         for _ in 0..count {
             let number = self.next_number()?;
@@ -207,10 +187,8 @@ impl<C: Cursor> Reader<C> {
     fn name_text(&mut self, alloc: Global) -> Result<String, Stop>
         ensures short { IfOk result (λ t. length (string_bytes t) ≤ 32) }
         ensures letters { IfOk result (λ t. list_all is_name_byte (string_bytes t) ≡ true) }
-        ensures told { C.is_told self.new.source → C.is_told self.old.source }
-        ensures reads { C.is_told self.new.source →
-            ReadsAs (λ t. string_bytes t) result (place self.new.line (C.rest self.new.source))
-            (name_from self.old.line [] (C.rest self.old.source)) }
+        ensures takes { Takes self.old self.new (ReadsViewed (λ t. string_bytes t) result)
+            (λ p. name_from p.line [] p.rest) }
     {
         let mut name = String::new(alloc);
         while let Some(b) = self.source.peek() {
@@ -227,13 +205,10 @@ impl<C: Cursor> Reader<C> {
     }
 
     /// Takes a name of 1 to 32 letters, digits and `_ . -`.
-    #[tactic(auto, unfolding(crate::specs::Reading::name_at))]
+    #[tactic(auto, unfolding(crate::specs::Reading::read_name))]
     pub fn name(&mut self, alloc: Global) -> Result<Name, Stop>
         ensures fits { IfOk result (λ n. is_name n ≡ true) }
-        ensures told { C.is_told self.new.source → C.is_told self.old.source }
-        ensures reads { C.is_told self.new.source →
-            Reads result (place self.new.line (C.rest self.new.source))
-            (name_at (place self.old.line (C.rest self.old.source))) }
+        ensures takes { Takes self.old self.new (Reads result) read_name }
     {
         let text = self.name_text(alloc)?;
         if text.is_empty() {
@@ -243,27 +218,21 @@ impl<C: Cursor> Reader<C> {
     }
 
     /// Takes a space and a number of a field of 32 bits.
-    #[tactic(auto, unfolding(crate::specs::Reading::next_narrow_at))]
+    #[tactic(auto, unfolding(crate::specs::Reading::read_next_narrow))]
     pub fn next_narrow(&mut self) -> Result<u32, Stop>
         ensures room { result ≢ Err Stop.Memory }
-        ensures told { C.is_told self.new.source → C.is_told self.old.source }
-        ensures reads { C.is_told self.new.source →
-            Reads result (place self.new.line (C.rest self.new.source))
-            (next_narrow_at kept (place self.old.line (C.rest self.old.source))) }
+        ensures takes { Takes self.old self.new (Reads result) (read_next_narrow narrow_number) }
     {
         self.byte(b' ')?;
         self.narrow()
     }
 
     /// Takes a space and a number within the range.
-    #[tactic(auto, unfolding(crate::specs::Reading::next_count_at))]
+    #[tactic(auto, unfolding(crate::specs::Reading::read_next_count))]
     pub fn next_count(&mut self, low: u64, high: u64) -> Result<u64, Stop>
         ensures fits { IfOk result (λ n. is_count low high n ≡ true) }
         ensures room { result ≢ Err Stop.Memory }
-        ensures told { C.is_told self.new.source → C.is_told self.old.source }
-        ensures reads { C.is_told self.new.source →
-            Reads result (place self.new.line (C.rest self.new.source))
-            (next_count_at low high (place self.old.line (C.rest self.old.source))) }
+        ensures takes { Takes self.old self.new (Reads result) (read_next_count low high) }
     {
         self.byte(b' ')?;
         self.count(low, high)
@@ -283,11 +252,8 @@ impl<C: Cursor> Reader<C> {
     /// Passes where nothing is left.
     pub fn at_end(&mut self) -> Result<(), Stop>
         ensures room { result ≢ Err Stop.Memory }
-        ensures told { C.is_told self.new.source → C.is_told self.old.source }
-        ensures reads { C.is_told self.new.source →
-            Passes result (place self.new.line (C.rest self.new.source))
-            (if length (C.rest self.old.source) == 0
-            then Ok (place self.old.line (C.rest self.old.source)) else Err self.old.line) }
+        ensures takes { Takes self.old self.new (Passes result)
+            (λ p. if length p.rest == 0 then Ok p else Err p.line) }
     {
         match self.source.peek() {
             None => Ok(()),

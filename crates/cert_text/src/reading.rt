@@ -4,10 +4,10 @@ ghost use Rattle.te_model.specs.Text.{Spells};
 ghost use Rattle.te_model.specs.Faults.{IsShapeFault, IsRuleFault};
 ghost use Rattle.te_model.specs.Validity.{first_rule};
 ghost use Rattle.cert_text.specs.Place.{place};
-ghost use Rattle.cert_text.specs.Reading.{kept};
-ghost use Rattle.cert_text.specs.Grammar.{certificate_at};
+ghost use Rattle.cert_text.specs.Reading.{narrow_number};
+ghost use Rattle.cert_text.specs.Grammar.{read_certificate};
 ghost use Rattle.cert_text.specs.Answer.{IsShaped};
-ghost use Rattle.cert_text.specs.Outcome.{GivesOrMemory};
+ghost use Rattle.cert_text.specs.Outcome.{IsDueOrMemory};
 
 use crate::cursor::Bytes;
 use crate::fault::{CertFault, Stop};
@@ -19,7 +19,7 @@ use te_model::{Certificate, RuleFault, first_rule};
 // The certificate whose lines these are, whether or not its rules hold. A number that is too large for its field is
 // kept as the greatest one, which the rules refuse.
 fn shape(alloc: Global, bytes: &[u8]) -> Result<Certificate, CertFault>
-    ensures exact { IsShaped result (certificate_at kept (place 1 bytes.now)) }
+    ensures exact { IsShaped result (read_certificate narrow_number (place 1 bytes.now)) }
 {
     let mut reader = Reader::new(Bytes::new(bytes));
     match grammar::certificate(&mut reader, alloc) {
@@ -50,13 +50,13 @@ fn keep_valid(cert: Certificate) -> Result<Certificate, CertFault>
 /// - `Memory`, where memory runs out.
 pub fn read(alloc: Global, bytes: &[u8]) -> Result<Certificate, CertFault>
     ensures spelled { IfOk result (λ c. Spells bytes.now c) }
-    ensures accepted { (c : Certificate) → Spells bytes.now c → GivesOrMemory result (Ok c) }
+    ensures accepted { (c : Certificate) → Spells bytes.now c → IsDueOrMemory result (Ok c) }
     ensures shape { (k : ℕ) → result ≡ Err (CertFault.Shape k) → IsShapeFault bytes.now k }
     ensures misshaped { (k : ℕ) → IsShapeFault bytes.now k →
-        GivesOrMemory result (Err (CertFault.Shape k)) }
+        IsDueOrMemory result (Err (CertFault.Shape k)) }
     ensures rule { (f : RuleFault) → result ≡ Err (CertFault.Rule f) → IsRuleFault bytes.now f }
     ensures invalid { (f : RuleFault) → IsRuleFault bytes.now f →
-        GivesOrMemory result (Err (CertFault.Rule f)) }
+        IsDueOrMemory result (Err (CertFault.Rule f)) }
 {
     let cert = shape(alloc, bytes)?;
     keep_valid(cert)

@@ -7,7 +7,7 @@ ghost use Rattle.te_model.specs.Shape.{is_shaped};
 ghost use Rattle.te_model.specs.Validity.{IsValid};
 ghost use Rattle.te_model.specs.Text.{text, Spells};
 ghost use Rattle.te_model.specs.Faults.{IsShapeFault, IsRuleFault};
-ghost use Rattle.cert_text.specs.Outcome.{GivesOrMemory};
+ghost use Rattle.cert_text.specs.Outcome.{IsDueOrMemory};
 
 use crate::fault::CertFault;
 use crate::printing::print;
@@ -46,7 +46,7 @@ pub fn bytes_are_read_one_way()
 /// Prints the certificate and reads it back: what [`print`] writes, [`read`] takes for the same certificate.
 pub fn print_and_read(alloc: Global, cert: &Certificate) -> Result<Certificate, CertFault>
     requires { IsValid cert.now }
-    ensures same { GivesOrMemory result (Ok cert.now) }
+    ensures same { IsDueOrMemory result (Ok cert.now) }
 {
     let file = print(alloc, cert)?;
     read(alloc, file.as_slice())

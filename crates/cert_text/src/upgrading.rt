@@ -1,6 +1,6 @@
 //! Certificates of the first format as ones of the second.
 ghost use Rattle.std.specs.Prelude.{◌≡◌, IfOk};
-ghost use Rattle.te_model.specs.Upgrade.{upgraded};
+ghost use Rattle.te_model.specs.Upgrade.{upgraded_certificate};
 ghost use Rattle.te_model.specs.Validity.{IsValid};
 
 use std::alloc::Global;
@@ -12,7 +12,7 @@ use te_model::{Certificate, FORMAT_2, Head, Memory, box_of};
 /// ([`upgrades_keep_meaning`](te_model::laws::upgrades_keep_meaning)). Answers an error only where memory runs out.
 pub fn upgrade(alloc: Global, cert: Certificate) -> Result<Certificate, Memory>
     requires { IsValid cert }
-    ensures { IfOk result (λ d. d ≡ upgraded cert) }
+    ensures { IfOk result (λ d. d ≡ upgraded_certificate cert) }
 {
     let Certificate { head, blocks } = cert;
     let set = box_of(alloc, head.set)?;

@@ -1,11 +1,7 @@
 -- What a field of a CSV file spells: a number is 1 to 10 ASCII digits, with leading zeros.
 use Rattle.std.specs.List.{list_all}
-use Rattle.std.specs.Prelude.{ℕ, ◌+◌, ◌*◌, ◌-◌, List, [], ◌∷◌, length, Bool, ◌&&◌, nat_le}
-
--- the number that digits spell, after the number before them
-abbrev pub digits_from : ℕ → List ℕ → ℕ
-digits_from n [] = n
-digits_from n (c ∷ cs) = digits_from (n * 10 + (c - 48)) cs
+use Rattle.std.specs.Prelude.{ℕ, List, length, Bool, ◌&&◌, nat_le}
+pub use Rattle.te_model.specs.Digits.{digits_from}
 
 abbrev pub is_digit : ℕ → Bool
 is_digit c = nat_le 48 c && nat_le c 57

@@ -27,11 +27,11 @@ impl<'a> Model for Rows<'a> {
 
     ghost use Rattle.std.specs.Prelude.{◌≡◌, [], false, if◌then◌else◌};
     ghost use Rattle.csv.specs.Records.{fields_of};
-    ghost use Rattle.csv_records.specs.Rest.{rest_of, IsSound};
+    ghost use Rattle.csv_records.specs.Rest.{rest_of, IsReadyReader};
 
     ghost view = { λ a. record { current = fields_of a.fields; rest = if a.ended then [] else rest_of a.reader } };
 
-    ghost invariant = { λ a. a.ended ≡ false → IsSound a.reader };
+    ghost invariant = { λ a. a.ended ≡ false → IsReadyReader a.reader };
 }
 
 impl<'a> Rows<'a> {

@@ -1,3 +1,3 @@
 mod RowLemmas
-mod NetworkLemmas
+pub mod NetworkLemmas
 pub mod Sweeping

@@ -8,7 +8,7 @@ use Rattle.failure.specs.declared.outage.Outage.{Outage}
 use Rattle.failure.specs.declared.outage.Failures.{Failures}
 use Rattle.failure.specs.declared.fault.FailureFault.{FailureFault}
 use Rattle.failure.specs.declared.fault.FailureFault.TheVariants as fault
-use Rattle.failure.specs.File.{outage_of, outage_of_fields, outage_within, with_row, is_header, failures_of}
+use Rattle.failure.specs.File.{outage_of, outage_of_fields, outage_within, with_outage_row, is_failure_header, failures_of}
 use Rattle.failure.specs.Series.{no_failures}
 
 pub other-fields : (links steps row : ℕ) (xs : List (List ℕ)) → length xs ≢ 3 → outage_of links steps row xs ≡ Err (fault.Fields row)
@@ -77,14 +77,14 @@ module _ (links steps row : ℕ) (o : Outage) where
       rw (e, f, g) refl
 
 pub row-added : (links steps row : ℕ) (list : List Outage) (r : List (List ℕ)) (o : Outage) → outage_of links steps row r ≡ Ok o
-    → with_row links steps (record { list = list }) row r ≡ Ok (record { list = list ++ o ∷ [] })
+    → with_outage_row links steps (record { list = list }) row r ≡ Ok (record { list = list ++ o ∷ [] })
 row-added links steps row list r o e = rw e refl
 
 pub row-refused : (links steps row : ℕ) (list : List Outage) (r : List (List ℕ)) (f : FailureFault) → outage_of links steps row r ≡ Err f
-    → with_row links steps (record { list = list }) row r ≡ Err f
+    → with_outage_row links steps (record { list = list }) row r ≡ Err f
 row-refused links steps row list r f e = rw e refl
 
 -- a file that begins with the header says what its rows say
 pub failures-of-rows : (links steps : ℕ) (bytes : List ℕ) (header : List (List ℕ)) (rows : List (List (List ℕ))) (o : Result Failures FailureFault)
-    → records_of bytes ≡ header ∷ rows → is_header header ≡ true → fold_rows (with_row links steps) no_failures 1 rows ≡ o → failures_of links steps bytes ≡ o
-failures-of-rows links steps bytes header rows o first is all = after-header (with_row links steps) is_header fault.Header no_failures (records_of bytes) header rows first is ∙ all
+    → records_of bytes ≡ header ∷ rows → is_failure_header header ≡ true → fold_rows (with_outage_row links steps) no_failures 1 rows ≡ o → failures_of links steps bytes ≡ o
+failures-of-rows links steps bytes header rows o first is all = after-header (with_outage_row links steps) is_failure_header fault.Header no_failures (records_of bytes) header rows first is ∙ all

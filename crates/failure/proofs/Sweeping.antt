@@ -78,13 +78,6 @@ ends_mark links t os latest are e below =
 zero_any : (begins : ℕ → Bool) (e x : ℕ) → nat_lt x 0 ≡ false
 zero_any begins e x = grind (arith, nat_tests)
 
--- no outage
-pub ends_none : (links : ℕ) (begins : ℕ → Bool) (ends : List ℕ) → ends ≡ replicate links 0 → AreEnds links begins [] ends
-ends_none links begins ends are = record {
-  count = ap (λ (l : List ℕ). length l) are ∙ length-replicate {A = ℕ} links 0;
-  each = λ e x below. ap (nat_lt x) (ap (λ (l : List ℕ). get_or l e 0) are ∙ get_or-replicate {A = ℕ} links e 0 0 below) ∙ zero_any begins e x;
-}
-
 none_before : (os : List Outage) (e x : ℕ) → list_any (reaches (λ from. nat_lt from 0) e x) os ≡ false
 none_before [] e x = refl
 none_before (o ∷ os) e x = ap (λ b. b || list_any (reaches (λ from. nat_lt from 0) e x) os) (out (o.link == e) (nat_le x o.to)) ∙ none_before os e x

@@ -34,13 +34,13 @@ outage_of links steps row (from ∷ to ∷ link ∷ []) = outage_of_fields links
 outage_of links steps row _ = Err (fault.Fields row)
 
 -- the outages of the rows before, and that of this row
-abbrev pub with_row : ℕ → ℕ → Failures → ℕ → List (List ℕ) → Result Failures FailureFault
-with_row links steps before row fields = and_then (λ o. Ok (record { list = before.list ++ o ∷ [] })) (outage_of links steps row fields)
+abbrev pub with_outage_row : ℕ → ℕ → Failures → ℕ → List (List ℕ) → Result Failures FailureFault
+with_outage_row links steps before row fields = and_then (λ o. Ok (record { list = before.list ++ o ∷ [] })) (outage_of links steps row fields)
 
-abbrev pub is_header : List (List ℕ) → Bool
-is_header (a ∷ b ∷ c ∷ []) = bytes_eq a (codes "from") && bytes_eq b (codes "to") && bytes_eq c (codes "link")
-is_header _ = false
+abbrev pub is_failure_header : List (List ℕ) → Bool
+is_failure_header (a ∷ b ∷ c ∷ []) = bytes_eq a (codes "from") && bytes_eq b (codes "to") && bytes_eq c (codes "link")
+is_failure_header _ = false
 
 -- the outages that a file says, for a network of so many links and a series of so many steps, or the first fault
 abbrev pub failures_of : ℕ → ℕ → List ℕ → Result Failures FailureFault
-failures_of links steps bytes = fold_table is_header fault.Header (with_row links steps) (record { list = [] }) (records_of bytes)
+failures_of links steps bytes = fold_table is_failure_header fault.Header (with_outage_row links steps) (record { list = [] }) (records_of bytes)

@@ -16,8 +16,8 @@ abbrev pub marks_of : Network → Failures → ℕ → List Bool
 marks_of net failures step = map (has_failed failures step) (range_with_len 0 (link_count net))
 
 -- the same for each of so many steps
-abbrev pub series_of : Network → Failures → ℕ → List (List Bool)
-series_of net failures steps = map (marks_of net failures) (range_with_len 0 steps)
+abbrev pub marks_of_steps : Network → Failures → ℕ → List (List Bool)
+marks_of_steps net failures steps = map (marks_of net failures) (range_with_len 0 steps)
 
 -- an outage of the link that begins in such a step, and lasts to step x or longer
 abbrev pub reaches : (ℕ → Bool) → ℕ → ℕ → Outage → Bool

@@ -4,7 +4,7 @@ ghost use Rattle.std.specs.Prelude.{◌≡◌, ◌≢◌, ℕ, ◌<◌, ◌^◌,
 ghost use Rattle.te_model.specs.Network.{is_well_formed, link_count};
 ghost use Rattle.csv_records.specs.Rows.{fold_rows, fold_table};
 ghost use Rattle.failure.specs.declared.fault.FailureFault.TheVariants as fault;
-ghost use Rattle.failure.specs.File.{failures_of, outage_of, with_row, is_header, IsOutage};
+ghost use Rattle.failure.specs.File.{failures_of, outage_of, with_outage_row, is_failure_header, IsOutage};
 ghost use Rattle.failure.specs.Series.{no_failures};
 
 use crate::fault::FailureFault;
@@ -39,8 +39,8 @@ pub fn read(
 // Reads the first record, which is the header.
 fn read_header(rows: &mut Rows<'_>) -> Result<(), FailureFault>
     ensures first { OnOk result (rows.old.rest ≡ rows.new.current ∷ rows.new.rest) }
-    ensures header { OnOk result (IsTrue (is_header rows.new.current)) }
-    ensures refused { IfErr result (λ e. e ≢ fault.Memory → (links steps : ℕ) → fold_table is_header fault.Header (with_row links steps) no_failures rows.old.rest ≡ Err e) }
+    ensures header { OnOk result (IsTrue (is_failure_header rows.new.current)) }
+    ensures refused { IfErr result (λ e. e ≢ fault.Memory → (links steps : ℕ) → fold_table is_failure_header fault.Header (with_outage_row links steps) no_failures rows.old.rest ≡ Err e) }
 {
     if !rows.advance()? || !has_header(rows) {
         return Err(FailureFault::Header);
@@ -50,7 +50,7 @@ fn read_header(rows: &mut Rows<'_>) -> Result<(), FailureFault>
 
 // Whether the record that was read last is the header.
 fn has_header(rows: &Rows<'_>) -> bool
-    ensures { result ≡ is_header rows.now.current }
+    ensures { result ≡ is_failure_header rows.now.current }
 {
     match rows.three_fields() {
         Some((from, to, link)) => {
@@ -68,9 +68,9 @@ fn read_outages(
     steps: u32,
 ) -> Result<Failures, FailureFault>
     requires { links < 2 ^ 32 }
-    ensures failures { IfOk result (λ f. fold_rows (with_row links steps) no_failures 1 rows.old.rest ≡ Ok f) }
+    ensures failures { IfOk result (λ f. fold_rows (with_outage_row links steps) no_failures 1 rows.old.rest ≡ Ok f) }
     ensures in_range { IfOk result (λ f. All (IsOutage links steps) f.list) }
-    ensures refused { IfErr result (λ e. e ≢ fault.Memory → fold_rows (with_row links steps) no_failures 1 rows.old.rest ≡ Err e) }
+    ensures refused { IfErr result (λ e. e ≢ fault.Memory → fold_rows (with_outage_row links steps) no_failures 1 rows.old.rest ≡ Err e) }
 {
     let mut list = Vec::new(alloc);
     let mut row = 1u64;

@@ -3,7 +3,7 @@
 ghost use Rattle.std.specs.Prelude.{◌≡◌, ◌<◌, ◌+◌, ◌&&◌, ◌||◌, ◌==◌, ℕ, All, EachIndex, IfOk, IsTrue, length, map, max, nat_le, nat_lt, replicate, slice_index, vec_len};
 ghost use Rattle.std.specs.List.{range_with_len};
 ghost use Rattle.te_model.specs.Network.{is_well_formed};
-ghost use Rattle.failure.specs.Series.{series_of, AreEndsByStep};
+ghost use Rattle.failure.specs.Series.{marks_of_steps, AreEndsByStep};
 
 use crate::outage::{Failures, Outage};
 use std::alloc::Global;
@@ -90,7 +90,7 @@ impl Failures {
         net: &Network,
         steps: usize,
     ) -> Result<Vec<Items<bool>>, Memory>
-        ensures { IfOk result (λ series. series.items ≡ series_of net.now self.now steps) }
+        ensures { IfOk result (λ series. series.items ≡ marks_of_steps net.now self.now steps) }
     {
         let links = net.links.as_slice().len();
         let mut table = no_ends(alloc, steps, links)?;

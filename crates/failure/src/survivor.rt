@@ -24,7 +24,7 @@ pub fn surviving(alloc: Global, net: &Network, failed: &[bool]) -> Result<Surviv
     ensures survivor { IfOk result (λ s. s ≡ survivor_of net.now failed.now) }
     ensures well_formed { IfOk result (λ s. IsTrue (is_well_formed s.network)) }
 {
-    let origin = standing(alloc, failed)?;
+    let origin = surviving_links(alloc, failed)?;
     let links = links_at(alloc, net, origin.as_slice())?;
     Ok(Survivor {
         network: Network {
@@ -36,7 +36,7 @@ pub fn surviving(alloc: Global, net: &Network, failed: &[bool]) -> Result<Surviv
 }
 
 // The numbers of the links that have not failed.
-fn standing(alloc: Global, failed: &[bool]) -> Result<Vec<u32>, Memory>
+fn surviving_links(alloc: Global, failed: &[bool]) -> Result<Vec<u32>, Memory>
     requires { length failed.now ≤ FORMAT_2.links }
     ensures { IfOk result (λ v. v.items ≡ surviving_links failed.now) }
 {

@@ -1,1 +1,3 @@
 mod PlanLemmas
+mod ValueRanges
+pub mod Ranges

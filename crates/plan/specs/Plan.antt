@@ -15,12 +15,12 @@ use Rattle.plan.specs.declared.fault.PlanFault.TheVariants as fault
 use Rattle.plan.specs.declared.reader.Files.{Files}
 use Rattle.plan.specs.declared.reader.Choices.{Choices}
 use Rattle.plan.specs.declared.reader.Counts.{Counts}
-use Rattle.plan.specs.Words.{word, is_key, is_oblivious}
-use Rattle.plan.specs.Values.{given_or, text_of, number_of, margin_of, envelope_of, recovery_of, publish_of, schemes_of}
+use Rattle.plan.specs.Words.{key_word, is_key, is_oblivious}
+use Rattle.plan.specs.Values.{given_or, text_value, number_within, margin_of, envelope_value, recovery_of, publish_of, schemes_of}
 
-abbrev pub and_then : {A B : Type 0} → Result A PlanFault → (A → Result B PlanFault) → Result B PlanFault
-and_then (Ok x) next = next x
-and_then (Err e) next = Err e
+abbrev pub with_value : {A B : Type 0} → Result A PlanFault → (A → Result B PlanFault) → Result B PlanFault
+with_value (Ok x) next = next x
+with_value (Err e) next = Err e
 
 -- the value of a file, which is none where the bytes are no UTF-8 or no JSON
 abbrev pub json_of : List ℕ → Option Data
@@ -31,8 +31,8 @@ knows_all no_members = true
 knows_all (member k d ms) = is_key k && knows_all ms
 
 -- the value of a key that must be there
-abbrev pub required : Key → Data → Result Data PlanFault
-required k d = given_or (fault.Missing k) Ok (get (word k) d)
+abbrev pub required_value : Key → Data → Result Data PlanFault
+required_value k d = given_or (fault.Missing k) Ok (get (key_word k) d)
 
 -- what the value of a key says, or what stands where there is none
 abbrev pub optional : {A : Type 0} → A → (Data → Result A PlanFault) → Option Data → Result A PlanFault
@@ -43,14 +43,14 @@ abbrev pub some_of : {A : Type 0} → Result A PlanFault → Result (Option A) P
 some_of (Ok x) = Ok (Some x)
 some_of (Err e) = Err e
 
-abbrev pub failures_of : Data → Result (Option (List ℕ)) PlanFault
-failures_of d = optional None (λ v. some_of (text_of key.Failures v)) (get (word key.Failures) d)
+abbrev pub failures_name : Data → Result (Option (List ℕ)) PlanFault
+failures_name d = optional None (λ v. some_of (text_value key.Failures v)) (get (key_word key.Failures) d)
 
 unfoldable pub files_of : Data → Data → Data → Result Files PlanFault
 files_of topology matrices d =
-    and_then (text_of key.Topology topology) (λ t.
-    and_then (text_of key.Matrices matrices) (λ m.
-    and_then (failures_of d) (λ f.
+    with_value (text_value key.Topology topology) (λ t.
+    with_value (text_value key.Matrices matrices) (λ m.
+    with_value (failures_name d) (λ f.
     Ok (record { topology = t; matrices = m; failures = f }))))
 
 abbrev pub all_schemes : List SchemeName
@@ -58,27 +58,27 @@ all_schemes = scheme.Spf ∷ scheme.Ecmp ∷ scheme.Ksp ∷ scheme.Mcf ∷ schem
 
 unfoldable pub choices_of : Data → Result Choices PlanFault
 choices_of d =
-    and_then (optional all_schemes schemes_of (get (word key.Schemes) d)) (λ s.
-    and_then (optional recovery.Keep recovery_of (get (word key.Recovery) d)) (λ r.
-    and_then (optional scheme.Racke publish_of (get (word key.Publish) d)) (λ p.
-    and_then (optional None (λ v. some_of (margin_of v)) (get (word key.Margin) d)) (λ m.
+    with_value (optional all_schemes schemes_of (get (key_word key.Schemes) d)) (λ s.
+    with_value (optional recovery.Keep recovery_of (get (key_word key.Recovery) d)) (λ r.
+    with_value (optional scheme.Racke publish_of (get (key_word key.Publish) d)) (λ p.
+    with_value (optional None (λ v. some_of (margin_of v)) (get (key_word key.Margin) d)) (λ m.
     Ok (record { schemes = s; recovery = r; publish = p; margin = m })))))
 
 -- a number with a default
-abbrev pub count_at : Key → ℕ → ℕ → ℕ → Data → Result ℕ PlanFault
-count_at k default low high d = optional default (number_of k low high) (get (word k) d)
+abbrev pub count_of_key : Key → ℕ → ℕ → ℕ → Data → Result ℕ PlanFault
+count_of_key k default low high d = optional default (number_within k low high) (get (key_word k) d)
 
-unfoldable pub counts_of : Data → Result Counts PlanFault
-counts_of d =
-    and_then (count_at key.K 4 1 32 d) (λ k.
-    and_then (count_at key.Budget 4 1 32 d) (λ b.
-    and_then (count_at key.Trees 8 1 16 d) (λ t.
-    and_then (count_at key.Seed 0 0 (2 ^ 64 - 1) d) (λ s.
+unfoldable pub numbers_of : Data → Result Counts PlanFault
+numbers_of d =
+    with_value (count_of_key key.K 4 1 32 d) (λ k.
+    with_value (count_of_key key.Budget 4 1 32 d) (λ b.
+    with_value (count_of_key key.Trees 8 1 16 d) (λ t.
+    with_value (count_of_key key.Seed 0 0 (2 ^ 64 - 1) d) (λ s.
     Ok (record { k = k; budget = b; trees = t; seed = s })))))
 
 -- whether the published set is the envelope of the matrices, beside this margin
 abbrev pub envelope_at : Option (ℕ × ℕ) → Data → Result Bool PlanFault
-envelope_at margin d = optional false (envelope_of margin) (get (word key.Envelope) d)
+envelope_at margin d = optional false (envelope_value margin) (get (key_word key.Envelope) d)
 
 abbrev pub experiment_of : Files → Choices → Counts → Bool → Experiment
 experiment_of f c n e = record {
@@ -99,19 +99,19 @@ experiment_of f c n e = record {
 -- what an object with known keys says
 unfoldable pub plan_of_object : Data → Result Experiment PlanFault
 plan_of_object d =
-    and_then (required key.Topology d) (λ topology.
-    and_then (required key.Matrices d) (λ matrices.
-    and_then (files_of topology matrices d) (λ f.
-    and_then (choices_of d) (λ c.
-    and_then (counts_of d) (λ n.
-    and_then (envelope_at c.margin d) (λ e.
+    with_value (required_value key.Topology d) (λ topology.
+    with_value (required_value key.Matrices d) (λ matrices.
+    with_value (files_of topology matrices d) (λ f.
+    with_value (choices_of d) (λ c.
+    with_value (numbers_of d) (λ n.
+    with_value (envelope_at c.margin d) (λ e.
     Ok (experiment_of f c n e)))))))
 
-abbrev pub known : Data → Members → Result Experiment PlanFault
-known d ms = if knows_all ms then plan_of_object d else Err fault.UnknownKey
+abbrev pub plan_of_known_keys : Data → Members → Result Experiment PlanFault
+plan_of_known_keys d ms = if knows_all ms then plan_of_object d else Err fault.UnknownKey
 
 abbrev pub plan_of_value : Data → Result Experiment PlanFault
-plan_of_value d = given_or (fault.Kind key.Plan) (known d) (as_object d)
+plan_of_value d = given_or (fault.Kind key.Plan) (plan_of_known_keys d) (as_object d)
 
 -- what the bytes of a plan file say, or the first fault
 abbrev pub plan_of : List ℕ → Result Experiment PlanFault

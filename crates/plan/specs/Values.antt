@@ -16,12 +16,12 @@ given_or e read None = Err e
 given_or e read (Some x) = read x
 
 -- a text that is not empty
-abbrev pub filled : Key → List ℕ → Result (List ℕ) PlanFault
-filled k [] = Err (fault.Range k)
-filled k (c ∷ cs) = Ok (c ∷ cs)
+abbrev pub nonempty_text : Key → List ℕ → Result (List ℕ) PlanFault
+nonempty_text k [] = Err (fault.Range k)
+nonempty_text k (c ∷ cs) = Ok (c ∷ cs)
 
-abbrev pub text_of : Key → Data → Result (List ℕ) PlanFault
-text_of k d = given_or (fault.Kind k) (filled k) (as_str d)
+abbrev pub text_value : Key → Data → Result (List ℕ) PlanFault
+text_value k d = given_or (fault.Kind k) (nonempty_text k) (as_str d)
 
 -- a whole number
 abbrev pub whole : Data → Option ℕ
@@ -31,8 +31,8 @@ abbrev pub between : Key → ℕ → ℕ → ℕ → Result ℕ PlanFault
 between k low high n = if nat_le low n && nat_le n high then Ok n else Err (fault.Range k)
 
 -- a whole number from low to high
-abbrev pub number_of : Key → ℕ → ℕ → Data → Result ℕ PlanFault
-number_of k low high d = given_or (fault.Kind k) (between k low high) (whole d)
+abbrev pub number_within : Key → ℕ → ℕ → Data → Result ℕ PlanFault
+number_within k low high d = given_or (fault.Kind k) (between k low high) (whole d)
 
 -- a fraction of at least 1, whose numbers are 1 to 1000
 abbrev pub fraction : ℕ → ℕ → Result (ℕ × ℕ) PlanFault
@@ -51,8 +51,8 @@ abbrev pub alone : Option (ℕ × ℕ) → Bool → Result Bool PlanFault
 alone margin asked = if asked && is_some margin then Err (fault.Range key.Envelope) else Ok asked
 
 -- whether an envelope is asked for
-abbrev pub envelope_of : Option (ℕ × ℕ) → Data → Result Bool PlanFault
-envelope_of margin d = given_or (fault.Kind key.Envelope) (alone margin) (as_bool d)
+abbrev pub envelope_value : Option (ℕ × ℕ) → Data → Result Bool PlanFault
+envelope_value margin d = given_or (fault.Kind key.Envelope) (alone margin) (as_bool d)
 
 abbrev pub recovery_of : Data → Result Recovery PlanFault
 recovery_of d = given_or (fault.Kind key.Recovery) (λ text. given_or (fault.Range key.Recovery) Ok (recovery_named text)) (as_str d)

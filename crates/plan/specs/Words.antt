@@ -47,20 +47,20 @@ recovery_named text =
     else None
 
 -- a key as it stands in a plan
-abbrev pub word : Key → List ℕ
-word key.Plan = codes "plan"
-word key.Topology = codes "topology"
-word key.Matrices = codes "matrices"
-word key.Failures = codes "failures"
-word key.Schemes = codes "schemes"
-word key.Recovery = codes "recovery"
-word key.Publish = codes "publish"
-word key.Margin = codes "margin"
-word key.K = codes "k"
-word key.Budget = codes "budget"
-word key.Trees = codes "trees"
-word key.Seed = codes "seed"
-word key.Envelope = codes "envelope"
+abbrev pub key_word : Key → List ℕ
+key_word key.Plan = codes "plan"
+key_word key.Topology = codes "topology"
+key_word key.Matrices = codes "matrices"
+key_word key.Failures = codes "failures"
+key_word key.Schemes = codes "schemes"
+key_word key.Recovery = codes "recovery"
+key_word key.Publish = codes "publish"
+key_word key.Margin = codes "margin"
+key_word key.K = codes "k"
+key_word key.Budget = codes "budget"
+key_word key.Trees = codes "trees"
+key_word key.Seed = codes "seed"
+key_word key.Envelope = codes "envelope"
 
 -- a key of names: of files, of schemes or of a recovery
 abbrev pub is_name_key : List ℕ → Bool

@@ -1,7 +1,7 @@
 //! The keys of a plan.
 
 ghost use Rattle.std.specs.Prelude.{◌≡◌, Some};
-ghost use Rattle.plan.specs.Words.{word};
+ghost use Rattle.plan.specs.Words.{key_word};
 
 use std::fmt::{self, Display, Formatter, Write};
 
@@ -26,7 +26,7 @@ pub enum Key {
 impl Key {
     /// The key as it stands in a plan; `plan` for the plan itself.
     pub fn word(self) -> &'static str
-        ensures { result.now ≡ word self }
+        ensures { result.now ≡ key_word self }
     {
         match self {
             Key::Plan => "plan",
@@ -47,7 +47,7 @@ impl Key {
 }
 
 impl Display for Key {
-    ghost output = { λ key. Some (word key) };
+    ghost output = { λ key. Some (key_word key) };
 
     fn fmt<W: Write>(&self, f: &mut Formatter<W>) -> fmt::Result {
         f.write_str(self.word())

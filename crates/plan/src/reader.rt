@@ -4,8 +4,8 @@ ghost use Rattle.std.specs.Prelude.{◌≡◌, ◌≢◌, ◌≤◌, ◌-◌, �
 ghost use Rattle.serde_json.specs.View.{view, members_view};
 ghost use Rattle.serde_json.specs.Find.{get};
 ghost use Rattle.plan.specs.declared.fault.PlanFault.TheVariants as fault;
-ghost use Rattle.plan.specs.Words.{word, is_key, is_name_key, is_count_or_set_key, is_oblivious};
-ghost use Rattle.plan.specs.Plan.{plan_of, plan_of_object, json_of, knows_all, required, count_at, files_of, choices_of, counts_of, envelope_at, InRange};
+ghost use Rattle.plan.specs.Words.{key_word, is_key, is_name_key, is_count_or_set_key, is_oblivious};
+ghost use Rattle.plan.specs.Plan.{plan_of, plan_of_object, json_of, knows_all, required_value, count_of_key, files_of, choices_of, numbers_of, envelope_at, InRange};
 
 use crate::experiment::Experiment;
 use crate::fault::PlanFault;
@@ -102,8 +102,8 @@ fn read_object(alloc: Global, value: &Value) -> Result<Experiment, PlanFault>
     ensures in_range { IfOk result InRange }
     ensures refused { IfErr result (λ e. e ≢ fault.Memory → plan_of_object (view value.now) ≡ Err e) }
 {
-    let topology = required(value, Key::Topology)?;
-    let matrices = required(value, Key::Matrices)?;
+    let topology = required_value(value, Key::Topology)?;
+    let matrices = required_value(value, Key::Matrices)?;
     let files = read_files(alloc, topology, matrices, value)?;
     let choices = read_choices(alloc, value)?;
     let counts = read_counts(value)?;
@@ -125,9 +125,9 @@ fn read_object(alloc: Global, value: &Value) -> Result<Experiment, PlanFault>
 }
 
 // The value of a key that must be there.
-fn required(value: &Value, key: Key) -> Result<&Value, PlanFault>
-    ensures value { IfOk result (λ v. required key (view value.now) ≡ Ok (view v.now)) }
-    ensures refused { IfErr result (λ e. required key (view value.now) ≡ Err e) }
+fn required_value(value: &Value, key: Key) -> Result<&Value, PlanFault>
+    ensures value { IfOk result (λ v. required_value key (view value.now) ≡ Ok (view v.now)) }
+    ensures refused { IfErr result (λ e. required_value key (view value.now) ≡ Err e) }
 {
     match value.get(key.word()) {
         Some(found) => Ok(found),
@@ -219,13 +219,13 @@ struct Counts {
     seed: u64,
 }
 
-#[tactic(auto, unfolding(crate::specs::Plan::counts_of))]
+#[tactic(auto, unfolding(crate::specs::Plan::numbers_of))]
 fn read_counts(value: &Value) -> Result<Counts, PlanFault>
-    ensures counts { IfOk result (λ n. counts_of (view value.now) ≡ Ok n) }
+    ensures counts { IfOk result (λ n. numbers_of (view value.now) ≡ Ok n) }
     ensures k { IfOk result (λ n. (1 ≤ n.k) × (n.k ≤ 32)) }
     ensures budget { IfOk result (λ n. (1 ≤ n.budget) × (n.budget ≤ 32)) }
     ensures trees { IfOk result (λ n. (1 ≤ n.trees) × (n.trees ≤ 16)) }
-    ensures refused { IfErr result (λ e. counts_of (view value.now) ≡ Err e) }
+    ensures refused { IfErr result (λ e. numbers_of (view value.now) ≡ Err e) }
 {
     let k = count(value, Key::K, 4, 1, 32)?;
     let budget = count(value, Key::Budget, 4, 1, 32)?;
@@ -254,7 +254,7 @@ fn asks_for_envelope(value: &Value, margin: Option<(u64, u64)>) -> Result<bool, 
 fn count(value: &Value, key: Key, default: u64, low: u64, high: u64) -> Result<u64, PlanFault>
     requires low { low ≤ default }
     requires high { default ≤ high }
-    ensures count { result ≡ count_at key default low high (view value.now) }
+    ensures count { result ≡ count_of_key key default low high (view value.now) }
     ensures in_range { IfOk result (λ n. (low ≤ n) × (n ≤ high)) }
 {
     match value.get(key.word()) {

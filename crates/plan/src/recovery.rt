@@ -18,7 +18,7 @@ pub enum Recovery {
 
 impl Recovery {
     /// The recovery of a word, where there is one.
-    pub fn named(text: &str) -> Option<Recovery>
+    pub fn from_word(text: &str) -> Option<Recovery>
         ensures { result ≡ recovery_named text.now }
     {
         if text == "none" {

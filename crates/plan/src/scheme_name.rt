@@ -47,7 +47,7 @@ impl SchemeName {
     }
 
     /// The scheme of a name, where there is one.
-    pub fn named(text: &str) -> Option<SchemeName>
+    pub fn from_word(text: &str) -> Option<SchemeName>
         ensures { result ≡ scheme_named text.now }
     {
         if text == "spf" {

@@ -5,7 +5,7 @@ ghost use Rattle.serde_json.specs.Find.{as_str};
 ghost use Rattle.serde_json.specs.View.{view, items_view};
 ghost use Rattle.plan.specs.declared.fault.PlanFault.TheVariants as fault;
 ghost use Rattle.plan.specs.Words.{is_oblivious, scheme_named};
-ghost use Rattle.plan.specs.Values.{text_of, number_of, margin_of, envelope_of, recovery_of, publish_of, schemes_of, are_texts};
+ghost use Rattle.plan.specs.Values.{text_value, number_within, margin_of, envelope_value, recovery_of, publish_of, schemes_of, are_texts};
 
 use crate::fault::PlanFault;
 use crate::key::Key;
@@ -17,9 +17,9 @@ use te_model::{Items, Name};
 
 /// A text that is not empty.
 pub fn read_text(alloc: Global, key: Key, value: &Value) -> Result<Name, PlanFault>
-    ensures text { IfOk result (λ t. text_of key (view value.now) ≡ Ok t) }
+    ensures text { IfOk result (λ t. text_value key (view value.now) ≡ Ok t) }
     ensures filled { IfOk result (λ t. t ≢ []) }
-    ensures refused { IfErr result (λ e. e ≢ fault.Memory → text_of key (view value.now) ≡ Err e) }
+    ensures refused { IfErr result (λ e. e ≢ fault.Memory → text_value key (view value.now) ≡ Err e) }
 {
     let Some(text) = value.as_str() else {
         return Err(PlanFault::Kind(key));
@@ -32,7 +32,7 @@ pub fn read_text(alloc: Global, key: Key, value: &Value) -> Result<Name, PlanFau
 
 /// A whole number from `low` to `high`.
 pub fn read_number(key: Key, low: u64, high: u64, value: &Value) -> Result<u64, PlanFault>
-    ensures number { result ≡ number_of key low high (view value.now) }
+    ensures number { result ≡ number_within key low high (view value.now) }
     ensures in_range { IfOk result (λ n. (low ≤ n) × (n ≤ high)) }
 {
     let Some(number) = value.as_u64() else {
@@ -71,7 +71,7 @@ pub fn read_margin(value: &Value) -> Result<(u64, u64), PlanFault>
 
 /// Whether an envelope is asked for, which cannot stand beside a margin.
 pub fn read_envelope(margin: Option<(u64, u64)>, value: &Value) -> Result<bool, PlanFault>
-    ensures envelope { result ≡ envelope_of margin (view value.now) }
+    ensures envelope { result ≡ envelope_value margin (view value.now) }
     ensures alone { IfOk result (λ asked. asked ≡ true → margin ≡ None) }
 {
     let Some(asked) = value.as_bool() else {
@@ -90,7 +90,7 @@ pub fn read_recovery(value: &Value) -> Result<Recovery, PlanFault>
     let Some(text) = value.as_str() else {
         return Err(PlanFault::Kind(Key::Recovery));
     };
-    match Recovery::named(text) {
+    match Recovery::from_word(text) {
         Some(recovery) => Ok(recovery),
         None => Err(PlanFault::Range(Key::Recovery)),
     }
@@ -104,7 +104,7 @@ pub fn read_publish(value: &Value) -> Result<SchemeName, PlanFault>
     let Some(text) = value.as_str() else {
         return Err(PlanFault::Kind(Key::Publish));
     };
-    match SchemeName::named(text) {
+    match SchemeName::from_word(text) {
         Some(scheme) if scheme.is_oblivious() => Ok(scheme),
         _ => Err(PlanFault::SchemeName(Key::Publish)),
     }
@@ -140,7 +140,7 @@ pub fn read_schemes(alloc: Global, value: &Value) -> Result<Items<SchemeName>, P
 fn named_scheme(value: &Value) -> Option<SchemeName>
     ensures { result ≡ option_and_then scheme_named (as_str (view value.now)) }
 {
-    SchemeName::named(value.as_str()?)
+    SchemeName::from_word(value.as_str()?)
 }
 
 // Whether each value is a text.

@@ -8,8 +8,8 @@ abbrev pub seed_bytes : ℕ → ℕ → List ℕ
 seed_bytes seed purpose = to_le_bytes w64 seed ++ purpose ∷ replicate 23 0
 
 -- word n of a seed and a purpose
-unfoldable pub word : ℕ → ℕ → ℕ → ℕ
-word seed purpose n = word_at 4 (key_of (seed_bytes seed purpose)) 0 n
+unfoldable pub word_of_seed : ℕ → ℕ → ℕ → ℕ
+word_of_seed seed purpose n = word_at 4 (key_of (seed_bytes seed purpose)) 0 n
 
 -- the generator of a seed and a purpose once n words were taken
 abbrev pub generator : ℕ → ℕ → ℕ → ChaCha

@@ -6,10 +6,10 @@ use Rattle.std.specs.Bool.{MatchBool}
 use Rattle.std.specs.declared.result.Result.{Result}
 use Rattle.te_ports.specs.declared.record_depot.Entry.{Entry}
 use Rattle.te_ports.specs.Record.{Grows}
-use Rattle.te_ports.specs.RecordDepot.{IsEntry, is_on_record, WritesDown}
+use Rattle.te_ports.specs.RecordDepot.{IsRecordEntry, is_on_record, WritesDown}
 
 last_on_record : (entries : List Entry) (entry : Entry) (name : List ℕ) (at : ℕ) (bytes : List ℕ) →
-    IsEntry entry name at bytes → is_on_record (entries ++ entry ∷ []) name at bytes
+    IsRecordEntry entry name at bytes → is_on_record (entries ++ entry ∷ []) name at bytes
 last_on_record [] entry name at bytes is = inl is
 last_on_record (e ∷ entries) entry name at bytes is = inr (last_on_record entries entry name at bytes is)
 

@@ -8,10 +8,6 @@ pub append_known_twice : (known : Option (List ℕ)) (a b : List ℕ) → append
 append_known_twice None a b = refl
 append_known_twice (Some xs) a b = ap Some (append_assoc xs a b)
 
-pub append_known_nothing : (known : Option (List ℕ)) → append_known known [] ≡ known
-append_known_nothing None = refl
-append_known_nothing (Some xs) = ap Some (append-nil xs)
-
 -- one more piece was appended
 pub appended_more : (old then now : Option (List ℕ)) (text : List ℕ) (done n left : ℕ) → then ≡ append_known old (take done text) →
     now ≡ append_known then (take n (take left (drop done text))) → left ≡ length text - done → now ≡ append_known old (take (done + n) text)

@@ -7,5 +7,5 @@ pub record Shown : Type 1 where
   pub gave : List ℕ → ℕ → List ℕ → Type 0
   pub faults : List ℕ → ℕ
 
-abbrev pub shown : {D : Type 0} → (D → List ℕ → Option (List ℕ)) → (D → List ℕ → ℕ → List ℕ → Type 0) → (D → List ℕ → ℕ) → D → Shown
-shown content gave faults depot = record { content = content depot; gave = gave depot; faults = faults depot }
+abbrev pub shown_by : {D : Type 0} → (D → List ℕ → Option (List ℕ)) → (D → List ℕ → ℕ → List ℕ → Type 0) → (D → List ℕ → ℕ) → D → Shown
+shown_by content gave faults depot = record { content = content depot; gave = gave depot; faults = faults depot }

@@ -5,6 +5,6 @@ use Rattle.te_ports.specs.declared.system.SystemFault.{SystemFault}
 use Rattle.te_ports.specs.declared.system.SystemFault.TheVariants.{Interrupted, Failed}
 
 -- a call that a signal interrupted may be made again, and an error of any other kind is a failure
-abbrev pub fault_of : ErrorKind → SystemFault
-fault_of kind.Interrupted = Interrupted
-fault_of _ = Failed
+abbrev pub system_fault : ErrorKind → SystemFault
+system_fault kind.Interrupted = Interrupted
+system_fault _ = Failed

@@ -13,9 +13,9 @@ pub enum SystemFault {
 impl From<io::Error> for SystemFault {
     ghost use Rattle.std.specs.Prelude.{◌≡◌};
     ghost use Rattle.std.specs.IoError.{error_kind};
-    ghost use Rattle.te_ports.specs.SystemFaults.{fault_of};
+    ghost use Rattle.te_ports.specs.SystemFaults.{system_fault};
 
-    ghost from_gives = { λ error fault. fault ≡ fault_of (error_kind error) };
+    ghost from_gives = { λ error fault. fault ≡ system_fault (error_kind error) };
 
     fn from(error: io::Error) -> Self {
         match error.kind() {

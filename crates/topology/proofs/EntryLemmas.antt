@@ -5,10 +5,10 @@ use Rattle.te_model.specs.Network.{is_name}
 use Rattle.csv_records.specs.Field.{is_number_within, digits_from}
 use Rattle.topology.specs.declared.fault.TopologyFault.{TopologyFault}
 use Rattle.topology.specs.declared.fault.TopologyFault.TheVariants as fault
-use Rattle.topology.specs.Topology.{Entry, entry_of, entry_of_fields}
+use Rattle.topology.specs.Topology.{Entry, link_entry, entry_of_fields}
 
-pub no-four : (row : ℕ) (xs : List (List ℕ)) → length xs ≢ 4 → entry_of row xs ≡ Err (fault.Fields row)
-unfolding entry_of
+pub no-four : (row : ℕ) (xs : List (List ℕ)) → length xs ≢ 4 → link_entry row xs ≡ Err (fault.Fields row)
+unfolding link_entry
 no-four row [] n = refl
 no-four row (a ∷ []) n = refl
 no-four row (a ∷ b ∷ []) n = refl
@@ -16,8 +16,8 @@ no-four row (a ∷ b ∷ c ∷ []) n = refl
 no-four row (a ∷ b ∷ c ∷ d ∷ []) n = absurd (n refl)
 no-four row (a ∷ b ∷ c ∷ d ∷ e ∷ rest) n = refl
 
-pub four-fields : (row : ℕ) (xs : List (List ℕ)) (s t c k : List ℕ) (r : Result Entry TopologyFault) → xs ≡ s ∷ t ∷ c ∷ k ∷ [] → entry_of_fields row s t c k ≡ r → entry_of row xs ≡ r
-unfolding entry_of
+pub four-fields : (row : ℕ) (xs : List (List ℕ)) (s t c k : List ℕ) (r : Result Entry TopologyFault) → xs ≡ s ∷ t ∷ c ∷ k ∷ [] → entry_of_fields row s t c k ≡ r → link_entry row xs ≡ r
+unfolding link_entry
 four-fields row xs s t c k r e h = rw e h
 
 named : {R : Type 0} (a b : Bool) (p q : R) → a ≡ true → b ≡ true → (if not (a && b) then p else q) ≡ q

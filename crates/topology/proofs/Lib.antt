@@ -4,4 +4,4 @@ mod EntryLemmas
 mod RowLemmas
 mod WellFormed
 mod NumberLemmas
-mod SoundLemmas
+pub mod SoundLemmas

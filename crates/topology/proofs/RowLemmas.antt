@@ -6,27 +6,27 @@ use Rattle.csv_records.specs.Rows.{and_then, fold_rows, records_of}
 use Rattle.csv_records.proofs.RowFacts.{after-header}
 use Rattle.topology.specs.declared.fault.TopologyFault.{TopologyFault}
 use Rattle.topology.specs.declared.fault.TopologyFault.TheVariants as fault
-use Rattle.topology.specs.Topology.{Entry, entry_of, with_link, within, with_row, is_header, no_links, closed, topology_of}
+use Rattle.topology.specs.Topology.{Entry, link_entry, with_link, within, with_link_row, is_topology_header, no_links, closed_network, topology_of}
 
 module _ (net : Network) (row : ℕ) (r : List (List ℕ)) where
   -- a row with a fault of its own
-  pub row-fault : (f : TopologyFault) → entry_of row r ≡ Err f → with_row net row r ≡ Err f
+  pub row-fault : (f : TopologyFault) → link_entry row r ≡ Err f → with_link_row net row r ≡ Err f
   row-fault f e = rw e refl
 
   -- what a row does that says a link
-  pub row-link : (o : Result Network TopologyFault) (e : Entry) → entry_of row r ≡ Ok e → within row (with_link net e) ≡ o → with_row net row r ≡ o
+  pub row-link : (o : Result Network TopologyFault) (e : Entry) → link_entry row r ≡ Ok e → within row (with_link net e) ≡ o → with_link_row net row r ≡ o
   row-link o e said is = rw (said, is) refl
 
 -- a file that begins with the header is the network of its rows
 pub made-of-rows : (bytes : List ℕ) (header : List (List ℕ)) (rows : List (List (List ℕ))) (o : Result Network TopologyFault)
-    → records_of bytes ≡ header ∷ rows → is_header header ≡ true → fold_rows with_row no_links 1 rows ≡ o → topology_of bytes ≡ and_then closed o
-made-of-rows bytes header rows o first is all = ap (and_then closed) (after-header with_row is_header fault.Header no_links (records_of bytes) header rows first is ∙ all)
+    → records_of bytes ≡ header ∷ rows → is_topology_header header ≡ true → fold_rows with_link_row no_links 1 rows ≡ o → topology_of bytes ≡ and_then closed_network o
+made-of-rows bytes header rows o first is all = ap (and_then closed_network) (after-header with_link_row is_topology_header fault.Header no_links (records_of bytes) header rows first is ∙ all)
 
 -- no row is left
-pub closed-empty : (net : Network) → length net.links ≡ 0 → closed net ≡ Err fault.Empty
+pub closed-empty : (net : Network) → length net.links ≡ 0 → closed_network net ≡ Err fault.Empty
 closed-empty net n = rw n refl
 
-pub closed-done : (net : Network) → nat_lt 0 (length net.links) ≡ true → closed net ≡ Ok net
+pub closed-done : (net : Network) → nat_lt 0 (length net.links) ≡ true → closed_network net ≡ Ok net
 closed-done net n = rw n refl
 
 -- the test that a list is empty

@@ -18,7 +18,8 @@ use Rattle.topology.specs.declared.fault.TopologyFault.TheVariants as fault
 use Rattle.topology.specs.Numbering.{with_name, number_in}
 use Rattle.csv_records.specs.Rows.{and_then, fold_table, records_of}
 use Rattle.csv_records.proofs.RowFacts.{table-keep}
-use Rattle.topology.specs.Topology.{Entry, entry_of, entry_of_fields, with_link, within, with_row, is_header, no_links, closed, topology_of}
+use Rattle.topology.specs.Topology.{Entry, link_entry, entry_of_fields, with_link, within, with_link_row, is_topology_header, no_links, closed_network, topology_of}
+use Rattle.topology.specs.Laws.{TopologiesAreFormed}
 use Rattle.topology.proofs.NumberLemmas.{named}
 
 -- what a row says, where it is accepted
@@ -56,8 +57,8 @@ fields-said row s t c k e said =
       cost_high = dear;
     })
 
-pub entry-said : (row : ℕ) (xs : List (List ℕ)) (e : Entry) → entry_of row xs ≡ Ok e → IsEntry e
-unfolding entry_of
+pub entry-said : (row : ℕ) (xs : List (List ℕ)) (e : Entry) → link_entry row xs ≡ Ok e → IsEntry e
+unfolding link_entry
 entry-said row [] e said = cc said
 entry-said row (a ∷ []) e said = cc said
 entry-said row (a ∷ b ∷ []) e said = cc said
@@ -125,8 +126,8 @@ row-sound net more row (Ok e) said w h =
     subst WellFormed same (linked net e w (said e refl) nodes links)
 row-sound net more row (Err f) said w h = cc h
 
-row-keeps : (net more : Network) (row : ℕ) (r : List (List ℕ)) → WellFormed net → with_row net row r ≡ Ok more → WellFormed more
-row-keeps net more row r w h = row-sound net more row (entry_of row r) (entry-said row r) w h
+row-keeps : (net more : Network) (row : ℕ) (r : List (List ℕ)) → WellFormed net → with_link_row net row r ≡ Ok more → WellFormed more
+row-keeps net more row r w h = row-sound net more row (link_entry row r) (entry-said row r) w h
 
 nothing : WellFormed no_links
 nothing = record {
@@ -146,18 +147,21 @@ end-sound : (b : Bool) (made net : Network) → nat_lt 0 (length made.links) ≡
 end-sound true made net some h w = subst Finished (cc h) (w, grind (arith, nat_tests))
 end-sound false made net some h w = cc h
 
-table-sound : (o : Result Network TopologyFault) (net : Network) → ((made : Network) → o ≡ Ok made → WellFormed made) → and_then closed o ≡ Ok net → Finished net
+table-sound : (o : Result Network TopologyFault) (net : Network) → ((made : Network) → o ≡ Ok made → WellFormed made) → and_then closed_network o ≡ Ok net → Finished net
 table-sound (Ok made) net sound h = end-sound (nat_lt 0 (length made.links)) made net refl h (sound made refl)
 table-sound (Err f) net sound h = cc h
 
 -- the network that a file makes
 pub topology-finished : (bytes : List ℕ) (net : Network) → topology_of bytes ≡ Ok net → Finished net
 topology-finished bytes net h =
-    table-sound (fold_table is_header fault.Header with_row no_links (records_of bytes)) net
-    (λ made is. table-keep with_row is_header fault.Header no_links WellFormed row-keeps made (records_of bytes) nothing is) h
+    table-sound (fold_table is_topology_header fault.Header with_link_row no_links (records_of bytes)) net
+    (λ made is. table-keep with_link_row is_topology_header fault.Header no_links WellFormed row-keeps made (records_of bytes) nothing is) h
 
 pub topology-sound : (bytes : List ℕ) (net : Network) → topology_of bytes ≡ Ok net → is_well_formed net ≡ true
 topology-sound bytes net h = let (sound, some) = topology-finished bytes net h in well-formed net sound some
 
 pub topology-has-links : (bytes : List ℕ) (net : Network) → topology_of bytes ≡ Ok net → 1 ≤ link_count net
 topology-has-links bytes net h = let (sound, some) = topology-finished bytes net h in some
+
+pub topologies_are_formed : TopologiesAreFormed
+topologies_are_formed bytes net h = (topology-sound bytes net h, topology-has-links bytes net h)

@@ -26,9 +26,9 @@ entry_of_fields row source target capacity cost =
     else Ok (record { source = source; target = target; capacity = digits_from 0 capacity; cost = digits_from 0 cost })
 
 -- the same of any row
-unfoldable pub entry_of : ℕ → List (List ℕ) → Result Entry TopologyFault
-entry_of row (source ∷ target ∷ capacity ∷ cost ∷ []) = entry_of_fields row source target capacity cost
-entry_of row _ = Err (fault.Fields row)
+unfoldable pub link_entry : ℕ → List (List ℕ) → Result Entry TopologyFault
+link_entry row (source ∷ target ∷ capacity ∷ cost ∷ []) = entry_of_fields row source target capacity cost
+link_entry row _ = Err (fault.Fields row)
 
 -- the network with one link more
 abbrev pub with_link : Network → Entry → Network
@@ -47,20 +47,20 @@ abbrev pub within : ℕ → Network → Result Network TopologyFault
 within row net = if nat_lt MAX_NODES (length net.names) || nat_lt MAX_LINKS (length net.links) then Err (fault.TooMany row) else Ok net
 
 -- what a row adds to the network that the rows before it made, or the first of its faults
-abbrev pub with_row : Network → ℕ → List (List ℕ) → Result Network TopologyFault
-with_row net row fields = and_then (λ e. within row (with_link net e)) (entry_of row fields)
+abbrev pub with_link_row : Network → ℕ → List (List ℕ) → Result Network TopologyFault
+with_link_row net row fields = and_then (λ e. within row (with_link net e)) (link_entry row fields)
 
 -- a network that has a link
-abbrev pub closed : Network → Result Network TopologyFault
-closed net = if nat_lt 0 (length net.links) then Ok net else Err fault.Empty
+abbrev pub closed_network : Network → Result Network TopologyFault
+closed_network net = if nat_lt 0 (length net.links) then Ok net else Err fault.Empty
 
-abbrev pub is_header : List (List ℕ) → Bool
-is_header (a ∷ b ∷ c ∷ d ∷ []) = bytes_eq a (codes "source") && bytes_eq b (codes "target") && bytes_eq c (codes "capacity") && bytes_eq d (codes "cost")
-is_header _ = false
+abbrev pub is_topology_header : List (List ℕ) → Bool
+is_topology_header (a ∷ b ∷ c ∷ d ∷ []) = bytes_eq a (codes "source") && bytes_eq b (codes "target") && bytes_eq c (codes "capacity") && bytes_eq d (codes "cost")
+is_topology_header _ = false
 
 abbrev pub no_links : Network
 no_links = record { names = []; links = [] }
 
 -- the network that the rows of a topology file make, or the first fault of the first row that has one
 abbrev pub topology_of : List ℕ → Result Network TopologyFault
-topology_of bytes = and_then closed (fold_table is_header fault.Header with_row no_links (records_of bytes))
+topology_of bytes = and_then closed_network (fold_table is_topology_header fault.Header with_link_row no_links (records_of bytes))

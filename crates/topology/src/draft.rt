@@ -2,7 +2,7 @@
 
 ghost use Rattle.std.specs.Prelude.{◌≡◌, ◌≢◌, ◌≤◌, ◌+◌, OnOk, IfErr, IfOk, Ok, Err, length};
 ghost use Rattle.topology.specs.declared.fault.TopologyFault.TheVariants as fault;
-ghost use Rattle.topology.specs.Topology.{closed, no_links, with_link, within};
+ghost use Rattle.topology.specs.Topology.{closed_network, no_links, with_link, within};
 
 use crate::entry::Entry;
 use crate::fault::TopologyFault;
@@ -70,8 +70,8 @@ impl Draft {
 
     /// The network, which has a link.
     pub fn close(self, alloc: Global) -> Result<Network, TopologyFault>
-        ensures network { IfOk result (λ net. closed self ≡ Ok net) }
-        ensures refused { IfErr result (λ e. e ≢ fault.Memory → closed self ≡ Err e) }
+        ensures network { IfOk result (λ net. closed_network self ≡ Ok net) }
+        ensures refused { IfErr result (λ e. e ≢ fault.Memory → closed_network self ≡ Err e) }
     {
         if self.links.is_empty() {
             return Err(TopologyFault::Empty);

@@ -2,7 +2,7 @@
 
 ghost use Rattle.std.specs.Prelude.{◌≡◌, IfOk, IfErr, Ok, Err, true, false, MatchOption};
 ghost use Rattle.te_model.specs.Network.{is_name};
-ghost use Rattle.topology.specs.Topology.{entry_of};
+ghost use Rattle.topology.specs.Topology.{link_entry};
 
 use crate::fault::TopologyFault;
 use csv_records::{Rows, number_within};
@@ -19,8 +19,8 @@ pub struct Entry<'r> {
 
 /// What the row says that was read last, or the first of its faults.
 pub fn read_entry<'r>(rows: &'r Rows<'_>, row: u64) -> Result<Entry<'r>, TopologyFault>
-    ensures entry { IfOk result (λ e. entry_of row rows.now.current ≡ Ok (record { source = e.source.now; target = e.target.now; capacity = e.capacity; cost = e.cost })) }
-    ensures refused { IfErr result (λ f. entry_of row rows.now.current ≡ Err f) }
+    ensures entry { IfOk result (λ e. link_entry row rows.now.current ≡ Ok (record { source = e.source.now; target = e.target.now; capacity = e.capacity; cost = e.cost })) }
+    ensures refused { IfErr result (λ f. link_entry row rows.now.current ≡ Err f) }
 {
     let Some((source, target, capacity, cost)) = rows.four_fields() else {
         return Err(TopologyFault::Fields(row));

@@ -24,7 +24,7 @@ pub enum TopologyFault {
     /// The source is the target.
     #[error("self link at row {0}")]
     SelfLink(u64),
-    /// The row brings the 65th node or the 513th link.
+    /// The row brings the 129th node or the 1,025th link.
     #[error("too many at row {0}")]
     TooMany(u64),
     /// There is no row after the header.

@@ -4,7 +4,7 @@ ghost use Rattle.std.specs.Prelude.{◌≡◌, ◌≢◌, ◌≤◌, ◌∷◌, 
 ghost use Rattle.te_model.specs.Network.{is_well_formed, link_count};
 ghost use Rattle.csv_records.specs.Rows.{fold_rows, fold_table};
 ghost use Rattle.topology.specs.declared.fault.TopologyFault.TheVariants as fault;
-ghost use Rattle.topology.specs.Topology.{topology_of, with_row, is_header, no_links};
+ghost use Rattle.topology.specs.Topology.{topology_of, with_link_row, is_topology_header, no_links};
 
 use crate::draft::Draft;
 use crate::entry::read_entry;
@@ -36,8 +36,8 @@ pub fn read(alloc: Global, bytes: &[u8]) -> Result<Network, TopologyFault>
 // Reads the first record, which is the header.
 fn read_header(rows: &mut Rows<'_>) -> Result<(), TopologyFault>
     ensures first { OnOk result (rows.old.rest ≡ rows.new.current ∷ rows.new.rest) }
-    ensures header { OnOk result (IsTrue (is_header rows.new.current)) }
-    ensures refused { IfErr result (λ e. e ≢ fault.Memory → fold_table is_header fault.Header with_row no_links rows.old.rest ≡ Err e) }
+    ensures header { OnOk result (IsTrue (is_topology_header rows.new.current)) }
+    ensures refused { IfErr result (λ e. e ≢ fault.Memory → fold_table is_topology_header fault.Header with_link_row no_links rows.old.rest ≡ Err e) }
 {
     if !rows.advance()? || !has_header(rows) {
         return Err(TopologyFault::Header);
@@ -47,7 +47,7 @@ fn read_header(rows: &mut Rows<'_>) -> Result<(), TopologyFault>
 
 // Whether the record that was read last is the header.
 fn has_header(rows: &Rows<'_>) -> bool
-    ensures { result ≡ is_header rows.now.current }
+    ensures { result ≡ is_topology_header rows.now.current }
 {
     match rows.four_fields() {
         Some((source, target, capacity, cost)) => {
@@ -63,8 +63,8 @@ fn has_header(rows: &Rows<'_>) -> bool
 // Reads the rows that are left, a link from each, into a draft that has none yet.
 fn read_links(alloc: Global, rows: &mut Rows<'_>, draft: &mut Draft) -> Result<(), TopologyFault>
     requires { draft.old ≡ no_links }
-    ensures links { OnOk result (fold_rows with_row no_links 1 rows.old.rest ≡ Ok draft.new) }
-    ensures refused { IfErr result (λ e. e ≢ fault.Memory → fold_rows with_row no_links 1 rows.old.rest ≡ Err e) }
+    ensures links { OnOk result (fold_rows with_link_row no_links 1 rows.old.rest ≡ Ok draft.new) }
+    ensures refused { IfErr result (λ e. e ≢ fault.Memory → fold_rows with_link_row no_links 1 rows.old.rest ≡ Err e) }
 {
     let mut row = 1u64;
     while rows.advance()? {

@@ -6,29 +6,21 @@ use Rattle.std.proofs.lemmas.List.FromFn.{filter_of_map_range_with_len_more}
 use Rattle.std.proofs.lemmas.Bool.{cases_lt}
 use Rattle.std.proofs.Math.Nat.{mul-le-mul_left}
 use Rattle.te_model.specs.declared.route.Pair.{Pair}
+use Rattle.te_model.specs.Pairs.{IsNodePair}
 use Rattle.traffic_matrix.specs.declared.entry.Entry.{Entry}
 use Rattle.traffic_matrix.specs.declared.demands.Demands.{Demands}
 use Rattle.traffic_matrix.specs.declared.fault.MatrixFault.TheVariants as fault
-use Rattle.traffic_matrix.specs.Pairs.{IsWithin, same_pair, pair_of_place}
+use Rattle.traffic_matrix.specs.Pairs.{same_pair, pair_of_place}
 use Rattle.traffic_matrix.specs.Series.{demand_in}
-use Rattle.traffic_matrix.specs.Rows.{latest_step, accepted}
+use Rattle.traffic_matrix.specs.Rows.{latest_step, with_accepted_entry}
 use Rattle.traffic_matrix.specs.Table.{declared_at, IsPut}
 use Rattle.traffic_matrix.specs.Shows.{Shows}
-
--- a table without steps holds what no row says
-pub shows-none : (d : Demands) → d.latest ≡ 0 → d.table.steps.items ≡ [] → ((pair : Pair) → IsWithin d.table.nodes pair → declared_at d.table pair ≡ false) → Shows [] d
-shows-none d latest steps declared = record {
-  latest = latest;
-  steps = d.table.steps.ok.0 ∙ ap length steps;
-  demands = λ step pair w. rw steps refl;
-  declared = declared;
-}
 
 -- a row more
 pub shows-more : (entries : List Entry) (e : Entry) (old new : Demands) → IsPut old.table new.table e.step e.pair e.demand → vec_len new.table.steps ≡ max (e.step + 1) (vec_len old.table.steps) → new.latest ≡ e.step
     → Shows entries old → Shows (e ∷ entries) new
 shows-more entries e old new put steps latest s =
-    let before = λ (p : Pair) (w : IsWithin new.table.nodes p). rw put.nodes at w in
+    let before = λ (p : Pair) (w : IsNodePair new.table.nodes p). rw put.nodes at w in
     record {
       latest = latest;
       steps = steps ∙ ap (max (e.step + 1)) s.steps;
@@ -37,34 +29,34 @@ shows-more entries e old new put steps latest s =
     }
 
 module _ (entries : List Entry) (row : ℕ) (e : Entry) where
-  pub order-fault : e.step < latest_step entries → accepted entries row e ≡ Err (fault.Order row)
+  pub order-fault : e.step < latest_step entries → with_accepted_entry entries row e ≡ Err (fault.Order row)
   order-fault h = let a : nat_lt e.step (latest_step entries) ≡ true = grind (arith, nat_tests) in rw a refl
 
   module _ (after : latest_step entries ≤ e.step) where
-    pub repeated-fault : is_some (demand_in entries e.step e.pair) ≡ true → accepted entries row e ≡ Err (fault.Repeated row)
+    pub repeated-fault : is_some (demand_in entries e.step e.pair) ≡ true → with_accepted_entry entries row e ≡ Err (fault.Repeated row)
     repeated-fault h = let a : nat_lt e.step (latest_step entries) ≡ false = grind (arith, nat_tests) in rw (a, h) refl
 
     module _ (new : is_some (demand_in entries e.step e.pair) ≡ false) where
-      pub self-fault : e.pair.src ≡ e.pair.dst → accepted entries row e ≡ Err (fault.SelfPair row)
+      pub self-fault : e.pair.src ≡ e.pair.dst → with_accepted_entry entries row e ≡ Err (fault.SelfPair row)
       self-fault h =
           let a : nat_lt e.step (latest_step entries) ≡ false = grind (arith, nat_tests) in
           let b : (e.pair.src == e.pair.dst) ≡ true = grind (arith, nat_tests) in
           rw (a, new, b) refl
 
-      pub steps-fault : (e.pair.src == e.pair.dst) ≡ false → 1024 ≤ e.step → accepted entries row e ≡ Err (fault.TooManySteps row)
+      pub steps-fault : (e.pair.src == e.pair.dst) ≡ false → 1024 ≤ e.step → with_accepted_entry entries row e ≡ Err (fault.TooManySteps row)
       steps-fault h k =
           let a : nat_lt e.step (latest_step entries) ≡ false = grind (arith, nat_tests) in
           let b : nat_le 1024 e.step ≡ true = grind (arith, nat_tests) in
           rw (a, new, h, b) refl
 
-      pub accepts : (e.pair.src == e.pair.dst) ≡ false → e.step < 1024 → accepted entries row e ≡ Ok (e ∷ entries)
+      pub accepts : (e.pair.src == e.pair.dst) ≡ false → e.step < 1024 → with_accepted_entry entries row e ≡ Ok (e ∷ entries)
       accepts h k =
           let a : nat_lt e.step (latest_step entries) ≡ false = grind (arith, nat_tests) in
           let b : nat_le 1024 e.step ≡ false = grind (arith, nat_tests) in
           rw (a, new, h, b) refl
 
 -- the pair of a place
-pub pair-within : (n k : ℕ) → k < n * n → IsWithin n (pair_of_place n k)
+pub pair-within : (n k : ℕ) → k < n * n → IsNodePair n (pair_of_place n k)
 pair-within n k low =
     elim (cases_lt 0 n) [
       | inl some ↦ record {

@@ -7,17 +7,18 @@ use Rattle.std.proofs.lemmas.List.FromFn.{get_or-map-range_with_len, length-map-
 use Rattle.std.proofs.lemmas.List.Kept.{AllPairs-filter}
 use Rattle.std.proofs.Math.Nat.{mul-le-mul_left}
 use Rattle.te_model.specs.declared.route.Pair.{Pair}
-use Rattle.te_model.specs.Pairs.{no_pair, IsPairAmong}
+use Rattle.te_model.specs.Pairs.{no_pair, IsPairAmong, IsNodePair, AreDemands}
+use Rattle.te_model.proofs.AscendingPairs.{Below, neighbours_ascend}
 use Rattle.te_model.proofs.Tests.{get_or_past}
 use Rattle.traffic_matrix.specs.declared.series.Series.{Series}
 use Rattle.random_words.specs.Words.{generator}
-use Rattle.traffic_matrix.specs.Pairs.{IsWithin, pair_of_place, all_pairs}
+use Rattle.traffic_matrix.specs.Pairs.{pair_of_place, all_pairs}
 use Rattle.traffic_matrix.specs.Gravity.{every_pair, size_at, sizes_in, gravity_matrix, gravity_of}
-use Rattle.traffic_matrix.specs.Limits.{Below, IsMatrix, IsSeries}
+use Rattle.traffic_matrix.specs.Limits.{IsSeries}
 use Rattle.traffic_matrix.proofs.DemandLemmas.{pair-within}
 use Rattle.traffic_matrix.proofs.LimitLemmas.{All-where, all-ascend}
 
-all-within : (n : ℕ) → All (IsWithin n) (all_pairs n)
+all-within : (n : ℕ) → All (IsNodePair n) (all_pairs n)
 all-within n k d low =
     let inside : k < n * n = omega (arith, length-map-range_with_len (pair_of_place n) 0 (n * n)) in
     rw (get_or-map-range_with_len (pair_of_place n) 0 (n * n) k k d inside (omega arith)) (pair-within n k inside)
@@ -34,10 +35,10 @@ small-size n seed step k =
 product-small : (a b : ℕ) → a ≤ 100 → b ≤ 100 → a * b ≤ 2 ^ 32
 product-small a b low small = let h : a * b ≤ a * 100 = mul-le-mul_left a small in omega arith
 
-matrix-limits : (n seed k : ℕ) → IsMatrix (length (every_pair n)) (gravity_matrix n seed k)
+matrix-limits : (n seed k : ℕ) → AreDemands (length (every_pair n)) (gravity_matrix n seed k).demand
 matrix-limits n seed k = record {
   count = simp length-map;
-  demands = λ j d low.
+  small = λ j d low.
       let sizes = sizes_in n seed k in
       let inside : j < length (every_pair n) = simp length-map at low in
       rw (get_or-map (λ p. get_or sizes p.src 0 * get_or sizes p.dst 0) (every_pair n) j no_pair d inside)
@@ -49,8 +50,8 @@ pub gravity-in-range : (n seed steps : ℕ) → steps ≤ 1024 → IsSeries n (g
 gravity-in-range n seed steps few =
     let test : Pair → Bool = λ p. not (p.src == p.dst) in
     record {
-      pairs = All-where test (IsWithin n) (IsPairAmong n) (all_pairs n) (all-within n) (λ p w h. record { src_inside = w.src; dst_inside = w.dst; apart = eqb-false p.src p.dst (not-true (p.src == p.dst) h) });
-      ascending = AllPairs-filter Below test (all_pairs n) (all-ascend n);
+      pairs = All-where test (IsNodePair n) (IsPairAmong n) (all_pairs n) (all-within n) (λ p w h. record { src_inside = w.src; dst_inside = w.dst; apart = eqb-false p.src p.dst (not-true (p.src == p.dst) h) });
+      ascending = neighbours_ascend (every_pair n) (AllPairs-filter Below test (all_pairs n) (all-ascend n));
       few = omega (arith, length-map-range_with_len (gravity_matrix n seed) 0 steps);
       matrices = λ k d low.
           let inside : k < steps = omega (arith, length-map-range_with_len (gravity_matrix n seed) 0 steps) in
@@ -61,5 +62,5 @@ gravity-in-range n seed steps few =
 pub series-is : (n m seed k steps : ℕ) (series : Series) → series ≡ record { pairs = record { list = every_pair n }; steps = map (gravity_matrix n seed) (range_with_len 0 k) } → n ≡ m → k ≡ steps → series ≡ gravity_of m seed steps
 series-is n m seed k steps series made e f = made ∙ rw (e, f) refl
 
-pub within-count : (pairs pairs' : List Pair) (n m : ℕ) → pairs ≡ pairs' → n ≡ m → All (IsWithin m) pairs' → All (IsWithin n) pairs
+pub within-count : (pairs pairs' : List Pair) (n m : ℕ) → pairs ≡ pairs' → n ≡ m → All (IsNodePair m) pairs' → All (IsNodePair n) pairs
 within-count pairs pairs' n m e f all = rw (e, f) all

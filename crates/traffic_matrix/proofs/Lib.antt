@@ -3,8 +3,8 @@ mod NodeLemmas
 mod TableLemmas
 mod DemandLemmas
 mod Reading
-mod LimitLemmas
-mod GravityLemmas
+pub mod LimitLemmas
+pub mod GravityLemmas
 mod TextLemmas
 mod FieldText
 mod RowText

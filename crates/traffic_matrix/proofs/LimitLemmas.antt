@@ -12,7 +12,8 @@ use Rattle.std.proofs.Math.Nat.{mul-le-mul_left}
 use Rattle.te_model.specs.declared.network.Network.{Network}
 use Rattle.te_model.specs.declared.route.Pair.{Pair}
 use Rattle.te_model.specs.Network.{node_count}
-use Rattle.te_model.specs.Pairs.{no_pair, IsPairAmong}
+use Rattle.te_model.specs.Pairs.{no_pair, IsPairAmong, AreDemands}
+use Rattle.te_model.proofs.AscendingPairs.{Below, neighbours_ascend}
 use Rattle.csv_records.specs.Field.{is_number, is_number_within, digits_from}
 use Rattle.csv_records.specs.Rows.{and_then, records_of}
 use Rattle.csv_records.proofs.FieldFacts.{within-bounds}
@@ -23,8 +24,9 @@ use Rattle.traffic_matrix.specs.declared.fault.MatrixFault.{MatrixFault}
 use Rattle.traffic_matrix.specs.declared.fault.MatrixFault.TheVariants as fault
 use Rattle.traffic_matrix.specs.Pairs.{pair_of_place, all_pairs, same_pair}
 use Rattle.traffic_matrix.specs.Series.{demand_in, is_declared, step_count, declared_pairs, matrix_of, series_of}
-use Rattle.traffic_matrix.specs.Rows.{number_named, entry_between, entry_of, latest_step, accepted, with_row, is_header, entries_in, series_in}
-use Rattle.traffic_matrix.specs.Limits.{Below, IsMatrix, IsSeries}
+use Rattle.traffic_matrix.specs.Rows.{number_named, entry_between, demand_entry, latest_step, with_accepted_entry, with_demand_row, is_matrix_header, entries_in, series_in}
+use Rattle.traffic_matrix.specs.Limits.{IsSeries}
+use Rattle.traffic_matrix.specs.Laws.{SeriesAreInRange}
 use Rattle.traffic_matrix.proofs.TableLemmas.{pair-parts}
 
 -- what an accepted row says
@@ -59,8 +61,8 @@ between-said n row step demand (Some s) (Some t) e f g h = pick (is_number step)
     pick true false w k = cc k
     pick false b w k = cc k
 
-entry-said : (names : List (List ℕ)) (row : ℕ) (r : List (List ℕ)) (e : Entry) → entry_of names row r ≡ Ok e → Said (length names) e
-unfolding entry_of
+entry-said : (names : List (List ℕ)) (row : ℕ) (r : List (List ℕ)) (e : Entry) → demand_entry names row r ≡ Ok e → Said (length names) e
+unfolding demand_entry
 entry-said names row [] e h = cc h
 entry-said names row (a ∷ []) e h = cc h
 entry-said names row (a ∷ b ∷ []) e h = cc h
@@ -77,10 +79,10 @@ passed-all false false true d w x y z v more h = cc h
 passed-all false true c d w x y z v more h = cc h
 passed-all true b c d w x y z v more h = cc h
 
-row-kept : (names : List (List ℕ)) (before more : List Entry) (row : ℕ) (r : List (List ℕ)) → All (IsEntry (length names)) before → with_row names before row r ≡ Ok more → All (IsEntry (length names)) more
-row-kept names before more row r all h = go (entry_of names row r) refl h
+row-kept : (names : List (List ℕ)) (before more : List Entry) (row : ℕ) (r : List (List ℕ)) → All (IsEntry (length names)) before → with_demand_row names before row r ≡ Ok more → All (IsEntry (length names)) more
+row-kept names before more row r all h = go (demand_entry names row r) refl h
   where
-    go : (o : Result Entry MatrixFault) → entry_of names row r ≡ o → and_then (accepted before row) o ≡ Ok more → All (IsEntry (length names)) more
+    go : (o : Result Entry MatrixFault) → demand_entry names row r ≡ o → and_then (with_accepted_entry before row) o ≡ Ok more → All (IsEntry (length names)) more
     go (Err f) e k = cc k
     go (Ok x) e k =
         let (src, dst, small) = entry-said names row r x e in
@@ -152,7 +154,7 @@ series-limits n entries all =
     let pairs = declared_pairs n entries in
     record {
       pairs = All-where (is_declared entries) (λ p. Unit {0}) (IsPairAmong n) (all_pairs n) (λ k d low. tt) (λ p u h. declared-pair n entries p all h);
-      ascending = AllPairs-filter Below (is_declared entries) (all_pairs n) (all-ascend n);
+      ascending = neighbours_ascend pairs (AllPairs-filter Below (is_declared entries) (all_pairs n) (all-ascend n));
       few = omega (arith, length-map-range_with_len (matrix_of pairs entries) 0 (step_count entries), few-steps n entries all);
       matrices = λ k d low.
           let inside : k < step_count entries = omega (arith, length-map-range_with_len (matrix_of pairs entries) 0 (step_count entries)) in
@@ -160,10 +162,10 @@ series-limits n entries all =
           (matrix-limits k);
     }
   where
-    matrix-limits : (k : ℕ) → IsMatrix (length (declared_pairs n entries)) (matrix_of (declared_pairs n entries) entries k)
+    matrix-limits : (k : ℕ) → AreDemands (length (declared_pairs n entries)) (matrix_of (declared_pairs n entries) entries k).demand
     matrix-limits k = record {
       count = simp length-map;
-      demands = λ j d low.
+      small = λ j d low.
           let inside : j < length (declared_pairs n entries) = simp length-map at low in
           rw (get_or-map (λ p. unwrap_or (demand_in entries k p) 0) (declared_pairs n entries) j no_pair d inside) (small-demand n entries k (get_or (declared_pairs n entries) j no_pair) all);
     }
@@ -178,4 +180,7 @@ series-in-range net bytes series h = go (entries_in net bytes) refl h
         let same : series_of (node_count net) es ≡ series = cc k in
         subst (IsSeries (node_count net)) same
         (series-limits (node_count net) es
-        (table-keep (with_row net.names) is_header fault.Header [] (All (IsEntry (node_count net))) (λ s t row r all said. row-kept net.names s t row r all said) es (records_of bytes) (λ k d low. absurd (omega arith)) e))
+        (table-keep (with_demand_row net.names) is_matrix_header fault.Header [] (All (IsEntry (node_count net))) (λ s t row r all said. row-kept net.names s t row r all said) es (records_of bytes) (λ k d low. absurd (omega arith)) e))
+
+pub series_are_in_range : SeriesAreInRange
+series_are_in_range net bytes series formed h = series-in-range net bytes series h

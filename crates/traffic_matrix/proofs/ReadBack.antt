@@ -4,22 +4,23 @@ use Rattle.std.specs.List.{range_with_len}
 use Rattle.std.proofs.lemmas.List.FromFn.{fill_by_all, get_or-map-range_with_len, length-map-range_with_len}
 use Rattle.std.proofs.lemmas.List.Kept.{AllPairs-filter}
 use Rattle.std.proofs.lemmas.Nat.{div-mul-add}
+use Rattle.te_model.proofs.AscendingPairs.{Below, all_ascend}
 use Rattle.te_model.proofs.WellFormed.{well_formed_parts}
 use Rattle.te_model.specs.declared.network.Network.{Network}
 use Rattle.te_model.specs.declared.route.Pair.{Pair}
 use Rattle.te_model.specs.declared.demand.Matrix.{Matrix}
 use Rattle.te_model.specs.Network.{is_well_formed, node_count}
-use Rattle.te_model.specs.Pairs.{no_pair}
+use Rattle.te_model.specs.Pairs.{no_pair, IsNodePair}
 use Rattle.csv_records.specs.Rows.{and_then, records_of}
 use Rattle.csv_records.proofs.RowFacts.{after-header}
 use Rattle.traffic_matrix.specs.declared.entry.Entry.{Entry}
 use Rattle.traffic_matrix.specs.declared.series.Series.{Series}
 use Rattle.traffic_matrix.specs.declared.fault.MatrixFault.TheVariants as fault
-use Rattle.traffic_matrix.specs.Limits.{Below, IsSeries}
-use Rattle.traffic_matrix.specs.Pairs.{IsWithin, place, pair_of_place, all_pairs, same_pair}
-use Rattle.traffic_matrix.specs.Rows.{is_header, with_row, series_in}
+use Rattle.traffic_matrix.specs.Limits.{IsSeries}
+use Rattle.traffic_matrix.specs.Pairs.{place_of_pair, pair_of_place, all_pairs, same_pair}
+use Rattle.traffic_matrix.specs.Rows.{is_matrix_header, with_demand_row, series_in}
 use Rattle.traffic_matrix.specs.Series.{demand_in, is_declared, step_count, declared_pairs, matrix_of, series_of}
-use Rattle.traffic_matrix.specs.Text.{text_of, no_matrix}
+use Rattle.traffic_matrix.specs.Text.{series_text, no_matrix}
 use Rattle.traffic_matrix.proofs.LimitLemmas.{All-where, all-ascend}
 use Rattle.traffic_matrix.proofs.TableLemmas.{pair-parts, place-below}
 use Rattle.traffic_matrix.proofs.RowText.{entries_from, fields, header, series-records}
@@ -78,9 +79,9 @@ pair-is : (p q : Pair) → same_pair p q ≡ true → p ≡ q
 pair-is p q h = let (s, d) = pair-parts p q h in ap (λ (v : ℕ). let r : Pair = record { src = v; dst = p.dst } in r) s ∙ ap (λ (v : ℕ). let r : Pair = record { src = q.src; dst = v } in r) d
 
 -- a pair within stands among all pairs
-among-all : (n : ℕ) (p : Pair) → IsWithin n p → Mem p (all_pairs n)
+among-all : (n : ℕ) (p : Pair) → IsNodePair n p → Mem p (all_pairs n)
 among-all n p w =
-    let k = place n p in
+    let k = place_of_pair n p in
     let low = place-below n p w in
     let quotient : k / n ≡ p.src = div-mul-add p.src n p.dst w.dst in
     let rest : k % n ≡ p.dst = (let dst = w.dst in let f : n * (k / n) ≡ n * p.src = ap (λ (v : ℕ). n * v) quotient in omega arith) in
@@ -93,14 +94,14 @@ module _ (net : Network) (s : Series) (formed : is_well_formed net ≡ true) (li
       let n = node_count net in
       let declared = is_declared after in
       let tested = All-where declared (λ q. Unit {0}) (λ q. declared q ≡ true) (all_pairs n) (λ k d low. tt) (λ q u h. h) in
-      same-lists (declared_pairs n after) s.pairs.list (AllPairs-filter Below declared (all_pairs n) (all-ascend n)) limits.ascending
+      same-lists (declared_pairs n after) s.pairs.list (AllPairs-filter Below declared (all_pairs n) (all-ascend n)) (all_ascend s.pairs.list limits.ascending)
       (λ q m. let (i, low, is) = m in
       let yes : declared q ≡ true = rw is at (tested i no_pair low) in
       let (j, inside, same) = w.known q yes in
       (j, inside, pair-is (get_or s.pairs.list j no_pair) q same))
       (λ q m. let (i, low, is) = m in
       let pair = limits.pairs i no_pair low in
-      let within : IsWithin n (get_or s.pairs.list i no_pair) = record { src = pair.src_inside; dst = pair.dst_inside } in
+      let within : IsNodePair n (get_or s.pairs.list i no_pair) = record { src = pair.src_inside; dst = pair.dst_inside } in
       rw is at (mem-filter declared (all_pairs n) (get_or s.pairs.list i no_pair) (among-all n (get_or s.pairs.list i no_pair) within) (w.has i low (inl some))))
 
   demands-back : (k : ℕ) → k < length s.steps → (ps : List Pair) (ds : List ℕ) → length ds ≡ length ps
@@ -128,10 +129,10 @@ module _ (net : Network) (s : Series) (formed : is_well_formed net ≡ true) (li
       (ap (λ (k : ℕ). map (matrix_of s.pairs.list after) (range_with_len 0 k)) total ∙ sym steps))
 
 -- what is printed reads back, where there is a step and a pair
-pub reads-back : (net : Network) (s : Series) → is_well_formed net ≡ true → IsSeries (node_count net) s → 1 ≤ length s.steps → 1 ≤ length s.pairs.list → series_in net (text_of net s) ≡ Ok s
+pub reads-back : (net : Network) (s : Series) → is_well_formed net ≡ true → IsSeries (node_count net) s → 1 ≤ length s.steps → 1 ≤ length s.pairs.list → series_in net (series_text net s) ≡ Ok s
 reads-back net s formed limits some pair =
     let names = (well_formed_parts net formed).names in
     let (after, written, goes) = steps-read net s formed limits 0 (length s.steps) 1 [] pair (omega arith) (start net s formed limits) in
     ap (and_then (λ es. Ok (series_of (node_count net) es)))
-    (after-header (with_row net.names) is_header fault.Header [] (records_of (text_of net s)) header (map (fields net.names) (entries_from s 0 (length s.steps))) (series-records net s names limits) refl ∙ goes)
+    (after-header (with_demand_row net.names) is_matrix_header fault.Header [] (records_of (series_text net s)) header (map (fields net.names) (entries_from s 0 (length s.steps))) (series-records net s names limits) refl ∙ goes)
     ∙ ap (λ (x : Series). Ok x) (series-back net s formed limits after written some)

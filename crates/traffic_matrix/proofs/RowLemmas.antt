@@ -4,10 +4,10 @@ use Rattle.csv_records.specs.Field.{is_number, is_number_within, digits_from}
 use Rattle.traffic_matrix.specs.declared.entry.Entry.{Entry}
 use Rattle.traffic_matrix.specs.declared.fault.MatrixFault.{MatrixFault}
 use Rattle.traffic_matrix.specs.declared.fault.MatrixFault.TheVariants as fault
-use Rattle.traffic_matrix.specs.Rows.{number_named, entry_between, entry_of}
+use Rattle.traffic_matrix.specs.Rows.{number_named, entry_between, demand_entry}
 
-pub other-fields : (names : List (List ℕ)) (row : ℕ) (xs : List (List ℕ)) → length xs ≢ 4 → entry_of names row xs ≡ Err (fault.Fields row)
-unfolding entry_of
+pub other-fields : (names : List (List ℕ)) (row : ℕ) (xs : List (List ℕ)) → length xs ≢ 4 → demand_entry names row xs ≡ Err (fault.Fields row)
+unfolding demand_entry
 other-fields names row [] n = refl
 other-fields names row (a ∷ []) n = refl
 other-fields names row (a ∷ b ∷ []) n = refl
@@ -16,8 +16,8 @@ other-fields names row (a ∷ b ∷ c ∷ d ∷ []) n = absurd (n refl)
 other-fields names row (a ∷ b ∷ c ∷ d ∷ e ∷ rest) n = refl
 
 pub four-fields : (names : List (List ℕ)) (row : ℕ) (xs : List (List ℕ)) (step source target demand : List ℕ) (r : Result Entry MatrixFault) → xs ≡ step ∷ source ∷ target ∷ demand ∷ []
-    → entry_between row step demand (number_named names source) (number_named names target) ≡ r → entry_of names row xs ≡ r
-unfolding entry_of
+    → entry_between row step demand (number_named names source) (number_named names target) ≡ r → demand_entry names row xs ≡ r
+unfolding demand_entry
 four-fields names row xs step source target demand r e h = rw e h
 
 module _ (row : ℕ) (step demand : List ℕ) where

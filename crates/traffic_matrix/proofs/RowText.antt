@@ -17,7 +17,7 @@ use Rattle.te_model.specs.Pairs.{no_pair}
 use Rattle.traffic_matrix.specs.declared.entry.Entry.{Entry}
 use Rattle.traffic_matrix.specs.declared.series.Series.{Series}
 use Rattle.traffic_matrix.specs.Limits.{IsSeries}
-use Rattle.traffic_matrix.specs.Text.{line_at, lines_of, text_of, no_matrix}
+use Rattle.traffic_matrix.specs.Text.{line_at, step_text, series_text, no_matrix}
 use Rattle.traffic_matrix.proofs.FieldText.{IsPlain, decimal-plain, name-plain}
 
 -- the entry of the pair at a place in a step
@@ -83,7 +83,7 @@ module _ (net : Network) (s : Series) (named : list_all is_name net.names ≡ tr
       let matrix = limits.matrices step no_matrix k in
       let count = matrix.count in
       let few = limits.few in
-      let low = matrix.demands place 0 (omega arith) in
+      let low = matrix.small place 0 (omega arith) in
       row-plain (decimal step) (get_or net.names e.pair.src []) (get_or net.names e.pair.dst []) (decimal e.demand)
       (decimal-plain step (omega arith)) (name-plain (get_or net.names e.pair.src []) (name-at e.pair.src pair.src_inside)) (name-plain (get_or net.names e.pair.dst []) (name-at e.pair.dst pair.dst_inside)) (decimal-plain e.demand (omega arith))
     where
@@ -91,14 +91,14 @@ module _ (net : Network) (s : Series) (named : list_all is_name net.names ≡ tr
       name-at v low = every_name net.names v named low
 
   -- the text of a series is that of its header and its rows
-  pub series-text : text_of net s ≡ rows_text (header ∷ map (fields net.names) (entries_from s 0 (length s.steps)))
+  pub series-text : series_text net s ≡ rows_text (header ∷ map (fields net.names) (entries_from s 0 (length s.steps)))
   series-text =
       let S = length s.steps in
       let P = length s.pairs.list in
       let line : Entry → List ℕ = λ e. row_text default_writer (fields net.names e) in
-      let steps : flat_map (lines_of net.names s.pairs.list s.steps) (range_with_len 0 S) ≡ flat_map (λ k. flat_map line (step_entries s k)) (range_with_len 0 S) =
-      flat-same (lines_of net.names s.pairs.list s.steps) (λ k. flat_map line (step_entries s k)) (range_with_len 0 S)
-      (below S (λ k. lines_of net.names s.pairs.list s.steps k ≡ flat_map line (step_entries s k)) (λ k low.
+      let steps : flat_map (step_text net.names s.pairs.list s.steps) (range_with_len 0 S) ≡ flat_map (λ k. flat_map line (step_entries s k)) (range_with_len 0 S) =
+      flat-same (step_text net.names s.pairs.list s.steps) (λ k. flat_map line (step_entries s k)) (range_with_len 0 S)
+      (below S (λ k. step_text net.names s.pairs.list s.steps k ≡ flat_map line (step_entries s k)) (λ k low.
       flat-same (line_at net.names s.pairs.list k (get_or s.steps k no_matrix).demand) (λ i. line (entry_at s k i)) (range_with_len 0 P)
       (below P (λ i. line_at net.names s.pairs.list k (get_or s.steps k no_matrix).demand i ≡ line (entry_at s k i)) (λ i inside. sym (line-text k i low inside)))
       ∙ sym (flat-map line (entry_at s k) (range_with_len 0 P)))) in
@@ -111,13 +111,13 @@ back : (names : List (List ℕ)) (es : List Entry) → map read_back (map (field
 back names [] = refl
 back names (e ∷ es) = ap (λ (r : List (List (List ℕ))). fields names e ∷ r) (back names es)
 
-no-mark : (net : Network) (s : Series) → strip_bom (text_of net s) ≡ text_of net s
+no-mark : (net : Network) (s : Series) → strip_bom (series_text net s) ≡ series_text net s
 unfolding strip_bom
 no-mark net s = refl
 
 -- the records of the text of a series
 pub series-records : (net : Network) (s : Series) → list_all is_name net.names ≡ true → IsSeries (node_count net) s
-    → records_of (text_of net s) ≡ header ∷ map (fields net.names) (entries_from s 0 (length s.steps))
+    → records_of (series_text net s) ≡ header ∷ map (fields net.names) (entries_from s 0 (length s.steps))
 series-records net s named limits =
     ap (all_from st.StartRecord) (no-mark net s ∙ series-text net s named limits)
     ∙ read-back (header ∷ map (fields net.names) (entries_from s 0 (length s.steps)))

@@ -5,7 +5,8 @@ use Rattle.std.proofs.lemmas.Bool.Decides.{nat_tests}
 use Rattle.std.proofs.lemmas.List.{get_or-map, get_or-set_other, get_or-set_same, length-map, map-set}
 use Rattle.std.proofs.Math.Nat.{mul-le-mul_left}
 use Rattle.te_model.specs.declared.route.Pair.{Pair}
-use Rattle.traffic_matrix.specs.Pairs.{place, same_pair, IsWithin}
+use Rattle.te_model.specs.Pairs.{IsNodePair}
+use Rattle.traffic_matrix.specs.Pairs.{place_of_pair, same_pair}
 use Rattle.traffic_matrix.specs.declared.step_demands.StepDemands.{StepDemands}
 use Rattle.traffic_matrix.specs.declared.table.Table.{Table}
 use Rattle.traffic_matrix.specs.Table.{declared_at, demand_of_place, IsGrown, IsPut}
@@ -32,7 +33,7 @@ same-digits a b c d m x y same =
       ]
     ]
 
-pub place-below : (n : ℕ) (p : Pair) → IsWithin n p → place n p < n * n
+pub place-below : (n : ℕ) (p : Pair) → IsNodePair n p → place_of_pair n p < n * n
 place-below n p w = two-digits p.src p.dst n n w.src w.dst
 
 pub same-pair : (p q : Pair) → p.src ≡ q.src → p.dst ≡ q.dst → same_pair p q ≡ true
@@ -44,23 +45,23 @@ pair-parts p q h =
     (grind (arith, nat_tests), grind (arith, nat_tests))
 
 -- the pair of a place
-pub place-pair : (n : ℕ) (p q : Pair) → IsWithin n p → IsWithin n q → place n p ≡ place n q → same_pair p q ≡ true
+pub place-pair : (n : ℕ) (p q : Pair) → IsNodePair n p → IsNodePair n q → place_of_pair n p ≡ place_of_pair n q → same_pair p q ≡ true
 place-pair n p q v w e = let (s, d) = same-digits p.src p.dst q.src q.dst n v.dst w.dst e in same-pair p q s d
 
-pub pair-place : (n : ℕ) (p q : Pair) → same_pair p q ≡ true → place n p ≡ place n q
+pub pair-place : (n : ℕ) (p q : Pair) → same_pair p q ≡ true → place_of_pair n p ≡ place_of_pair n q
 pair-place n p q h =
     let (s, d) = pair-parts p q h in
     let f : p.src * n ≡ q.src * n = ap (λ (k : ℕ). k * n) s in
     omega arith
 
 -- one place is set to true
-pub declared-set : (n : ℕ) (bits : List Bool) (p q : Pair) (i : ℕ) → i ≡ place n p → length bits ≡ n * n → IsWithin n p → IsWithin n q
-    → get_or (set bits i true) (place n q) false ≡ (same_pair p q || get_or bits (place n q) false)
+pub declared-set : (n : ℕ) (bits : List Bool) (p q : Pair) (i : ℕ) → i ≡ place_of_pair n p → length bits ≡ n * n → IsNodePair n p → IsNodePair n q
+    → get_or (set bits i true) (place_of_pair n q) false ≡ (same_pair p q || get_or bits (place_of_pair n q) false)
 declared-set n bits p q i here size v w = rw here (go (same_pair p q) refl)
   where
-    go : (b : Bool) → same_pair p q ≡ b → get_or (set bits (place n p) true) (place n q) false ≡ (b || get_or bits (place n q) false)
-    go true e = rw (← pair-place n p q e) (get_or-set_same bits (place n p) true false (let low = place-below n p v in omega arith))
-    go false e = get_or-set_other bits (place n p) (place n q) true false (λ same. cc (e, place-pair n p q v w (sym same)))
+    go : (b : Bool) → same_pair p q ≡ b → get_or (set bits (place_of_pair n p) true) (place_of_pair n q) false ≡ (b || get_or bits (place_of_pair n q) false)
+    go true e = rw (← pair-place n p q e) (get_or-set_same bits (place_of_pair n p) true false (let low = place-below n p v in omega arith))
+    go false e = get_or-set_other bits (place_of_pair n p) (place_of_pair n q) true false (λ same. cc (e, place-pair n p q v w (sym same)))
 
 -- one step is another one
 pub demand-other : (steps : List StepDemands) (s : StepDemands) (at k i : ℕ) → k ≢ at
@@ -70,37 +71,37 @@ demand-other steps s at k i other =
     ap (λ (os : List (Option ℕ)). get_or os k None) (map-set f steps at s) ∙ get_or-set_other (map f steps) at k (f s) None other
 
 -- one step has a demand more
-pub demand-put : (n at k : ℕ) (steps : List StepDemands) (old new : StepDemands) (p q : Pair) (d i : ℕ) → i ≡ place n p → at < length steps → old ≡ get_or steps at old → IsWithin n p → IsWithin n q
+pub demand-put : (n at k : ℕ) (steps : List StepDemands) (old new : StepDemands) (p q : Pair) (d i : ℕ) → i ≡ place_of_pair n p → at < length steps → old ≡ get_or steps at old → IsNodePair n p → IsNodePair n q
     → ((j : ℕ) → demand_of_place new j ≡ (if i == j then Some d else demand_of_place old j))
-    → get_or (map (λ s. demand_of_place s (place n q)) (set steps at new)) k None ≡ (if at == k && same_pair p q then Some d else get_or (map (λ s. demand_of_place s (place n q)) steps) k None)
+    → get_or (map (λ s. demand_of_place s (place_of_pair n q)) (set steps at new)) k None ≡ (if at == k && same_pair p q then Some d else get_or (map (λ s. demand_of_place s (place_of_pair n q)) steps) k None)
 demand-put n at k steps old new p q d i here low read v w put = elim (cases_eq at k) [
   | inl same ↦
       let e : (at == k) ≡ true = grind (arith, nat_tests) in
       rw (e, ← same)
-      (ap (λ (os : List (Option ℕ)). get_or os at None) (map-set (λ s. demand_of_place s (place n q)) steps at new)
-      ∙ get_or-set_same (map (λ s. demand_of_place s (place n q)) steps) at (demand_of_place new (place n q)) None (rw length-map low)
-      ∙ put (place n q) ∙ go (same_pair p q) refl)
+      (ap (λ (os : List (Option ℕ)). get_or os at None) (map-set (λ s. demand_of_place s (place_of_pair n q)) steps at new)
+      ∙ get_or-set_same (map (λ s. demand_of_place s (place_of_pair n q)) steps) at (demand_of_place new (place_of_pair n q)) None (rw length-map low)
+      ∙ put (place_of_pair n q) ∙ go (same_pair p q) refl)
   | inr other ↦
       let e : (at == k) ≡ false = grind (arith, nat_tests) in
-      rw e (demand-other steps new at k (place n q) (λ h. other (sym h)))
+      rw e (demand-other steps new at k (place_of_pair n q) (λ h. other (sym h)))
 ]
   where
-    before : demand_of_place old (place n q) ≡ get_or (map (λ s. demand_of_place s (place n q)) steps) at None
-    before = ap (λ (s : StepDemands). demand_of_place s (place n q)) read ∙ sym (get_or-map (λ s. demand_of_place s (place n q)) steps at old None low)
+    before : demand_of_place old (place_of_pair n q) ≡ get_or (map (λ s. demand_of_place s (place_of_pair n q)) steps) at None
+    before = ap (λ (s : StepDemands). demand_of_place s (place_of_pair n q)) read ∙ sym (get_or-map (λ s. demand_of_place s (place_of_pair n q)) steps at old None low)
 
-    go : (b : Bool) → same_pair p q ≡ b → (if i == place n q then Some d else demand_of_place old (place n q)) ≡ (if b then Some d else get_or (map (λ s. demand_of_place s (place n q)) steps) at None)
+    go : (b : Bool) → same_pair p q ≡ b → (if i == place_of_pair n q then Some d else demand_of_place old (place_of_pair n q)) ≡ (if b then Some d else get_or (map (λ s. demand_of_place s (place_of_pair n q)) steps) at None)
     go true h =
-        let e : (i == place n q) ≡ true = (let f = pair-place n p q h in grind (arith, nat_tests)) in
+        let e : (i == place_of_pair n q) ≡ true = (let f = pair-place n p q h in grind (arith, nat_tests)) in
         rw e refl
     go false h =
-        let f : i ≢ place n q = λ same. cc (h, place-pair n p q v w (sym here ∙ same)) in
-        let e : (i == place n q) ≡ false = grind (arith, nat_tests) in
+        let f : i ≢ place_of_pair n q = λ same. cc (h, place-pair n p q v w (sym here ∙ same)) in
+        let e : (i == place_of_pair n q) ≡ false = grind (arith, nat_tests) in
         rw e before
 
 -- a demand put after the table grew
 pub put-grown : (old mid new : Table) (count at : ℕ) (pair : Pair) (demand : ℕ) → IsGrown old mid count → IsPut mid new at pair demand → IsPut old new at pair demand
 put-grown old mid new count at pair demand g p =
-    let inside = λ (q : Pair) (w : IsWithin old.nodes q). rw (sym g.nodes) at w in
+    let inside = λ (q : Pair) (w : IsNodePair old.nodes q). rw (sym g.nodes) at w in
     record {
       nodes = p.nodes ∙ g.nodes;
       demands = λ k q w. p.demands k q (inside q w) ∙ ap (λ (o : Option ℕ). if at == k && same_pair pair q then Some demand else o) (g.demands k q w);

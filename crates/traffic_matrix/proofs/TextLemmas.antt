@@ -7,7 +7,7 @@ use Rattle.te_model.proofs.Lists.{range-more}
 use Rattle.te_model.specs.Pairs.{no_pair}
 use Rattle.te_model.specs.declared.route.Pair.{Pair}
 use Rattle.te_model.specs.declared.demand.Matrix.{Matrix}
-use Rattle.traffic_matrix.specs.Text.{row_line, line_at, step_lines, lines_of, no_matrix}
+use Rattle.traffic_matrix.specs.Text.{demand_line, line_at, step_lines, step_text, no_matrix}
 
 -- what stands before, and then one piece more
 pub pieces-more : (before : List ℕ) (f : ℕ → List ℕ) (k : ℕ) → (before ++ flat_map f (range_with_len 0 k)) ++ f k ≡ before ++ flat_map f (range_with_len 0 (k + 1))
@@ -19,7 +19,7 @@ pieces-more before f k =
 pub line-of : (names : List (List ℕ)) (pairs : List Pair) (step place demand : ℕ) (demands source target : List ℕ) → demand ≡ get_or demands place 0
     → (get_or pairs place no_pair).src < length names → (get_or pairs place no_pair).dst < length names
     → source ≡ get_or names (get_or pairs place no_pair).src source → target ≡ get_or names (get_or pairs place no_pair).dst target
-    → row_line step source target demand ≡ line_at names pairs step demands place
+    → demand_line step source target demand ≡ line_at names pairs step demands place
 line-of names pairs step place demand demands source target d s t is-s is-t =
     let p = get_or pairs place no_pair in
     let a : source ≡ get_or names p.src [] = is-s ∙ get_or_default names p.src source [] s in
@@ -28,6 +28,6 @@ line-of names pairs step place demand demands source target d s t is-s is-t =
 
 -- the rows of a step more
 pub step-more : (before text more demands : List ℕ) (names names' : List (List ℕ)) (pairs pairs' : List Pair) (steps : List Matrix) (k : ℕ) → more ≡ text ++ step_lines names pairs k demands
-    → text ≡ before ++ flat_map (lines_of names' pairs' steps) (range_with_len 0 k) → names ≡ names' → pairs ≡ pairs' → demands ≡ (get_or steps k no_matrix).demand
-    → more ≡ before ++ flat_map (lines_of names' pairs' steps) (range_with_len 0 (k + 1))
-step-more before text more demands names names' pairs pairs' steps k a b c d e = a ∙ rw (b, c, d, e) (pieces-more before (lines_of names' pairs' steps) k)
+    → text ≡ before ++ flat_map (step_text names' pairs' steps) (range_with_len 0 k) → names ≡ names' → pairs ≡ pairs' → demands ≡ (get_or steps k no_matrix).demand
+    → more ≡ before ++ flat_map (step_text names' pairs' steps) (range_with_len 0 (k + 1))
+step-more before text more demands names names' pairs pairs' steps k a b c d e = a ∙ rw (b, c, d, e) (pieces-more before (step_text names' pairs' steps) k)

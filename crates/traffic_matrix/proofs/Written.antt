@@ -10,14 +10,15 @@ use Rattle.te_model.specs.declared.network.Network.{Network}
 use Rattle.te_model.specs.declared.route.Pair.{Pair}
 use Rattle.te_model.specs.Network.{is_well_formed, node_count, name_at}
 use Rattle.te_model.specs.Pairs.{no_pair}
+use Rattle.te_model.proofs.AscendingPairs.{Below, all_ascend}
 use Rattle.csv_records.specs.Rows.{fold_rows}
 use Rattle.csv_records.proofs.RowFacts.{rows-end, rows-more}
 use Rattle.traffic_matrix.specs.declared.entry.Entry.{Entry}
 use Rattle.traffic_matrix.specs.declared.series.Series.{Series}
-use Rattle.traffic_matrix.specs.Limits.{Below, IsSeries}
+use Rattle.traffic_matrix.specs.Limits.{IsSeries}
 use Rattle.traffic_matrix.specs.Pairs.{same_pair}
 use Rattle.traffic_matrix.specs.Series.{demand_in, is_declared, step_count}
-use Rattle.traffic_matrix.specs.Rows.{number_named, entry_of, latest_step, with_row}
+use Rattle.traffic_matrix.specs.Rows.{number_named, demand_entry, latest_step, with_demand_row}
 use Rattle.traffic_matrix.specs.Text.{no_matrix}
 use Rattle.traffic_matrix.proofs.FieldText.{decimal-number, decimal-within}
 use Rattle.traffic_matrix.proofs.NodeLemmas.{new-here}
@@ -99,7 +100,7 @@ module _ (net : Network) (s : Series) (formed : is_well_formed net ≡ true) (li
   written-more : (k a : ℕ) (before : List Entry) → a < length s.pairs.list → Written k a before → Written k (a + 1) (entry_at s k a ∷ before)
   written-more k a before low w =
       let e = entry_at s k a in
-      let ascending = limits.ascending in
+      let ascending = all_ascend s.pairs.list limits.ascending in
       record {
         latest = omega arith;
         count = (let c = w.count in omega arith);
@@ -140,18 +141,18 @@ module _ (net : Network) (s : Series) (formed : is_well_formed net ≡ true) (li
   }
 
   row-read : (k a row : ℕ) (before : List Entry) → a < length s.pairs.list → k < length s.steps → Written k a before
-      → with_row net.names before row (fields net.names (entry_at s k a)) ≡ Ok (entry_at s k a ∷ before)
+      → with_demand_row net.names before row (fields net.names (entry_at s k a)) ≡ Ok (entry_at s k a ∷ before)
   row-read k a row before low step w =
       let e = entry_at s k a in
       let pair = limits.pairs a no_pair low in
       let matrix = limits.matrices k no_matrix step in
       let count = matrix.count in
       let few = limits.few in
-      let small = matrix.demands a 0 (omega arith) in
+      let small = matrix.small a 0 (omega arith) in
       let differ = pair.apart in
       let (is-step, step-value) = decimal-number k (omega arith) in
       let (is-demand, demand-value) = decimal-number e.demand (omega arith) in
-      let said : entry_of net.names row (fields net.names e) ≡ Ok e =
+      let said : demand_entry net.names row (fields net.names e) ≡ Ok e =
       four-fields net.names row (fields net.names e) (decimal k) (name_at net e.pair.src) (name_at net e.pair.dst) (decimal e.demand) (Ok e) refl
       (good row (decimal k) (decimal e.demand) (number_named net.names (name_at net e.pair.src)) (number_named net.names (name_at net e.pair.dst)) e.pair.src e.pair.dst
       (number-of net e.pair.src formed pair.src_inside) (number-of net e.pair.dst formed pair.dst_inside) k e.demand (is-step, sym step-value) (decimal-within e.demand small, sym demand-value)) in
@@ -161,7 +162,7 @@ module _ (net : Network) (s : Series) (formed : is_well_formed net ≡ true) (li
   -- the rows of a step from a place on, and then others
   step-read : (k a m row : ℕ) (before : List Entry) (more : List (List (List ℕ))) → a + m ≡ length s.pairs.list → k < length s.steps → Written k a before
       → (after : List Entry) × (next : ℕ) × Written k (length s.pairs.list) after
-      × (fold_rows (with_row net.names) before row (map (fields net.names) (map (entry_at s k) (range_with_len a m)) ++ more) ≡ fold_rows (with_row net.names) after next more)
+      × (fold_rows (with_demand_row net.names) before row (map (fields net.names) (map (entry_at s k) (range_with_len a m)) ++ more) ≡ fold_rows (with_demand_row net.names) after next more)
   step-read k a zero row before more e step w = let end : a ≡ length s.pairs.list = omega arith in (before, row, subst (λ (p : ℕ). Written k p before) end w, refl)
   step-read k a (suc m) row before more e step w =
       let low : a < length s.pairs.list = omega arith in
@@ -170,17 +171,17 @@ module _ (net : Network) (s : Series) (formed : is_well_formed net ≡ true) (li
         after,
         next,
         written,
-        rows-more (with_row net.names) before (x ∷ before) row (map (fields net.names) (map (entry_at s k) (range_with_len a (suc m))) ++ more) (fields net.names x)
+        rows-more (with_demand_row net.names) before (x ∷ before) row (map (fields net.names) (map (entry_at s k) (range_with_len a (suc m))) ++ more) (fields net.names x)
             (map (fields net.names) (map (entry_at s k) (range_with_len (a + 1) m)) ++ more) refl (row-read k a row before low step w) ∙ goes,
       )
 
   -- the rows of all steps from one on
   pub steps-read : (k m row : ℕ) (before : List Entry) → 0 < length s.pairs.list → k + m ≡ length s.steps → Written k 0 before
       → (after : List Entry) × Written (length s.steps) 0 after
-      × (fold_rows (with_row net.names) before row (map (fields net.names) (entries_from s k m)) ≡ Ok after)
-  steps-read k zero row before some e w = let end : k ≡ length s.steps = omega arith in (before, subst (λ (j : ℕ). Written j 0 before) end w, rows-end (with_row net.names) before row [] refl)
+      × (fold_rows (with_demand_row net.names) before row (map (fields net.names) (entries_from s k m)) ≡ Ok after)
+  steps-read k zero row before some e w = let end : k ≡ length s.steps = omega arith in (before, subst (λ (j : ℕ). Written j 0 before) end w, rows-end (with_demand_row net.names) before row [] refl)
   steps-read k (suc m) row before some e w =
       let rest = map (fields net.names) (entries_from s (k + 1) m) in
       let (mid, next, written, goes) = step-read k 0 (length s.pairs.list) row before rest (omega arith) (omega arith) w in
       let (after, all, ends) = steps-read (k + 1) m next mid some (omega arith) (written-next k mid some written) in
-      (after, all, ap (fold_rows (with_row net.names) before row) (map-append (fields net.names) (step_entries s k) (entries_from s (k + 1) m)) ∙ goes ∙ ends)
+      (after, all, ap (fold_rows (with_demand_row net.names) before row) (map-append (fields net.names) (step_entries s k) (entries_from s (k + 1) m)) ∙ goes ∙ ends)

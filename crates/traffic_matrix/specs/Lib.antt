@@ -6,3 +6,4 @@ pub mod Shows
 pub mod Limits
 pub mod Gravity
 pub mod Text
+pub mod Laws

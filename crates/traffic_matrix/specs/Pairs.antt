@@ -1,19 +1,14 @@
 -- Pairs of nodes and their places, which ascend by source, and then by destination.
-use Rattle.std.specs.Prelude.{ℕ, ◌+◌, ◌*◌, ◌/◌, ◌%◌, ◌<◌, Bool, ◌&&◌, ◌==◌, List, map}
+use Rattle.std.specs.Prelude.{ℕ, ◌+◌, ◌*◌, ◌/◌, ◌%◌, Bool, ◌&&◌, ◌==◌, List, map}
 use Rattle.std.specs.List.{range_with_len}
 use Rattle.te_model.specs.declared.route.Pair.{Pair}
 
 abbrev pub same_pair : Pair → Pair → Bool
 same_pair p q = p.src == q.src && p.dst == q.dst
 
--- a pair of two of n nodes
-pub record IsWithin (n : ℕ) (p : Pair) : Type 0 where
-  pub src : p.src < n
-  pub dst : p.dst < n
-
 -- the place of a pair among all pairs of n nodes
-abbrev pub place : ℕ → Pair → ℕ
-place n pair = pair.src * n + pair.dst
+abbrev pub place_of_pair : ℕ → Pair → ℕ
+place_of_pair n pair = pair.src * n + pair.dst
 
 -- the pair at a place
 abbrev pub pair_of_place : ℕ → ℕ → Pair

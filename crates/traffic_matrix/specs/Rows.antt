@@ -26,9 +26,9 @@ entry_between row step demand (Some s) None = Err (fault.UnknownNode row)
 entry_between row step demand None t = Err (fault.UnknownNode row)
 
 -- what the fields of a row say
-unfoldable pub entry_of : List (List ℕ) → ℕ → List (List ℕ) → Result Entry MatrixFault
-entry_of names row (step ∷ source ∷ target ∷ demand ∷ []) = entry_between row step demand (number_named names source) (number_named names target)
-entry_of names row _ = Err (fault.Fields row)
+unfoldable pub demand_entry : List (List ℕ) → ℕ → List (List ℕ) → Result Entry MatrixFault
+demand_entry names row (step ∷ source ∷ target ∷ demand ∷ []) = entry_between row step demand (number_named names source) (number_named names target)
+demand_entry names row _ = Err (fault.Fields row)
 
 -- the step of the latest row
 abbrev pub latest_step : List Entry → ℕ
@@ -36,33 +36,33 @@ latest_step [] = 0
 latest_step (e ∷ es) = e.step
 
 -- a row after those before it, of which the latest stands first
-abbrev pub accepted : List Entry → ℕ → Entry → Result (List Entry) MatrixFault
-accepted entries row e =
+abbrev pub with_accepted_entry : List Entry → ℕ → Entry → Result (List Entry) MatrixFault
+with_accepted_entry entries row e =
     if nat_lt e.step (latest_step entries) then Err (fault.Order row)
     else if is_some (demand_in entries e.step e.pair) then Err (fault.Repeated row)
     else if e.pair.src == e.pair.dst then Err (fault.SelfPair row)
     else if nat_le 1024 e.step then Err (fault.TooManySteps row)
     else Ok (e ∷ entries)
 
-abbrev pub with_row : List (List ℕ) → List Entry → ℕ → List (List ℕ) → Result (List Entry) MatrixFault
-with_row names entries row fields = and_then (accepted entries row) (entry_of names row fields)
+abbrev pub with_demand_row : List (List ℕ) → List Entry → ℕ → List (List ℕ) → Result (List Entry) MatrixFault
+with_demand_row names entries row fields = and_then (with_accepted_entry entries row) (demand_entry names row fields)
 
-abbrev pub is_header : List (List ℕ) → Bool
-is_header (a ∷ b ∷ c ∷ d ∷ []) = bytes_eq a (codes "step") && bytes_eq b (codes "source") && bytes_eq c (codes "target") && bytes_eq d (codes "demand")
-is_header _ = false
+abbrev pub is_matrix_header : List (List ℕ) → Bool
+is_matrix_header (a ∷ b ∷ c ∷ d ∷ []) = bytes_eq a (codes "step") && bytes_eq b (codes "source") && bytes_eq c (codes "target") && bytes_eq d (codes "demand")
+is_matrix_header _ = false
 
 -- whether the first record is the header
 abbrev pub begins_with_header : List (List (List ℕ)) → Bool
 begins_with_header [] = false
-begins_with_header (h ∷ rows) = is_header h
+begins_with_header (h ∷ rows) = is_matrix_header h
 
 -- the rows below the header, the latest first
 abbrev pub entries_below : List (List ℕ) → List (List (List ℕ)) → Result (List Entry) MatrixFault
-entries_below names rows = fold_rows (with_row names) [] 1 rows
+entries_below names rows = fold_rows (with_demand_row names) [] 1 rows
 
 -- the rows of a table, the latest first
 abbrev pub entries_of : List (List ℕ) → List (List (List ℕ)) → Result (List Entry) MatrixFault
-entries_of names records = fold_table is_header fault.Header (with_row names) [] records
+entries_of names records = fold_table is_matrix_header fault.Header (with_demand_row names) [] records
 
 -- the rows of a file, the latest first
 abbrev pub entries_in : Network → List ℕ → Result (List Entry) MatrixFault

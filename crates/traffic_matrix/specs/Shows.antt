@@ -1,20 +1,20 @@
 -- The demands of the rows that were read.
 use Rattle.std.specs.Prelude.{ℕ, ◌≡◌, List, vec_len}
 use Rattle.te_model.specs.declared.route.Pair.{Pair}
+use Rattle.te_model.specs.Pairs.{IsNodePair}
 use Rattle.traffic_matrix.specs.declared.entry.Entry.{Entry}
 use Rattle.traffic_matrix.specs.declared.demands.Demands.{Demands}
-use Rattle.traffic_matrix.specs.Pairs.{IsWithin}
 use Rattle.traffic_matrix.specs.Series.{demand_in, is_declared, step_count}
 use Rattle.traffic_matrix.specs.Rows.{latest_step}
 use Rattle.traffic_matrix.specs.Table.{demand_at, declared_at}
 
 -- the table holds what the rows say of a step
 pub record ShowsStep (entries : List Entry) (d : Demands) (step : ℕ) : Type 0 where
-  pub demands : (pair : Pair) → IsWithin d.table.nodes pair → demand_at d.table step pair ≡ demand_in entries step pair
+  pub demands : (pair : Pair) → IsNodePair d.table.nodes pair → demand_at d.table step pair ≡ demand_in entries step pair
 
 -- the table holds what the rows say
 pub record Shows (entries : List Entry) (d : Demands) : Type 0 where
   pub latest : d.latest ≡ latest_step entries
   pub steps : vec_len d.table.steps ≡ step_count entries
-  pub demands : (step : ℕ) (pair : Pair) → IsWithin d.table.nodes pair → demand_at d.table step pair ≡ demand_in entries step pair
-  pub declared : (pair : Pair) → IsWithin d.table.nodes pair → declared_at d.table pair ≡ is_declared entries pair
+  pub demands : (step : ℕ) (pair : Pair) → IsNodePair d.table.nodes pair → demand_at d.table step pair ≡ demand_in entries step pair
+  pub declared : (pair : Pair) → IsNodePair d.table.nodes pair → declared_at d.table pair ≡ is_declared entries pair

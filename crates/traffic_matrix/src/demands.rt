@@ -2,9 +2,9 @@
 
 ghost use Rattle.std.specs.Prelude.{◌≡◌, ◌<◌, ◌≤◌, All, List, [], ◌∷◌, OnOk, IfOk, IfErr, Err, Ok};
 ghost use Rattle.te_model.specs.declared.limits.TheConstants.{FORMAT_2};
+ghost use Rattle.te_model.specs.Pairs.{IsNodePair};
 ghost use Rattle.traffic_matrix.specs.declared.entry.Entry.{Entry};
-ghost use Rattle.traffic_matrix.specs.Pairs.{IsWithin};
-ghost use Rattle.traffic_matrix.specs.Rows.{accepted};
+ghost use Rattle.traffic_matrix.specs.Rows.{with_accepted_entry};
 ghost use Rattle.traffic_matrix.specs.Series.{declared_pairs, matrix_of, series_of};
 ghost use Rattle.traffic_matrix.specs.Shows.{Shows, ShowsStep};
 
@@ -37,10 +37,10 @@ impl Demands {
 
     /// Whether the row can stand after those before it, or the first of its faults.
     pub fn accept(&self, entry: Entry, row: u64) -> Result<(), MatrixFault>
-        requires { IsWithin self.now.table.nodes entry.pair }
-        ensures accepted { OnOk result ((entries : List Entry) → Shows entries self.now → accepted entries row entry ≡ Ok (entry ∷ entries)) }
+        requires { IsNodePair self.now.table.nodes entry.pair }
+        ensures accepted { OnOk result ((entries : List Entry) → Shows entries self.now → with_accepted_entry entries row entry ≡ Ok (entry ∷ entries)) }
         ensures few { OnOk result (entry.step < 1024) }
-        ensures refused { IfErr result (λ f. (entries : List Entry) → Shows entries self.now → accepted entries row entry ≡ Err f) }
+        ensures refused { IfErr result (λ f. (entries : List Entry) → Shows entries self.now → with_accepted_entry entries row entry ≡ Err f) }
     {
         if entry.step < self.latest {
             return Err(MatrixFault::Order(row));
@@ -60,7 +60,7 @@ impl Demands {
     /// Adds a row. After want of memory the demands are not to be used again.
     pub fn put(&mut self, alloc: Global, entry: Entry) -> Result<(), Memory>
         requires step { entry.step < 1024 }
-        requires pair { IsWithin self.old.table.nodes entry.pair }
+        requires pair { IsNodePair self.old.table.nodes entry.pair }
         ensures nodes { OnOk result (self.new.table.nodes ≡ self.old.table.nodes) }
         ensures shows { OnOk result ((entries : List Entry) → Shows entries self.old → Shows (entry ∷ entries) self.new) }
     {
@@ -73,7 +73,7 @@ impl Demands {
     // The pairs of the rows, ascending.
     fn pairs(&self, alloc: Global) -> Result<Vec<Pair>, Memory>
         ensures pairs { IfOk result (λ v. (entries : List Entry) → Shows entries self.now → v.items ≡ declared_pairs self.now.table.nodes entries) }
-        ensures within { IfOk result (λ v. All (IsWithin self.now.table.nodes) v.items) }
+        ensures within { IfOk result (λ v. All (IsNodePair self.now.table.nodes) v.items) }
     {
         let nodes = self.table.nodes();
         let mut pairs = Vec::new(alloc);
@@ -91,7 +91,7 @@ impl Demands {
 
     // The demands of the pairs in a step, 0 where no row has one.
     fn matrix(&self, alloc: Global, pairs: &[Pair], step: usize) -> Result<Matrix, Memory>
-        requires { All (IsWithin self.now.table.nodes) pairs.now }
+        requires { All (IsNodePair self.now.table.nodes) pairs.now }
         ensures { IfOk result (λ m. (entries : List Entry) → ShowsStep entries self.now step → m ≡ matrix_of pairs.now entries step) }
     {
         let mut demand = Vec::with_capacity(alloc, pairs.len())?;

@@ -2,7 +2,7 @@
 
 ghost use Rattle.std.specs.Prelude.{◌≡◌, ◌<◌, ◌≤◌, ◌^◌, IfOk, IfErr, Ok, Err, length};
 ghost use Rattle.te_model.specs.declared.limits.TheConstants.{FORMAT_2};
-ghost use Rattle.traffic_matrix.specs.Rows.{entry_of};
+ghost use Rattle.traffic_matrix.specs.Rows.{demand_entry};
 
 use crate::fault::MatrixFault;
 use crate::nodes::Nodes;
@@ -20,9 +20,9 @@ pub struct Entry {
 /// What the row says that was read last, or the first of the faults of its fields.
 pub fn read_entry(rows: &Rows<'_>, nodes: &Nodes, row: u64) -> Result<Entry, MatrixFault>
     requires { length nodes.now ≤ FORMAT_2.nodes }
-    ensures entry { IfOk result (λ e. entry_of nodes.now row rows.now.current ≡ Ok e) }
+    ensures entry { IfOk result (λ e. demand_entry nodes.now row rows.now.current ≡ Ok e) }
     ensures nodes { IfOk result (λ e. (e.pair.src < length nodes.now) × (e.pair.dst < length nodes.now)) }
-    ensures refused { IfErr result (λ f. entry_of nodes.now row rows.now.current ≡ Err f) }
+    ensures refused { IfErr result (λ f. demand_entry nodes.now row rows.now.current ≡ Err f) }
 {
     let Some((step, source, target, demand)) = rows.four_fields() else {
         return Err(MatrixFault::Fields(row));

@@ -4,9 +4,9 @@ ghost use Rattle.std.specs.Prelude.{◌≡◌, ◌<◌, ◌≤◌, ◌+◌, ◌*
 ghost use Rattle.std.specs.List.{range_with_len};
 ghost use Rattle.te_model.specs.Network.{is_well_formed, node_count};
 ghost use Rattle.te_model.specs.declared.limits.TheConstants.{FORMAT_2};
+ghost use Rattle.te_model.specs.Pairs.{IsNodePair};
 ghost use Rattle.traffic_matrix.specs.Gravity.{every_pair, size_at, products, gravity_of};
 ghost use Rattle.traffic_matrix.specs.Limits.{IsSeries};
-ghost use Rattle.traffic_matrix.specs.Pairs.{IsWithin};
 
 use crate::series::Series;
 use rand_chacha::ChaCha8Rng;
@@ -45,7 +45,7 @@ pub fn gravity(alloc: Global, net: &Network, seed: u64, steps: u32) -> Result<Se
 fn every_pair(alloc: Global, nodes: usize) -> Result<Vec<Pair>, Memory>
     requires { nodes ≤ FORMAT_2.nodes }
     ensures pairs { IfOk result (λ v. v.items ≡ every_pair nodes) }
-    ensures within { IfOk result (λ v. All (IsWithin nodes) v.items) }
+    ensures within { IfOk result (λ v. All (IsNodePair nodes) v.items) }
 {
     let mut pairs = Vec::new(alloc);
     for place in 0..nodes * nodes {
@@ -76,7 +76,7 @@ fn draw_sizes(alloc: Global, rng: &mut ChaCha8Rng, nodes: usize) -> Result<Vec<u
 
 // The product of the sizes of each pair.
 fn products(alloc: Global, pairs: &[Pair], sizes: &[u64]) -> Result<Matrix, Memory>
-    requires pairs { All (IsWithin (length sizes.now)) pairs.now }
+    requires pairs { All (IsNodePair (length sizes.now)) pairs.now }
     requires small { All (λ s. s ≤ 100) sizes.now }
     ensures { IfOk result (λ m. m.demand ≡ products pairs.now sizes.now) }
 {

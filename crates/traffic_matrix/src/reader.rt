@@ -5,7 +5,7 @@ ghost use Rattle.te_model.specs.declared.limits.TheConstants.{FORMAT_2};
 ghost use Rattle.te_model.specs.Network.{is_well_formed, node_count};
 ghost use Rattle.traffic_matrix.specs.declared.entry.Entry.{Entry};
 ghost use Rattle.traffic_matrix.specs.declared.fault.MatrixFault.TheVariants as fault;
-ghost use Rattle.traffic_matrix.specs.Rows.{begins_with_header, entries_below, entries_in, entries_of, is_header, series_in, with_row};
+ghost use Rattle.traffic_matrix.specs.Rows.{begins_with_header, entries_below, entries_in, entries_of, is_matrix_header, series_in, with_demand_row};
 ghost use Rattle.traffic_matrix.specs.Limits.{IsSeries};
 ghost use Rattle.traffic_matrix.specs.Shows.{Shows};
 
@@ -74,7 +74,7 @@ fn read_header(rows: &mut Rows<'_>) -> Result<(), MatrixFault>
 
 // Whether the record that was read last is the header.
 fn has_header(rows: &Rows<'_>) -> bool
-    ensures { result ≡ is_header rows.now.current }
+    ensures { result ≡ is_matrix_header rows.now.current }
 {
     match rows.four_fields() {
         Some((step, source, target, demand)) => {
@@ -115,8 +115,8 @@ fn read_row(
     requires few { length nodes.now ≤ FORMAT_2.nodes }
     requires nodes { demands.old.table.nodes ≡ length nodes.now }
     ensures nodes { OnOk result (demands.new.table.nodes ≡ length nodes.now) }
-    ensures added { OnOk result ((entries : List Entry) → Shows entries demands.old → (more : List Entry) × (with_row nodes.now entries row rows.now.current ≡ Ok more) × Shows more demands.new) }
-    ensures refused { IfErr result (λ e. e ≢ fault.Memory → (entries : List Entry) → Shows entries demands.old → with_row nodes.now entries row rows.now.current ≡ Err e) }
+    ensures added { OnOk result ((entries : List Entry) → Shows entries demands.old → (more : List Entry) × (with_demand_row nodes.now entries row rows.now.current ≡ Ok more) × Shows more demands.new) }
+    ensures refused { IfErr result (λ e. e ≢ fault.Memory → (entries : List Entry) → Shows entries demands.old → with_demand_row nodes.now entries row rows.now.current ≡ Err e) }
 {
     let entry = read_entry(rows, nodes, row)?;
     demands.accept(entry, row)?;

@@ -24,7 +24,8 @@ impl Table {
     ghost use Rattle.std.specs.Prelude.{ℕ, ◌≡◌, ◌≢◌, ◌+◌, ◌*◌, ◌<◌, ◌≤◌, OnOk, IfOk, [], false, max, vec_len};
     ghost use Rattle.te_model.specs.declared.limits.TheConstants.{FORMAT_2};
     ghost use Rattle.te_model.specs.declared.route.Pair.{Pair};
-    ghost use Rattle.traffic_matrix.specs.Pairs.{IsWithin, place};
+    ghost use Rattle.te_model.specs.Pairs.{IsNodePair};
+    ghost use Rattle.traffic_matrix.specs.Pairs.{place_of_pair};
     ghost use Rattle.traffic_matrix.specs.Table.{demand_at, declared_at, IsGrown, IsPut};
 
     /// No step yet, between this many nodes.
@@ -32,7 +33,7 @@ impl Table {
         requires { nodes ≤ FORMAT_2.nodes }
         ensures nodes { IfOk result (λ t. t.nodes ≡ nodes) }
         ensures steps { IfOk result (λ t. t.steps.items ≡ []) }
-        ensures declared { IfOk result (λ t. (pair : Pair) → IsWithin nodes pair → declared_at t pair ≡ false) }
+        ensures declared { IfOk result (λ t. (pair : Pair) → IsNodePair nodes pair → declared_at t pair ≡ false) }
     {
         Ok(Table {
             nodes,
@@ -57,8 +58,8 @@ impl Table {
 
     // The place of a pair among all pairs of nodes.
     fn place(&self, pair: Pair) -> usize
-        requires { IsWithin self.now.nodes pair }
-        ensures value { result ≡ place self.now.nodes pair }
+        requires { IsNodePair self.now.nodes pair }
+        ensures value { result ≡ place_of_pair self.now.nodes pair }
         ensures within { result < self.now.nodes * self.now.nodes }
     {
         pair.src as usize * self.nodes + pair.dst as usize
@@ -66,7 +67,7 @@ impl Table {
 
     /// The demand of a pair in a step.
     pub fn demand(&self, step: u64, pair: Pair) -> Option<u64>
-        requires { IsWithin self.now.nodes pair }
+        requires { IsNodePair self.now.nodes pair }
         ensures { result ≡ demand_at self.now step pair }
     {
         if step < self.steps.len() as u64 {
@@ -78,7 +79,7 @@ impl Table {
 
     /// Whether the pair had a demand in some step.
     pub fn is_declared(&self, pair: Pair) -> bool
-        requires { IsWithin self.now.nodes pair }
+        requires { IsNodePair self.now.nodes pair }
         ensures { result ≡ declared_at self.now pair }
     {
         self.declared[self.place(pair)]
@@ -98,7 +99,7 @@ impl Table {
     // Sets the demand of a pair in a step of the table.
     fn set(&mut self, step: usize, pair: Pair, demand: u64) -> Result<(), Memory>
         requires step { step < vec_len self.old.steps }
-        requires pair { IsWithin self.old.nodes pair }
+        requires pair { IsNodePair self.old.nodes pair }
         ensures put { OnOk result (IsPut self.old self.new step pair demand) }
         ensures steps { OnOk result (vec_len self.new.steps ≡ vec_len self.old.steps) }
     {
@@ -112,7 +113,7 @@ impl Table {
     /// Sets the demand of a pair in a step. After want of memory the table is not to be used again.
     pub fn put(&mut self, alloc: Global, step: usize, pair: Pair, demand: u64) -> Result<(), Memory>
         requires step { step < 1024 }
-        requires pair { IsWithin self.old.nodes pair }
+        requires pair { IsNodePair self.old.nodes pair }
         ensures put { OnOk result (IsPut self.old self.new step pair demand) }
         ensures steps { OnOk result (vec_len self.new.steps ≡ max (step + 1) (vec_len self.old.steps)) }
     {

@@ -5,7 +5,7 @@ ghost use Rattle.te_model.specs.Network.{is_well_formed, node_count};
 ghost use Rattle.te_model.specs.Pairs.{IsPairAmong};
 ghost use Rattle.traffic_matrix.specs.Limits.{IsSeries};
 ghost use Rattle.traffic_matrix.specs.Rows.{series_in};
-ghost use Rattle.traffic_matrix.specs.Text.{row_line, step_lines, text_of};
+ghost use Rattle.traffic_matrix.specs.Text.{demand_line, step_lines, series_text};
 
 use crate::series::Series;
 use std::alloc::Global;
@@ -16,7 +16,7 @@ use te_model::{Memory, Name, Network, Pair};
 pub fn print(alloc: Global, net: &Network, series: &Series) -> Result<Vec<u8>, Memory>
     requires network { IsTrue (is_well_formed net.now) }
     requires series { IsSeries (node_count net.now) series.now }
-    ensures text { IfOk result (λ text. text.items ≡ text_of net.now series.now) }
+    ensures text { IfOk result (λ text. text.items ≡ series_text net.now series.now) }
     ensures reads_back { IfOk result (λ text. 1 ≤ length series.now.steps → 1 ≤ length series.now.pairs.list → series_in net.now text.items ≡ Ok series.now) }
 {
     let names = net.names.as_slice();
@@ -58,7 +58,7 @@ fn print_row(
     target: &Name,
     demand: u64,
 ) -> Result<(), Memory>
-    ensures { OnOk result (text.new.items ≡ text.old.items ++ row_line step source.now target.now demand) }
+    ensures { OnOk result (text.new.items ≡ text.old.items ++ demand_line step source.now target.now demand) }
 {
     let mut digits = itoa::Buffer::new();
     text.extend_from_slice(digits.format(step).as_bytes())?;

@@ -13,9 +13,16 @@ returns-clause-fits g c =
       words = c.in_ok-numbers.ensures.words (subst AreWords (sym one) (word, tt));
     })
 
-pub returns-clause-reads : goal.returns-clause-reads
-returns-clause-reads g c = λ t.
+pub returns-clause-takes : goal.returns-clause-takes
+returns-clause-takes g c =
     let one = first_in_place c.args.list.now c.set.new.self c.in_ok-first.first c.requires c.set.ensures in
-    let t2 = c.end_line.ensures.told t in
-    let t1 = c.in_ok-numbers.ensures.told t2 in
-    number_line_in _ _ c.in_ok-first.first _ _ _ _ _ c.end_line.result _ (ap length c.set.ensures ∙ length-set c.args.list.now 0 c.in_ok-first.first) (c.in_ok-first.ensures.reads t1) one (c.in_ok-numbers.ensures.reads t2) (c.end_line.ensures.reads t)
+    let first = c.in_ok-first.ensures.takes in
+    let others = c.in_ok-numbers.ensures.takes in
+    let end = c.end_line.ensures.takes in
+    record {
+      told = λ t. first.told (others.told (end.told t));
+      reads = λ t.
+          let t2 = end.told t in
+          let t1 = others.told t2 in
+          number_line_in _ _ c.in_ok-first.first _ _ _ _ _ c.end_line.result _ (ap length c.set.ensures ∙ length-set c.args.list.now 0 c.in_ok-first.first) (first.reads t1) one (others.reads t2) (end.reads t);
+    }

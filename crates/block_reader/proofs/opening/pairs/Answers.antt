@@ -1,8 +1,8 @@
 use Rattle.std.proofs.Common.{Ok, Err, refl, arith}
 use Rattle.std.proofs.lemmas.Result.{err_from_is_err_and}
 use Rattle.cert_text.specs.Fits.{FitsPair}
-use Rattle.cert_text.specs.Reading.{kept}
-use Rattle.cert_text.specs.Grammar.{pair_at}
+use Rattle.cert_text.specs.Reading.{narrow_number}
+use Rattle.cert_text.specs.Grammar.{read_pair}
 use Rattle.cert_text.proofs.Loop.{listed_more, listed_all}
 use Rattle.block_reader.proofs.Answering.{many_gives, many_stop, none_gives}
 use Rattle.block_reader.proofs.PartLaws.{pair_part}
@@ -15,14 +15,14 @@ loop-preserved g c =
       rw c.in_ok-push.ensures.items (listed_more (FitsPair c.args.limits.now) c.loop.items.items c.in_ok-item.item c.loop.counter so_far.0 c.in_ok-item.ensures.fits),
       c.in_ok-item.ensures.well,
       rw c.in_ok-push.ensures.items
-          (many_gives _ _ _ _ _ _ (pair_at c.args.limits.now kept) c.loop.counter c.loop.items.items c.in_ok-item.item so_far.2 c.in_ok-item.ensures.answers),
+          (many_gives _ _ _ _ _ _ (read_pair c.args.limits.now narrow_number) c.loop.counter c.loop.items.items c.in_ok-item.item so_far.2 c.in_ok-item.ensures.answers),
       reads_then _ _ _ _ tt (Ok tt) so_far.3 (reads_as _ _ _ c.in_ok-item.item tt c.in_ok-item.ensures.reads),
     )
 
 pub returns-in_err-item-clause-answers : goal.returns-in_err-item-clause-answers
 returns-in_err-item-clause-answers g c =
     let p = err_from_is_err_and c.from_residual-in_err-item.result c.from_residual-in_err-item.ensures.1 in
-    rw (p.1, p.2) (many_stop _ _ _ _ _ (pair_at c.args.limits.now kept) c.loop.counter c.args.count c.loop.items.items c.in_err-item.field-0.0 c.loop-test.true c.loop.invariant.2 c.in_err-item.ensures.answers)
+    rw (p.1, p.2) (many_stop _ _ _ _ _ (read_pair c.args.limits.now narrow_number) c.loop.counter c.args.count c.loop.items.items c.in_err-item.field-0.0 c.loop-test.true c.loop.invariant.2 c.in_err-item.ensures.answers)
 
 pub returns-in_err-item-clause-reads : goal.returns-in_err-item-clause-reads
 returns-in_err-item-clause-reads g c =
@@ -39,6 +39,6 @@ pub loop-init : goal.loop-init
 loop-init g c = (
   rw c.in_ok-items.ensures.items (record { count = refl; each = tt }),
   c.requires.well,
-  rw c.in_ok-items.ensures.items (none_gives (g.D.Depot.gave c.args.depot.now c.args.name.now) c.args.lines.now (pair_at c.args.limits.now kept)),
+  rw c.in_ok-items.ensures.items (none_gives (g.D.Depot.gave c.args.depot.now c.args.name.now) c.args.lines.now (read_pair c.args.limits.now narrow_number)),
   reads_start _ c.args.name.now,
 )

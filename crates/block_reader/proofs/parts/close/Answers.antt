@@ -2,8 +2,8 @@ use Rattle.std.proofs.Common.{◌≡◌, Err, ap, subst}
 use Rattle.cert_text.specs.declared.fault.Stop.{Stop}
 use Rattle.block_reader.specs.Answers.{StopsAs, place_of}
 use Rattle.std.proofs.lemmas.Result.{err_from_is_err_and}
-use Rattle.cert_text.specs.Grammar.{closing_at}
-use Rattle.block_reader.specs.Ahead.{passing}
+use Rattle.cert_text.specs.Grammar.{read_closing}
+use Rattle.block_reader.specs.Ahead.{with_no_value}
 use Rattle.block_reader.specs.Sizes.{closing_size}
 use Rattle.block_reader.proofs.Sizes.{closing_ahead}
 use Rattle.block_reader.proofs.Answering.{part_stops}
@@ -28,7 +28,7 @@ pub returns-in-Err-clause-stops : goal.returns-in-Err-clause-stops
 returns-in-Err-clause-stops g c = λ fault is passed b.
     let fill = c.in_ok-fill.ensures in
     let same : c.stopped.result ≡ fault = cc in
-    subst (StopsAs (g.D.Depot.gave c.stopped.new.depot c.args.name.now) c.args.lines.now passed (passing closing_at)) same
-    (part_stops _ _ _ c.args.lines.now c.fill.new.self closing_size (passing closing_at) c.in-Err.misread c.stopped.result closing_ahead fill.behind fill.stood fill.enough fill.line
+    subst (StopsAs (g.D.Depot.gave c.stopped.new.depot c.args.name.now) c.args.lines.now passed (with_no_value read_closing)) same
+    (part_stops _ _ _ c.args.lines.now c.fill.new.self closing_size (with_no_value read_closing) c.in-Err.misread c.stopped.result closing_ahead fill.behind fill.stood fill.enough fill.line
     (λ line stop. closing_stops (place_of c.fill.new.self) line (c.in-Err.ensures.stops line (ap (λ (s : Stop). Err s) stop)))
     c.stopped.ensures.drained passed b)

@@ -1,13 +1,7 @@
-use Rattle.std.proofs.Common.{◌≡◌, ◌-◌}
-use Rattle.cert_text.specs.Listed.{IsListOf}
 use Rattle.cert_text.specs.Fits.{IsWord}
-use Rattle.cert_text.specs.Place.{place, with_front}
-use Rattle.cert_text.specs.Reading.{many_at, kept, next_narrow_at}
+use Rattle.cert_text.specs.Reading.{narrow_number, read_next_narrow}
+use Rattle.cert_text.proofs.Taking.{HasTaken}
 use Rattle.cert_text.proofs.grammar.hops.Given as goal
 
 abbrev pub invariant-loop : goal.invariant-loop
-invariant-loop g l =
-    IsListOf l.counter IsWord l.items.items ×
-    (g.C.Cursor.is_told l.r.source → g.C.Cursor.is_told l.fn.r.source ×
-    (with_front l.items.items (many_at (l.count - l.counter) (next_narrow_at kept) (place l.r.line (g.C.Cursor.rest l.r.source)))
-    ≡ many_at l.count (next_narrow_at kept) (place l.fn.r.line (g.C.Cursor.rest l.fn.r.source))))
+invariant-loop g l = HasTaken IsWord (read_next_narrow narrow_number) l.count l.counter l.items.items l.fn.r l.r

@@ -1,14 +1,8 @@
-use Rattle.std.proofs.Common.{◌≡◌, ◌-◌}
-use Rattle.cert_text.specs.Listed.{IsListOf}
 use Rattle.cert_text.specs.Fits.{FitsLink}
-use Rattle.cert_text.specs.Place.{place, with_front}
-use Rattle.cert_text.specs.Reading.{many_at, kept}
-use Rattle.cert_text.specs.Grammar.{link_line_at}
+use Rattle.cert_text.specs.Reading.{narrow_number}
+use Rattle.cert_text.specs.Grammar.{read_link_line}
+use Rattle.cert_text.proofs.Taking.{HasTaken}
 use Rattle.cert_text.proofs.grammar.links.Given as goal
 
 abbrev pub invariant-loop : goal.invariant-loop
-invariant-loop g l =
-    IsListOf l.counter FitsLink l.items.items ×
-    (g.C.Cursor.is_told l.r.source → g.C.Cursor.is_told l.fn.r.source ×
-    (with_front l.items.items (many_at (l.count - l.counter) (link_line_at kept) (place l.r.line (g.C.Cursor.rest l.r.source)))
-    ≡ many_at l.count (link_line_at kept) (place l.fn.r.line (g.C.Cursor.rest l.fn.r.source))))
+invariant-loop g l = HasTaken FitsLink (read_link_line narrow_number) l.count l.counter l.items.items l.fn.r l.r

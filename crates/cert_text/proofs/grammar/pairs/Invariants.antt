@@ -1,14 +1,8 @@
-use Rattle.std.proofs.Common.{◌≡◌, ◌-◌}
-use Rattle.cert_text.specs.Listed.{IsListOf}
 use Rattle.cert_text.specs.Fits.{FitsPair}
-use Rattle.cert_text.specs.Place.{place, with_front}
-use Rattle.cert_text.specs.Reading.{many_at, kept}
-use Rattle.cert_text.specs.Grammar.{pair_at}
+use Rattle.cert_text.specs.Reading.{narrow_number}
+use Rattle.cert_text.specs.Grammar.{read_pair}
+use Rattle.cert_text.proofs.Taking.{HasTaken}
 use Rattle.cert_text.proofs.grammar.pairs.Given as goal
 
 abbrev pub invariant-loop : goal.invariant-loop
-invariant-loop g l =
-    IsListOf l.counter (FitsPair l.limits) l.items.items ×
-    (g.C.Cursor.is_told l.r.source → g.C.Cursor.is_told l.fn.r.source ×
-    (with_front l.items.items (many_at (l.count - l.counter) (pair_at l.limits kept) (place l.r.line (g.C.Cursor.rest l.r.source)))
-    ≡ many_at l.count (pair_at l.limits kept) (place l.fn.r.line (g.C.Cursor.rest l.fn.r.source))))
+invariant-loop g l = HasTaken (FitsPair l.limits) (read_pair l.limits narrow_number) l.count l.counter l.items.items l.fn.r l.r

@@ -1,14 +1,8 @@
-use Rattle.std.proofs.Common.{◌≡◌, ◌-◌}
-use Rattle.cert_text.specs.Listed.{IsListOf}
 use Rattle.cert_text.specs.Fits.{FitsRow}
-use Rattle.cert_text.specs.Place.{place, with_front}
-use Rattle.cert_text.specs.Reading.{many_at, kept}
-use Rattle.cert_text.specs.Grammar.{row_at}
+use Rattle.cert_text.specs.Reading.{narrow_number}
+use Rattle.cert_text.specs.Grammar.{read_row}
+use Rattle.cert_text.proofs.Taking.{HasTaken}
 use Rattle.cert_text.proofs.grammar.rows.Given as goal
 
 abbrev pub invariant-loop : goal.invariant-loop
-invariant-loop g l =
-    IsListOf l.counter (FitsRow l.nodes) l.items.items ×
-    (g.C.Cursor.is_told l.r.source → g.C.Cursor.is_told l.fn.r.source ×
-    (with_front l.items.items (many_at (l.count - l.counter) (row_at kept l.nodes) (place l.r.line (g.C.Cursor.rest l.r.source)))
-    ≡ many_at l.count (row_at kept l.nodes) (place l.fn.r.line (g.C.Cursor.rest l.fn.r.source))))
+invariant-loop g l = HasTaken (FitsRow l.nodes) (read_row narrow_number l.nodes) l.count l.counter l.items.items l.fn.r l.r

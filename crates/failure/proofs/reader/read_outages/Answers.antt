@@ -4,7 +4,7 @@ use Rattle.csv_records.specs.Rows.{fold_rows}
 use Rattle.csv_records.proofs.RowFacts.{rows-end, rows-fault, rows-more, passed}
 use Rattle.failure.specs.declared.fault.FailureFault.{FailureFault}
 use Rattle.failure.specs.declared.fault.FailureFault.TheVariants as fault
-use Rattle.failure.specs.File.{with_row, IsOutage}
+use Rattle.failure.specs.File.{with_outage_row, IsOutage}
 use Rattle.failure.specs.Series.{no_failures}
 use Rattle.failure.proofs.RowLemmas.{row-added, row-refused}
 use Rattle.failure.proofs.reader.read_outages.Goals as goal
@@ -18,7 +18,7 @@ loop-list-init c = record {
 
 pub returns-in_err-outage-clause-refused : goal.returns-in_err-outage-clause-refused
 returns-in_err-outage-clause-refused c =
-    let step = with_row c.args.links c.args.steps in
+    let step = with_outage_row c.args.links c.args.steps in
     passed _ c.in_err-outage.field-0.0 (λ (e : FailureFault). e ≢ fault.Memory → fold_rows step no_failures 1 c.args.rows.now.rest ≡ Err e) c.from_residual-in_err-outage.ensures.1
     (λ _. c.loop-list.invariant.said ∙ rows-fault step _ _ _ _ _ _ (c.in_ok-advance.ensures.found c.if-branch.true) (row-refused _ _ _ _ _ _ c.in_err-outage.ensures.refused))
 
@@ -27,7 +27,7 @@ loop-list-preserved c =
     let i = c.loop-list.invariant in
     let pushed = c.in_ok-push.ensures in
     record {
-      said = rw pushed.items (i.said ∙ rows-more (with_row c.args.links c.args.steps) _ _ _ _ _ _ (c.in_ok-advance.ensures.found c.if-branch.true) (row-added _ _ _ _ _ _ c.in_ok-outage.ensures.outage));
+      said = rw pushed.items (i.said ∙ rows-more (with_outage_row c.args.links c.args.steps) _ _ _ _ _ _ (c.in_ok-advance.ensures.found c.if-branch.true) (row-added _ _ _ _ _ _ c.in_ok-outage.ensures.outage));
       row = omega (arith, pushed.len);
       each =
           let each = IsOutage c.args.links c.args.steps in
@@ -36,4 +36,4 @@ loop-list-preserved c =
 
 pub returns-clause-failures : goal.returns-clause-failures
 returns-clause-failures c =
-    rw c.new.ensures (c.loop-list.invariant.said ∙ rows-end (with_row c.args.links c.args.steps) _ _ _ (c.in_ok-advance.ensures.ended c.if-branch.false))
+    rw c.new.ensures (c.loop-list.invariant.said ∙ rows-end (with_outage_row c.args.links c.args.steps) _ _ _ (c.in_ok-advance.ensures.ended c.if-branch.false))

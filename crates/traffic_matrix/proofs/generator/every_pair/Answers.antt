@@ -2,7 +2,8 @@ use Rattle.std.proofs.Common.{◌==◌, Bool, true, false, not, [], sym, arith}
 use Rattle.std.proofs.lemmas.Bool.Decides.{nat_tests}
 use Rattle.std.proofs.lemmas.List.Elements.{All-append, All-cons}
 use Rattle.te_model.specs.declared.route.Pair.{Pair}
-use Rattle.traffic_matrix.specs.Pairs.{IsWithin, pair_of_place}
+use Rattle.te_model.specs.Pairs.{IsNodePair}
+use Rattle.traffic_matrix.specs.Pairs.{pair_of_place}
 use Rattle.traffic_matrix.proofs.DemandLemmas.{pair-within, pairs-more}
 use Rattle.traffic_matrix.proofs.generator.every_pair.Goals as goal
 use Rattle.traffic_matrix.proofs.generator.every_pair.Goals.{then-pair+in_ok-push, else-pair}
@@ -17,7 +18,7 @@ loop-place-preserved c =
     elim c.if-pair.branch [
       | then-pair+in_ok-push w ↦ record {
         pairs = rw (w.pairs-is, w.in_ok-push.ensures.items, i.pairs) (sym (pairs-more test n k true (let differ = w.if-pair.true in grind (arith, nat_tests))));
-        within = rw (w.pairs-is, w.in_ok-push.ensures.items) (All-append (IsWithin n) _ _ i.within (All-cons (IsWithin n) (pair_of_place n k) [] within (λ j d l. absurd (omega arith))));
+        within = rw (w.pairs-is, w.in_ok-push.ensures.items) (All-append (IsNodePair n) _ _ i.within (All-cons (IsNodePair n) (pair_of_place n k) [] within (λ j d l. absurd (omega arith))));
       }
       | else-pair w ↦ record {
         pairs = rw (w.pairs-is, i.pairs) (sym (pairs-more test n k false (let same = w.if-pair.false in grind (arith, nat_tests))));

@@ -1,21 +1,21 @@
 use Rattle.std.proofs.Common.{ℕ, ◌≡◌, ◌≢◌, ◌<◌, refl, arith, List, ◌∷◌, Err, length}
 use Rattle.te_model.specs.declared.route.Pair.{Pair}
+use Rattle.te_model.specs.Pairs.{IsNodePair}
 use Rattle.csv_records.proofs.RowFacts.{passed}
 use Rattle.traffic_matrix.specs.declared.entry.Entry.{Entry}
 use Rattle.traffic_matrix.specs.declared.demands.Demands.{Demands}
 use Rattle.traffic_matrix.specs.declared.fault.MatrixFault.{MatrixFault}
 use Rattle.traffic_matrix.specs.declared.fault.MatrixFault.TheVariants as fault
-use Rattle.traffic_matrix.specs.Pairs.{IsWithin}
-use Rattle.traffic_matrix.specs.Rows.{with_row}
+use Rattle.traffic_matrix.specs.Rows.{with_demand_row}
 use Rattle.traffic_matrix.specs.Shows.{Shows}
 use Rattle.traffic_matrix.proofs.Reading.{entry-refused, entry-taken}
 use Rattle.traffic_matrix.proofs.reader.read_row.Goals as goal
 
 -- the row is refused by this fault, unless memory was wanting
 abbrev Refused : List (List ℕ) → Demands → ℕ → List (List ℕ) → MatrixFault → Type 0
-Refused names d row r e = e ≢ fault.Memory → (entries : List Entry) → Shows entries d → with_row names entries row r ≡ Err e
+Refused names d row r e = e ≢ fault.Memory → (entries : List Entry) → Shows entries d → with_demand_row names entries row r ≡ Err e
 
-within : (n count : ℕ) (p : Pair) → n ≡ count → (p.src < count) × (p.dst < count) → IsWithin n p
+within : (n count : ℕ) (p : Pair) → n ≡ count → (p.src < count) × (p.dst < count) → IsNodePair n p
 within n count p e h = record { src = omega (arith, h.0); dst = omega (arith, h.1) }
 
 pub returns-in_err-entry-clause-refused : goal.returns-in_err-entry-clause-refused

@@ -2,7 +2,7 @@ use Rattle.std.proofs.Common.{ℕ, List, ◌≡◌, ◌∙◌, ◌++◌, ap, len
 use Rattle.std.specs.List.{flat_map, range_with_len}
 use Rattle.std.proofs.lemmas.List.{get_or_default}
 use Rattle.te_model.specs.declared.demand.Matrix.{Matrix}
-use Rattle.traffic_matrix.specs.Text.{lines_of, text_of, no_matrix}
+use Rattle.traffic_matrix.specs.Text.{step_text, series_text, no_matrix}
 use Rattle.traffic_matrix.proofs.TextLemmas.{step-more}
 use Rattle.traffic_matrix.proofs.ReadBack.{reads-back}
 use Rattle.traffic_matrix.proofs.writer.print.Goals as goal
@@ -23,6 +23,6 @@ returns-clause-reads_back c = λ some pair.
     let count : length c.as_slice-steps.result.now ≡ length series.steps = ap length c.as_slice-steps.ensures in
     let past = c.loop-step-test.false in
     let total : c.loop-step.step ≡ length series.steps = omega arith in
-    let is : c.loop-step.text.items ≡ text_of net series =
-    c.loop-step.invariant ∙ ap (λ (k : ℕ). codes "step,source,target,demand\n" ++ flat_map (lines_of net.names series.pairs.list series.steps) (range_with_len 0 k)) total in
+    let is : c.loop-step.text.items ≡ series_text net series =
+    c.loop-step.invariant ∙ ap (λ (k : ℕ). codes "step,source,target,demand\n" ++ flat_map (step_text net.names series.pairs.list series.steps) (range_with_len 0 k)) total in
     rw is (reads-back net series c.requires.network c.requires.series some pair)

@@ -2,8 +2,8 @@ use Rattle.std.proofs.Common.{Ok}
 use Rattle.std.specs.Prelude.{string_bytes}
 use Rattle.block_reader.specs.Answers.{IsWell}
 use Rattle.block_reader.specs.Blocks.{SameRoom}
-use Rattle.te_ports.specs.Shown.{shown}
-use Rattle.block_reader.specs.Depots.{Reads}
+use Rattle.te_ports.specs.Shown.{shown_by}
+use Rattle.block_reader.specs.Depots.{ReadsNamed}
 use Rattle.block_reader.proofs.Advancing.{Carries}
 use Rattle.block_reader.proofs.blocks.Blocks.earliest.Given as goal
 
@@ -11,7 +11,7 @@ abbrev pub invariant-rest : goal.invariant-rest
 invariant-rest g l =
     IsWell l.self.lines
     × SameRoom l.fn.self l.self
-    × Reads {A = Unit {0}} (shown g.D.Depot.content g.D.Depot.gave g.D.Depot.faults l.fn.depot) (shown g.D.Depot.content g.D.Depot.gave g.D.Depot.faults l.depot) (string_bytes l.fn.self.name) (Ok tt)
+    × ReadsNamed {A = Unit {0}} (shown_by g.D.Depot.content g.D.Depot.gave g.D.Depot.faults l.fn.depot) (shown_by g.D.Depot.content g.D.Depot.gave g.D.Depot.faults l.depot) (string_bytes l.fn.self.name) (Ok tt)
     × Carries (g.D.Depot.gave l.fn.depot (string_bytes l.fn.self.name)) (g.D.Depot.gave l.depot (string_bytes l.fn.self.name)) l.fn.self l.self l.fn.first l.earliest
 
 abbrev pub decreases-rest : goal.decreases-rest

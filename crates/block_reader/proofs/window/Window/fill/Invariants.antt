@@ -2,7 +2,7 @@ use Rattle.std.proofs.Common.{◌≡◌, ◌≢◌, ◌+◌, ◌≤◌, ℕ, Lis
 use Rattle.te_ports.specs.Ports.{Rose, Told}
 use Rattle.te_ports.specs.Record.{Grows}
 use Rattle.block_reader.specs.declared.window.State.TheVariants.{Failed}
-use Rattle.block_reader.specs.Standing.{ready, fetched_of, state_of, room_of, limit_of, left_of, StandsAt, StandsIn}
+use Rattle.block_reader.specs.Standing.{ready, fetched_of, state_of, room_of, limit_of, reads_left, StandsAt, StandsIn}
 use Rattle.block_reader.proofs.window.Window.fill.Given as goal
 
 abbrev pub invariant-pieces : goal.invariant-pieces
@@ -21,4 +21,4 @@ invariant-pieces g l =
     × (fetched_of l.self + length (ready l.fn.self) ≡ fetched_of l.fn.self + length (ready l.self))
 
 abbrev pub decreases-pieces : goal.decreases-pieces
-decreases-pieces g l = left_of l.self
+decreases-pieces g l = reads_left l.self

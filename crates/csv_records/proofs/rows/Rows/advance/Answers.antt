@@ -1,11 +1,11 @@
 use Rattle.std.proofs.Common.{◌≡◌, ◌∷◌, false}
 use Rattle.csv.specs.Records.{fields_of}
-use Rattle.csv_records.specs.Rest.{IsSound, rest_of}
+use Rattle.csv_records.specs.Rest.{IsReadyReader, rest_of}
 use Rattle.csv_records.proofs.ReaderLemmas.{read-more, read-end, is-ready}
 use Rattle.csv_records.proofs.rows.Rows.advance.Goals as goal
 
 -- what a read that found a record did
-more : (c : goal.In-Ok-true) → c.self.inside.ended ≡ false → IsSound c.read_byte_record.new.self × (rest_of c.self.inside.reader ≡ fields_of c.read_byte_record.new.row ∷ rest_of c.read_byte_record.new.self)
+more : (c : goal.In-Ok-true) → c.self.inside.ended ≡ false → IsReadyReader c.read_byte_record.new.self × (rest_of c.self.inside.reader ≡ fields_of c.read_byte_record.new.row ∷ rest_of c.read_byte_record.new.self)
 more c going =
     let s = c.self.invariant going in
     let e = c.in-Ok-true.ensures in

@@ -1,7 +1,7 @@
 use Rattle.std.proofs.Common.{ℕ, Bool, ◌∙◌, refl, sym, not, false, get_or}
 use Rattle.failure.proofs.NetworkLemmas.{kept, left-out}
-use Rattle.failure.proofs.survivor.standing.Goals as goal
-use Rattle.failure.proofs.survivor.standing.Goals.{then-not-failed-link+in_ok-push, else-not-failed-link}
+use Rattle.failure.proofs.survivor.surviving_links.Goals as goal
+use Rattle.failure.proofs.survivor.surviving_links.Goals.{then-not-failed-link+in_ok-push, else-not-failed-link}
 
 pub loop-link-preserved : goal.loop-link-preserved
 loop-link-preserved c =
