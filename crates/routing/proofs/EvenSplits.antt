@@ -11,7 +11,7 @@ use Rattle.te_model.specs.declared.units.TheConstants.{SHARE_UNIT}
 use Rattle.te_model.specs.Path.{is_path}
 use Rattle.te_model.specs.PathRouting.{IsPathSplit}
 use Rattle.routing.specs.Merge.{HasLinks, links_at, no_path}
-use Rattle.routing.specs.Normal.{normalized}
+use Rattle.routing.specs.Normal.{with_whole_weight}
 use Rattle.routing.specs.Split.{total_weight}
 use Rattle.routing.proofs.Merged.{merged_split}
 use Rattle.routing.proofs.Normalizing.{length-normalized, links_at-normalized, positive-normalized, some_weight, total-normalized}
@@ -37,11 +37,11 @@ even_split net pair paths merged some few sound_all so =
     let ones = of_weight_one paths in
     let count : length ones ≡ length paths = length-map paths one in
     let fits : total_weight ones ≤ SHARE_UNIT = omega (arith, total_weight-ones paths, few) in
-    merged_split net pair (normalized ones) merged so sound
+    merged_split net pair (with_whole_weight ones) merged so sound
     (positive-normalized ones (omega (arith, count, some)) (ones_positive paths) fits)
     (total-normalized ones (some_weight ones (omega (arith, count, some)) (ones_positive paths)))
   where
-    sound : (links : List ℕ) → HasLinks (normalized (of_weight_one paths)) links → is_path net pair.src pair.dst links ≡ true
+    sound : (links : List ℕ) → HasLinks (with_whole_weight (of_weight_one paths)) links → is_path net pair.src pair.dst links ≡ true
     sound links (i, below, at) =
         let inside : i < length paths = omega (arith, below, length-normalized (of_weight_one paths), length-map paths one) in
         let from : links_at (of_weight_one paths) i ≡ get_or paths i [] = ap (λ (s : PathShare). s.links) (get_or-map one paths i [] no_path inside) in

@@ -15,3 +15,6 @@ pub mod LowestPaths
 pub mod Decomposing
 pub mod TakingOff
 pub mod Capacities
+pub mod CutsMade
+pub mod MergesMade
+pub mod DecompositionsMade

@@ -18,12 +18,6 @@ has_out net flow v some =
     let both = if_some (tail_of net h == v) (flow h) here in
     (h, inside, eqb-true (tail_of net h) v both.0, both.1)
 
-pub some_out : (net : Network) (flow : ℕ → ℕ) (v h : ℕ) → h < link_count net → tail_of net h ≡ v → flow h ≤ outflow net flow v
-some_out net flow v h inside from =
-    let term = sum_below-term (link_count net) h (λ h. if tail_of net h == v then flow h else 0) inside in
-    let at = if_true (tail_of net h == v) (flow h) (eq-eqb (tail_of net h) v from) in
-    omega (arith, term, at)
-
 some_in : (net : Network) (flow : ℕ → ℕ) (v h : ℕ) → h < link_count net → head_of net h ≡ v → flow h ≤ inflow net flow v
 some_in net flow v h inside to =
     let term = sum_below-term (link_count net) h (λ h. if head_of net h == v then flow h else 0) inside in
@@ -39,7 +33,7 @@ source_out net flow amount s t is inside apart =
     omega (arith, is s inside, here, none)
 
 -- what comes to a node goes on
-goes_on : (net : Network) (flow : ℕ → ℕ) (amount s t h : ℕ) → IsFlow net flow amount s t → h < link_count net → 0 < flow h →
+pub goes_on : (net : Network) (flow : ℕ → ℕ) (amount s t h : ℕ) → IsFlow net flow amount s t → h < link_count net → 0 < flow h →
     head_of net h < node_count net → (head_of net h ≡ t → ⊥) → HasFlowOut net flow (head_of net h)
 goes_on net flow amount s t h is inside some in' apart =
     let none : amount_at t amount (head_of net h) ≡ 0 = if_other t (head_of net h) amount (λ e. apart (sym e)) in

@@ -13,7 +13,7 @@ use Rattle.te_model.specs.Path.{share}
 use Rattle.te_model.proofs.Sums.{sum_below-add, sum_below-pick, sum_below-same, sum_below-zero}
 use Rattle.te_model.proofs.Conditionals.{if_equal, if_other}
 use Rattle.routing.specs.declared.shares.PairShare.{PairShare}
-use Rattle.routing.specs.Shares.{pairs_of, share_in, AreSharesOn, IsShareList}
+use Rattle.routing.specs.Shares.{pair_numbers, share_in, AreSharesOn, IsShareList}
 use Rattle.routing.proofs.Sharing.{no_share}
 
 abbrev pair_at : List PairShare → ℕ → ℕ
@@ -27,11 +27,11 @@ value_in value list q = sum_by (λ s. if s.pair == q then value s else 0) list
 abbrev Rises : List PairShare → Type 0
 Rises list = (i j : ℕ) → i < j → j < length list → pair_at list i < pair_at list j
 
-rises : (list : List PairShare) → IsStrictlyIncreasing (pairs_of list) → Rises list
+rises : (list : List PairShare) → IsStrictlyIncreasing (pair_numbers list) → Rises list
 rises list up i j lt below =
-    let first : get_or (pairs_of list) i 0 ≡ pair_at list i = get_or-map (λ (s : PairShare). s.pair) list i no_share 0 (omega (arith, lt, below)) in
-    let second : get_or (pairs_of list) j 0 ≡ pair_at list j = get_or-map (λ (s : PairShare). s.pair) list j no_share 0 below in
-    omega (arith, first, second, AllPairs-from_increasing (pairs_of list) up i j 0 lt (omega (arith, below, length-map list (λ (s : PairShare). s.pair))))
+    let first : get_or (pair_numbers list) i 0 ≡ pair_at list i = get_or-map (λ (s : PairShare). s.pair) list i no_share 0 (omega (arith, lt, below)) in
+    let second : get_or (pair_numbers list) j 0 ≡ pair_at list j = get_or-map (λ (s : PairShare). s.pair) list j no_share 0 below in
+    omega (arith, first, second, AllPairs-from_increasing (pair_numbers list) up i j 0 lt (omega (arith, below, length-map list (λ (s : PairShare). s.pair))))
 
 value_first : (value : PairShare → ℕ) (s : PairShare) (list : List PairShare) (q : ℕ) →
     value_in value (s ∷ list) q ≡ (if s.pair == q then value s else 0) + value_in value list q

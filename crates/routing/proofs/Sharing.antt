@@ -18,7 +18,7 @@ use Rattle.te_model.proofs.SimplePaths.{path_links, path_links_once}
 use Rattle.te_model.proofs.Tests.{get_or_past}
 use Rattle.routing.specs.declared.shares.PairShare.{PairShare}
 use Rattle.routing.specs.Merge.{no_path}
-use Rattle.routing.specs.Shares.{pairs_of, share_in, shares_on, AreLinksOnce, IsAddition, IsShareList}
+use Rattle.routing.specs.Shares.{pair_numbers, share_in, shares_on, AreLinksOnce, IsAddition, IsShareList}
 use Rattle.te_model.proofs.Amounts.{amount_on-next, amount_on-more}
 use Rattle.te_model.proofs.Conditionals.{if_zero}
 
@@ -42,9 +42,9 @@ increasing_push xs x up above k below =
 pub order_pushed : (list : List PairShare) (s : PairShare) → IsShareList (s.pair + 1) list → 0 < s.share →
     ((k : ℕ) → k + 1 ≡ length list → (get_or list k no_share).pair ≡ s.pair → ⊥) → IsShareList (s.pair + 1) (list ++ s ∷ [])
 order_pushed list s order some apart = record {
-  ascending = subst IsStrictlyIncreasing (sym (map_push (λ (s : PairShare). s.pair) list s)) (increasing_push (pairs_of list) s.pair order.ascending (λ k last.
+  ascending = subst IsStrictlyIncreasing (sym (map_push (λ (s : PairShare). s.pair) list s)) (increasing_push (pair_numbers list) s.pair order.ascending (λ k last.
       let inside : k < length list = omega (arith, last, length-map list (λ (s : PairShare). s.pair)) in
-      let at : get_or (pairs_of list) k 0 ≡ (get_or list k no_share).pair = get_or-map (λ (s : PairShare). s.pair) list k no_share 0 inside in
+      let at : get_or (pair_numbers list) k 0 ≡ (get_or list k no_share).pair = get_or-map (λ (s : PairShare). s.pair) list k no_share 0 inside in
       let up = All-get_or (λ t. t.pair < s.pair + 1) list k no_share inside order.below in
       elim (cases_eq (get_or list k no_share).pair s.pair) [
         | inl same ↦ absurd (apart k (omega (arith, last, length-map list (λ (s : PairShare). s.pair))) same)
@@ -122,14 +122,6 @@ link_more old table links row p more i once below so sums =
     (λ e. subst (λ k. amount_on (take k links) more e ≡ amount_on (take i links) more e + (if h == e then more else 0)) (sym (add-one i))
     (amount_on-more links more e i once.0 below))
 
--- one path more of a pair
-pub path_added : (old table new : List (List PairShare)) (paths : List PathShare) (p i : ℕ) → i < length paths →
-    IsAddition old table p (weight_on (take i paths)) → IsAddition table new p (amount_on (get_or paths i no_path).links (get_or paths i no_path).weight) →
-    IsAddition old new p (weight_on (take (i + 1) paths))
-path_added old table new paths p i below so is =
-    addition_more old table new p (weight_on (take i paths)) (amount_on (get_or paths i no_path).links (get_or paths i no_path).weight) (weight_on (take (i + 1) paths)) so is
-    (λ e. sum_by_more (λ s. if has_number s.links e then s.weight else 0) paths i no_path below)
-
 -- no link stands in a path twice
 pub paths_once : (net : Network) (routes : List PairRoutes) (p : ℕ) → IsPathRouting net routes → p < length routes →
     All (λ s. AreLinksOnce (link_count net) s.links) (routes_at routes p).paths
@@ -181,11 +173,6 @@ share_more routes p q e below =
     let pushed = share_push (take p routes) (routes_at routes p) q e in
     let first = ap (λ n. if n == q then weight_on (routes_at routes p).paths e else 0) (length-take-le p routes (omega (arith, below))) in
     omega (arith, more, pushed, first)
-
--- those before pair p give it nothing
-pub share_none : (routes : List PairRoutes) (p e : ℕ) → p < length routes → share (take p routes) p e ≡ 0
-share_none routes p e below =
-    ap (λ (r : PairRoutes). weight_on r.paths e) (get_or_past (take p routes) p no_routes (omega (arith, length-take-le p routes (omega (arith, below)))))
 
 -- what a path has not added yet to its next link
 pub not_added : (old table : List (List PairShare)) (links : List ℕ) (p more i : ℕ) → AreLinksOnce (length old) links → i < length links →

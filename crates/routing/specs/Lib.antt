@@ -7,3 +7,4 @@ pub mod Even
 pub mod Loops
 pub mod Decomposition
 pub mod Shares
+pub mod Laws

@@ -5,11 +5,11 @@ use Rattle.te_model.specs.declared.units.TheConstants.{SHARE_UNIT}
 use Rattle.te_model.specs.Apportion.{apportion}
 
 -- each path with its weight
-abbrev pub weighted : List (List ℕ) → List ℕ → List PathShare
-weighted [] weights = []
-weighted (p ∷ ps) [] = []
-weighted (p ∷ ps) (w ∷ ws) = record { links = p; weight = w } ∷ weighted ps ws
+abbrev pub weighted_paths : List (List ℕ) → List ℕ → List PathShare
+weighted_paths [] weights = []
+weighted_paths (p ∷ ps) [] = []
+weighted_paths (p ∷ ps) (w ∷ ws) = record { links = p; weight = w } ∷ weighted_paths ps ws
 
 -- the unit in whole parts by the weights, the units left over going to the largest remainders
-abbrev pub normalized : List PathShare → List PathShare
-normalized parts = weighted (map (λ s. s.links) parts) (apportion SHARE_UNIT (map (λ s. s.weight) parts))
+abbrev pub with_whole_weight : List PathShare → List PathShare
+with_whole_weight parts = weighted_paths (map (λ s. s.links) parts) (apportion SHARE_UNIT (map (λ s. s.weight) parts))

@@ -1,9 +1,10 @@
 -- Path routings of a network's declared pairs (as SMORE's weighted paths; Kumar et al., 2018).
-use Rattle.std.specs.Prelude.{◌≡◌, ℕ, ◌^◌, ◌<◌, ◌≤◌, List, length, All, map, slice_index}
+use Rattle.std.specs.Prelude.{◌≡◌, ℕ, ◌<◌, ◌≤◌, List, length, All, map, slice_index}
 use Rattle.te_model.specs.declared.network.Network.{Network}
 use Rattle.te_model.specs.declared.route.Pair.{Pair}
 use Rattle.te_model.specs.declared.route.PairRoutes.{PairRoutes}
 use Rattle.te_model.specs.Network.{link_count}
+pub use Rattle.te_model.specs.Pairs.{AreDemands}
 use Rattle.te_model.specs.Path.{share}
 use Rattle.te_model.specs.PathRouting.{IsPathRouting}
 use Rattle.te_model.specs.Flow.{load}
@@ -16,11 +17,6 @@ pub record IsRoutingOf (net : Network) (pairs : List Pair) (routes : List PairRo
 -- no pair has more paths than this
 abbrev pub HasFewPaths : ℕ → List PairRoutes → Type 0
 HasFewPaths limit routes = All (λ r. length r.paths ≤ limit) routes
-
--- one demand of at most 2^32 for each pair
-pub record AreDemands (pairs : ℕ) (demand : List ℕ) : Type 0 where
-  pub count : length demand ≡ pairs
-  pub small : All (λ d. d ≤ 2 ^ 32) demand
 
 -- the sum over the pairs of the demand times the share on a link, in millionths
 abbrev pub load_on : List PairRoutes → List ℕ → ℕ → ℕ

@@ -8,12 +8,12 @@ use Rattle.te_model.specs.Path.{is_distinct, share}
 use Rattle.routing.specs.declared.shares.PairShare.{PairShare}
 
 -- the numbers of the pairs
-abbrev pub pairs_of : List PairShare → List ℕ
-pairs_of list = map (λ s. s.pair) list
+abbrev pub pair_numbers : List PairShare → List ℕ
+pair_numbers list = map (λ s. s.pair) list
 
 -- the pairs with a share on link e, ascending, each with its share
 pub record AreSharesOn (routes : List PairRoutes) (e : ℕ) (list : List PairShare) : Type 0 where
-  pub ascending : IsStrictlyIncreasing (pairs_of list)
+  pub ascending : IsStrictlyIncreasing (pair_numbers list)
   pub shares : All (λ s. (s.pair < length routes) × (0 < s.share) × (s.share ≡ share routes s.pair e)) list
   pub complete : (p : ℕ) → p < length routes → 0 < share routes p e → Any (λ s. s.pair ≡ p) list
 
@@ -32,7 +32,7 @@ share_in list q = sum_by (λ s. if s.pair == q then s.share else 0) list
 
 -- shares above 0 of pairs below n, which strictly ascend
 pub record IsShareList (n : ℕ) (list : List PairShare) : Type 0 where
-  pub ascending : IsStrictlyIncreasing (pairs_of list)
+  pub ascending : IsStrictlyIncreasing (pair_numbers list)
   pub below : All (λ s. s.pair < n) list
   pub some : All (λ s. 0 < s.share) list
 

@@ -22,7 +22,10 @@ mod shares;
 
 pub use decomposition::decompose;
 pub use even::even_mix;
-pub use law::{shares_are_flows, sums_over_shares};
+pub use law::{
+    cuts_exist, decompositions_exist, even_mixes_exist, merges_exist, routing_shares_are_flows,
+    sums_over_shares,
+};
 pub use loops::cut_loops;
 pub use merging::merge;
 pub use normal::normalize;

@@ -1,7 +1,7 @@
 //! Weights that are scaled to sum to the unit of shares.
 ghost use Rattle.std.specs.Prelude.{◌≡◌, ◌≤◌, All, IfOk, length, map};
 ghost use Rattle.te_model.specs.declared.units.TheConstants.{SHARE_UNIT};
-ghost use Rattle.routing.specs.Normal.{normalized, weighted};
+ghost use Rattle.routing.specs.Normal.{with_whole_weight, weighted_paths};
 ghost use Rattle.routing.specs.Split.{total_weight};
 
 use std::alloc::Global;
@@ -24,7 +24,7 @@ fn with_weights(
     weights: &[u64],
 ) -> Result<Vec<PathShare>, Memory>
     requires { length weights.now ≡ length parts.now }
-    ensures { IfOk result (λ made. made.items ≡ weighted (map (λ s. s.links) parts.now) weights.now) }
+    ensures { IfOk result (λ made. made.items ≡ weighted_paths (map (λ s. s.links) parts.now) weights.now) }
 {
     let mut made = Vec::with_capacity(alloc, parts.len())?;
     for i in 0..parts.len() {
@@ -46,7 +46,7 @@ pub fn normalize(alloc: Global, parts: &[PathShare]) -> Result<Vec<PathShare>, M
     requires count { length parts.now ≤ 4096 }
     requires weights { All (λ s. 1 ≤ s.weight) parts.now }
     requires whole { total_weight parts.now ≤ SHARE_UNIT }
-    ensures parts { IfOk result (λ made. made.items ≡ normalized parts.now) }
+    ensures parts { IfOk result (λ made. made.items ≡ with_whole_weight parts.now) }
     ensures whole { IfOk result (λ made. total_weight made.items ≡ SHARE_UNIT) }
     ensures positive { IfOk result (λ made. All (λ s. 1 ≤ s.weight) made.items) }
 {

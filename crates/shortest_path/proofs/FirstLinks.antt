@@ -1,22 +1,13 @@
 -- The first links of least walks.
-use Rattle.std.proofs.Common.{inl, inr, ◌≡◌, ℕ, ◌+◌, ◌<◌, Bool, true, false, not, ◌&&◌, List, Option, Some, None, length, set, arith, refl, ap, sym, ◌∙◌, subst, slice_index, replicate, ◌==◌}
+use Rattle.std.proofs.Common.{inl, inr, ◌≡◌, ℕ, ◌+◌, ◌<◌, Bool, true, false, not, ◌&&◌, List, Option, Some, None, set, arith, refl, sym, ◌∙◌, subst, slice_index, ◌==◌}
 use Rattle.std.specs.Prelude.{is_some}
 use Rattle.std.proofs.lemmas.Bool.{cases_eq, cases_lt, and_from, and_left, and_parts, and_right, eq-eqb, ne_eqb}
-use Rattle.std.proofs.lemmas.List.{length-replicate, length-set, get_or-replicate, get_or-set_same, get_or-set_other}
+use Rattle.std.proofs.lemmas.List.{length-set, get_or-set_same, get_or-set_other}
 use Rattle.te_model.specs.declared.network.Network.{Network}
 use Rattle.te_model.specs.Network.{node_count, link_count, tail_of, head_of}
 use Rattle.shortest_path.specs.Graph.{distance_at}
 use Rattle.shortest_path.specs.Least.{AreFirstLinks, IsFirstTightBelow, first_at, is_sum, is_tight}
 use Rattle.shortest_path.specs.Links.{is_open}
-
-pub firsts_start : (net : Network) (lengths : List ℕ) (marks : List Bool) (sums firsts : List (Option ℕ)) → firsts ≡ replicate (node_count net) None →
-    AreFirstLinks net lengths marks sums 0 firsts
-firsts_start net lengths marks sums firsts is = record {
-  count = ap (λ (l : List (Option ℕ)). length l) is ∙ length-replicate (node_count net) None;
-  each = λ v below.
-      let none : first_at firsts v ≡ None = ap (λ (l : List (Option ℕ)). first_at l v) is ∙ get_or-replicate (node_count net) v None None below in
-      subst (λ o. IsFirstTightBelow net lengths marks sums 0 v o) (sym none) (λ k lt. absurd (omega (arith, lt)));
-}
 
 -- one link more that is not the first
 one_more : (net : Network) (lengths : List ℕ) (marks : List Bool) (sums : List (Option ℕ)) (h v : ℕ) (o : Option ℕ) → IsFirstTightBelow net lengths marks sums h v o →

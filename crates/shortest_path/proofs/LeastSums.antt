@@ -7,7 +7,7 @@ use Rattle.te_model.specs.Network.{link_count}
 use Rattle.te_model.specs.Path.{chains, is_path, is_distinct, nodes_visited}
 use Rattle.shortest_path.specs.Graph.{Arc}
 use Rattle.shortest_path.specs.declared.rows.Direction.TheVariants.{Forward, Backward}
-use Rattle.shortest_path.specs.Graph.{IsSettled, AtMost, distance_at}
+use Rattle.shortest_path.specs.Graph.{AreSettledDistances, AtMost, distance_at}
 use Rattle.shortest_path.specs.Paths.{IsLeastPath, sum_along, IsDistance, AreDistances}
 use Rattle.shortest_path.specs.Links.{every_link, Walk, IsGraphOf}
 use Rattle.shortest_path.proofs.Relaxing.{is-at_most}
@@ -25,7 +25,7 @@ pub path_of_walk : (net : Network) (marks : List Bool) (s t : ℕ) (p : List ℕ
 path_of_walk net marks s t p walk apart = and_from (chains net s t p) (is_distinct (nodes_visited net s p)) (chains_of_walk net marks s t p walk) apart
 
 pub distances_of_settled : (net : Network) (lengths : List ℕ) (marks : List Bool) (graph : List (List Arc)) (s : ℕ) (distances : List (Option ℕ)) →
-    AllOpen net marks → IsGraphOf net lengths marks Forward (link_count net) graph → IsSettled graph s distances →
+    AllOpen net marks → IsGraphOf net lengths marks Forward (link_count net) graph → AreSettledDistances graph s distances →
     length distances ≡ length graph → AreDistances net lengths s distances
 distances_of_settled net lengths marks graph s distances open_all so settled count = record {
   count = count ∙ so.nodes;
@@ -68,7 +68,7 @@ least_path_of_walk net lengths marks s t (Some p) open_all long least = (
 
 -- the distances of a graph against links are the least sums toward its source
 pub sums_of_settled : (net : Network) (lengths : List ℕ) (marks : List Bool) (graph : List (List Arc)) (t : ℕ) (distances : List (Option ℕ)) →
-    IsGraphOf net lengths marks Backward (link_count net) graph → IsSettled graph t distances → length distances ≡ length graph →
+    IsGraphOf net lengths marks Backward (link_count net) graph → AreSettledDistances graph t distances → length distances ≡ length graph →
     AreLeastSums net lengths marks t distances
 sums_of_settled net lengths marks graph t distances so settled count = record {
   count = count ∙ so.nodes;

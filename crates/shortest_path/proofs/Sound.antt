@@ -8,9 +8,9 @@ use Rattle.te_model.proofs.WellFormed.{few_links, few_nodes, links_join}
 use Rattle.te_model.specs.Network.{is_well_formed, no_link}
 use Rattle.te_model.specs.declared.network.Link.{Link}
 use Rattle.shortest_path.specs.Costs.{HasCosts, costs_of}
-use Rattle.shortest_path.specs.Links.{IsSound}
+use Rattle.shortest_path.specs.Links.{HasSoundLinks}
 
-pub sound : (net : Network) → is_well_formed net ≡ true → IsSound net
+pub sound : (net : Network) → is_well_formed net ≡ true → HasSoundLinks net
 sound net formed = record {
   few = few_nodes net formed;
   few_links = few_links net formed;

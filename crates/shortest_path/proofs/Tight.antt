@@ -8,7 +8,7 @@ use Rattle.te_model.specs.Path.{is_distinct, nodes_visited}
 use Rattle.te_model.specs.Validity.{list_below}
 use Rattle.shortest_path.specs.Graph.{AtMost, distance_at}
 use Rattle.shortest_path.specs.Paths.{sum_along, IsBelow}
-use Rattle.shortest_path.specs.Links.{Walk, IsSound, is_open}
+use Rattle.shortest_path.specs.Links.{Walk, HasSoundLinks, is_open}
 use Rattle.shortest_path.specs.Least.{AreLeastSums, IsLeastWalk, is_sum, is_tight, IsFirstTight}
 use Rattle.shortest_path.proofs.Relaxing.{at_most-some, is-at_most}
 use Rattle.shortest_path.proofs.Loops.{without_loops}
@@ -159,7 +159,7 @@ least_walk_apart net lengths marks s t p long (walk, least) =
     ]
 
 pub greedy_step : (net : Network) (lengths : List ℕ) (marks : List Bool) (s t : ℕ) (distances : List (Option ℕ)) →
-    IsSound net → AreLeastSums net lengths marks t distances →
+    HasSoundLinks net → AreLeastSums net lengths marks t distances →
     (node h : ℕ) (links : List ℕ) → GreedySoFar net lengths marks distances s t node links → (node ≡ t → ⊥) →
     IsFirstTight net lengths marks distances node (Some h) → GreedySoFar net lengths marks distances s t (head_of net h) (links ++ h ∷ [])
 greedy_step net lengths marks s t distances sound are node h links far apart first =

@@ -1,12 +1,9 @@
 -- Two nodes have one distance and one least path.
-use Rattle.std.proofs.Common.{inl, inr, ◌≡◌, ℕ, ◌<◌, List, Option, Some, None, length, get_or, arith, refl, ap, sym, ◌∙◌}
-use Rattle.std.proofs.lemmas.List.{get_or_default, same_lists}
+use Rattle.std.proofs.Common.{inl, inr, ◌≡◌, ℕ, List, Option, Some, None, arith, refl, ap, sym}
 use Rattle.te_model.specs.declared.network.Network.{Network}
-use Rattle.te_model.specs.Network.{node_count}
 use Rattle.te_model.proofs.ListOrder.{list_below-irrefl, list_below-trans}
 use Rattle.te_model.proofs.Chains.{chains_of_path}
-use Rattle.shortest_path.specs.Graph.{distance_at}
-use Rattle.shortest_path.specs.Paths.{AreDistances, IsBelow, IsDistance, IsLeastPath}
+use Rattle.shortest_path.specs.Paths.{IsBelow, IsDistance, IsLeastPath}
 
 -- two distances that are known are one
 pub distance_unique : (net : Network) (lengths : List ℕ) (s t d e : ℕ) → IsDistance net lengths s t (Some d) → IsDistance net lengths s t (Some e) → d ≡ e
@@ -42,14 +39,3 @@ least_path_only net lengths s t (Some p) (Some q) one two = elim (one.1 q (chain
     | inr above ↦ absurd (below_both lengths p q below above)
   ]
 ]
-
--- so a node has one list of distances
-pub distances_only : (net : Network) (lengths : List ℕ) (s : ℕ) (ds es : List (Option ℕ)) → AreDistances net lengths s ds → AreDistances net lengths s es → ds ≡ es
-distances_only net lengths s ds es are also = same_lists ds es (are.count ∙ sym also.count) each
-  where
-    each : (v : ℕ) (d : Option ℕ) → v < length ds → get_or ds v d ≡ get_or es v d
-    each v d below =
-        let inside : v < node_count net = omega (arith, are.count, below) in
-        get_or_default ds v d None below
-        ∙ (distance_only net lengths s v (distance_at ds v) (distance_at es v) (are.each v inside) (also.each v inside)
-        ∙ get_or_default es v None d (omega (arith, also.count, inside)))

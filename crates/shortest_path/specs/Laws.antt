@@ -1,9 +1,10 @@
 -- What is known of distances and least paths beyond any one search, as statements.
-use Rattle.std.specs.Prelude.{◌≡◌, ◌⊎◌, ℕ, ◌+◌, ◌*◌, ◌<◌, ◌≤◌, List, Option, Some, None, slice_index, slice_index_or}
+use Rattle.std.specs.Prelude.{◌≡◌, ◌⊎◌, ℕ, ◌+◌, ◌*◌, ◌<◌, ◌≤◌, All, Bool, IsTrue, List, Option, Some, None, length, slice_index, slice_index_or}
 use Rattle.te_model.specs.declared.network.Network.{Network}
-use Rattle.te_model.specs.Network.{node_count, link_count, tail_of, head_of}
+use Rattle.te_model.specs.Network.{is_well_formed, node_count, link_count, tail_of, head_of}
 use Rattle.te_model.specs.Laws.{LinksJoinNodes}
-use Rattle.shortest_path.specs.Paths.{AreDistances, IsDistance, IsLeastPath}
+use Rattle.shortest_path.specs.Least.{IsLeastWalk}
+use Rattle.shortest_path.specs.Paths.{AreDistances, ArePotentials, IsDistance, IsLeastPath}
 
 -- two nodes have one distance
 abbrev pub DistancesAreOne : Type 0
@@ -35,3 +36,27 @@ abbrev pub DistancesDouble : Type 0
 DistancesDouble =
     (net : Network) (old new : List ℕ) → ((h : ℕ) → slice_index new h ≡ 2 * slice_index old h) → (s t d : ℕ) →
     IsDistance net old s t (Some d) → IsDistance net new s t (Some (2 * d))
+
+-- two nodes of a well-formed network have a least path, or none where no links chain
+abbrev pub LeastPathsExist : Type 0
+LeastPathsExist =
+    (net : Network) (lengths : List ℕ) → IsTrue (is_well_formed net) → length lengths ≡ link_count net → All (λ l. 1 ≤ l) lengths →
+    (s t : ℕ) → s < node_count net → t < node_count net → (p : Option (List ℕ)) × IsLeastPath net lengths s t p
+
+-- .. a least walk over open links, or none where none leads there
+abbrev pub LeastWalksExist : Type 0
+LeastWalksExist =
+    (net : Network) (lengths : List ℕ) → IsTrue (is_well_formed net) → length lengths ≡ link_count net → All (λ l. 1 ≤ l) lengths →
+    (marks : List Bool) (s t : ℕ) → s < node_count net → t < node_count net → (r : Option (List ℕ)) × IsLeastWalk net lengths marks s t r
+
+-- .. a distance, or none where no links chain
+abbrev pub DistancesExist : Type 0
+DistancesExist =
+    (net : Network) (lengths : List ℕ) → IsTrue (is_well_formed net) → length lengths ≡ link_count net →
+    (s t : ℕ) → s < node_count net → t < node_count net → (d : Option ℕ) × IsDistance net lengths s t d
+
+-- each node of a well-formed network has its potentials
+abbrev pub PotentialsExist : Type 0
+PotentialsExist =
+    (net : Network) (lengths : List ℕ) → IsTrue (is_well_formed net) → length lengths ≡ link_count net →
+    (s : ℕ) → s < node_count net → (potentials : List ℕ) × ArePotentials net lengths s potentials

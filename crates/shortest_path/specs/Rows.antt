@@ -7,14 +7,14 @@ use Rattle.shortest_path.specs.declared.rows.Direction.{Direction}
 use Rattle.shortest_path.specs.Graph.{Arc}
 use Rattle.shortest_path.specs.Links.{is_open, arc_start, arc_end}
 
-abbrev pub row_at : List (List ℕ) → ℕ → List ℕ
-row_at rows u = slice_index_or rows u []
+abbrev pub arc_row : List (List ℕ) → ℕ → List ℕ
+arc_row rows u = slice_index_or rows u []
 
 -- of the links below m, each is in the row of the node where it starts, and in no other
-pub record AreRows (net : Network) (direction : Direction) (m : ℕ) (rows : List (List ℕ)) : Type 0 where
+pub record AreArcRows (net : Network) (direction : Direction) (m : ℕ) (rows : List (List ℕ)) : Type 0 where
   pub count : length rows ≡ node_count net
-  pub sound : (u : ℕ) → All (λ h. (h < m) × (arc_start direction net h ≡ u)) (row_at rows u)
-  pub complete : (h : ℕ) → h < m → Contains (row_at rows (arc_start direction net h)) h
+  pub sound : (u : ℕ) → All (λ h. (h < m) × (arc_start direction net h ≡ u)) (arc_row rows u)
+  pub complete : (h : ℕ) → h < m → Contains (arc_row rows (arc_start direction net h)) h
 
 -- the arcs of those of the links that are open
 abbrev pub arcs_of : Network → List ℕ → List Bool → Direction → List ℕ → List Arc
@@ -37,5 +37,5 @@ pub record SearchGraph : Type 0 where
 -- .. of a network
 pub record IsSearchGraph (net : Network) (toward : Direction) (graph : SearchGraph) : Type 0 where
   pub direction : graph.direction ≡ toward
-  pub rows : AreRows net toward (link_count net) graph.rows
+  pub rows : AreArcRows net toward (link_count net) graph.rows
   pub links : graph.links ≡ link_count net

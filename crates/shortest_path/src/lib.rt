@@ -23,7 +23,10 @@ mod ways;
 
 pub use cost::costs;
 pub use distance::{distances, potentials, potentials_by};
-pub use law::{distances_are_one, distances_double, distances_stay, least_paths_are_one};
+pub use law::{
+    distances_are_one, distances_double, distances_exist, distances_stay, least_paths_are_one,
+    least_paths_exist, least_walks_exist, potentials_exist,
+};
 pub use length::{is_sum, length_along};
 pub use path::least_path;
 pub use rows::Direction;

@@ -2,8 +2,8 @@
 ghost use Rattle.std.specs.Prelude.{◌≡◌, ◌<◌, ◌++◌, ◌∷◌, [], OnOk, slice_set, ◌^◌, ◌≤◌, IfOk, All, length, vec_len};
 ghost use Rattle.te_model.specs.declared.limits.TheConstants.{FORMAT_2};
 ghost use Rattle.te_model.specs.Network.{link_count};
-ghost use Rattle.shortest_path.specs.Links.{ends_of, IsSound};
-ghost use Rattle.shortest_path.specs.Rows.{AreRows, row_at};
+ghost use Rattle.shortest_path.specs.Links.{ends_of, HasSoundLinks};
+ghost use Rattle.shortest_path.specs.Rows.{AreArcRows, arc_row};
 
 use crate::row::Row;
 use std::alloc::Global;
@@ -31,7 +31,7 @@ pub fn ends(direction: Direction, link: Link) -> (u32, u32)
 /// Adds a link that starts at a node.
 fn add(rows: &mut [Row], from: usize, link: u32) -> Result<(), Memory>
     requires { from < length rows.old }
-    ensures { OnOk result (rows.new ≡ slice_set rows.old from (row_at rows.old from ++ link ∷ [])) }
+    ensures { OnOk result (rows.new ≡ slice_set rows.old from (arc_row rows.old from ++ link ∷ [])) }
 {
     rows[from].push(link)
 }
@@ -51,8 +51,8 @@ fn empty_rows(alloc: Global, nodes: usize, links: usize) -> Result<Vec<Row>, Mem
 
 /// For each node the links that start there in the direction.
 pub fn rows_of(alloc: Global, net: &Network, direction: Direction) -> Result<Vec<Row>, Memory>
-    requires { IsSound net.now }
-    ensures { IfOk result (λ r. AreRows net.now direction (link_count net.now) r.items) }
+    requires { HasSoundLinks net.now }
+    ensures { IfOk result (λ r. AreArcRows net.now direction (link_count net.now) r.items) }
 {
     let links = net.links.as_slice();
     let mut rows = empty_rows(alloc, net.names.as_slice().len(), links.len())?;

@@ -1,6 +1,6 @@
 //! Many searches in one network.
 ghost use Rattle.std.specs.Prelude.{◌≡◌, IfOk};
-ghost use Rattle.shortest_path.specs.Links.{IsSound};
+ghost use Rattle.shortest_path.specs.Links.{HasSoundLinks};
 ghost use Rattle.shortest_path.specs.Rows.{IsSearchGraph};
 
 use crate::rows::{Direction, rows_of};
@@ -41,7 +41,7 @@ impl Searches {
 
     /// Searches in the network. `Memory` comes where memory is wanting.
     pub fn new(alloc: Global, net: &Network, direction: Direction) -> Result<Searches, Memory>
-        requires { IsSound net.now }
+        requires { HasSoundLinks net.now }
         ensures { IfOk result (IsSearchGraph net.now direction) }
     {
         let rows = rows_of(alloc, net, direction)?;
@@ -60,7 +60,7 @@ impl Searches {
         src: u32,
         distances: &mut [Option<u64>],
     )
-        requires sound { IsSound net.now }
+        requires sound { HasSoundLinks net.now }
         requires along { IsSearchGraph net.now Forward self.old }
         requires lengths { length lengths.now ≡ link_count net.now }
         requires limit { All (λ l. l ≤ 2 ^ 28) lengths.now }
@@ -90,7 +90,7 @@ impl Searches {
         dst: u32,
         sums: &mut [Option<u64>],
     )
-        requires sound { IsSound net.now }
+        requires sound { HasSoundLinks net.now }
         requires against { IsSearchGraph net.now Backward self.old }
         requires lengths { length lengths.now ≡ link_count net.now }
         requires marks { length «open».now ≡ link_count net.now }

@@ -3,9 +3,9 @@ ghost use Rattle.std.specs.Prelude.{◌⊎◌, All, EachIndex, ◌≡◌, ℕ, �
 ghost use Rattle.std.specs.Option.{MatchOption};
 ghost use Rattle.te_model.specs.declared.limits.TheConstants.{FORMAT_2};
 ghost use Rattle.te_model.specs.Network.{link_count, node_count};
-ghost use Rattle.shortest_path.specs.Graph.{IsNearestBelow, IsSettled, IsRelaxed, AtMost, distance_at};
-ghost use Rattle.shortest_path.specs.Links.{IsSound};
-ghost use Rattle.shortest_path.specs.Rows.{AreRows, arcs_of, graph_of};
+ghost use Rattle.shortest_path.specs.Graph.{IsNearestBelow, AreSettledDistances, IsRelaxed, AtMost, distance_at};
+ghost use Rattle.shortest_path.specs.Links.{HasSoundLinks};
+ghost use Rattle.shortest_path.specs.Rows.{AreArcRows, arcs_of, graph_of};
 
 use crate::row::Row;
 use crate::rows::{Direction, ends};
@@ -64,7 +64,7 @@ fn relax(
     from: u64,
     distances: &mut [Option<u64>],
 )
-    requires sound { IsSound net.now }
+    requires sound { HasSoundLinks net.now }
     requires links { All (λ h. h < link_count net.now) row.now }
     requires lengths { length lengths.now ≡ link_count net.now }
     requires marks { length «open».now ≡ link_count net.now }
@@ -114,15 +114,15 @@ pub fn settle(
     distances: &mut [Option<u64>],
     done: &mut [bool],
 )
-    requires sound { IsSound net.now }
-    requires rows { AreRows net.now arcs.now.direction (link_count net.now) arcs.now.rows.items }
+    requires sound { HasSoundLinks net.now }
+    requires rows { AreArcRows net.now arcs.now.direction (link_count net.now) arcs.now.rows.items }
     requires lengths { length lengths.now ≡ link_count net.now }
     requires marks { length «open».now ≡ link_count net.now }
     requires limit { All (λ l. l ≤ 2 ^ 28) lengths.now }
     requires start { start < node_count net.now }
     requires nodes { length distances.old ≡ node_count net.now }
     requires room { length done.old ≡ node_count net.now }
-    ensures { IsSettled (graph_of net.now lengths.now «open».now arcs.now.direction arcs.now.rows.items) start distances.new }
+    ensures { AreSettledDistances (graph_of net.now lengths.now «open».now arcs.now.direction arcs.now.rows.items) start distances.new }
 {
     forget(distances);
     clear(done);

@@ -1,7 +1,7 @@
 //! The least walk between two nodes over the open links of a network.
 ghost use Rattle.std.specs.Prelude.{◌≡◌, ℕ, ◌^◌, ◌<◌, ◌≤◌, ◌&&◌, Bool, IfOk, All, List, MatchOption, None, Some, length};
 ghost use Rattle.te_model.specs.Network.{link_count, node_count};
-ghost use Rattle.shortest_path.specs.Links.{IsSound};
+ghost use Rattle.shortest_path.specs.Links.{HasSoundLinks};
 ghost use Rattle.shortest_path.specs.Least.{links_of, AreFirstLinks, AreLeastSums, IsLeastWalk, LeadsTo, is_sum};
 
 use crate::length::is_sum;
@@ -20,7 +20,7 @@ pub fn toward(
     open: &[bool],
     dst: u32,
 ) -> Result<Vec<Option<u64>>, Memory>
-    requires sound { IsSound net.now }
+    requires sound { HasSoundLinks net.now }
     requires lengths { length lengths.now ≡ link_count net.now }
     requires marks { length «open».now ≡ link_count net.now }
     requires limit { All (λ l. l ≤ 2 ^ 28) lengths.now }
@@ -50,7 +50,7 @@ pub fn first_links(
     open: &[bool],
     sums: &[Option<u64>],
 ) -> Result<Vec<Option<u32>>, Memory>
-    requires sound { IsSound net.now }
+    requires sound { HasSoundLinks net.now }
     requires lengths { length lengths.now ≡ link_count net.now }
     requires marks { length «open».now ≡ link_count net.now }
     requires sums { length sums.now ≡ node_count net.now }
@@ -79,7 +79,7 @@ pub fn walk_along(
     src: u32,
     dst: u32,
 ) -> Result<Option<Vec<u32>>, Memory>
-    requires sound { IsSound net.now }
+    requires sound { HasSoundLinks net.now }
     requires leads { (lengths : List ℕ) × (marks : List Bool) × LeadsTo net.now lengths marks dst sums.now firsts.now }
     requires src { src < node_count net.now }
     ensures { (lengths : List ℕ) → (marks : List Bool) → LeadsTo net.now lengths marks dst sums.now firsts.now → IfOk result (λ w. MatchOption w (IsLeastWalk net.now lengths marks src dst None) (λ v. IsLeastWalk net.now lengths marks src dst (Some v.items))) }
@@ -113,7 +113,7 @@ pub fn follow(
     src: u32,
     dst: u32,
 ) -> Result<Option<Path>, Memory>
-    requires sound { IsSound net.now }
+    requires sound { HasSoundLinks net.now }
     requires lengths { length lengths.now ≡ link_count net.now }
     requires marks { length «open».now ≡ link_count net.now }
     requires positive { All (λ l. 1 ≤ l) lengths.now }
@@ -143,7 +143,7 @@ pub fn least_walk(
     src: u32,
     dst: u32,
 ) -> Result<Option<Path>, Memory>
-    requires sound { IsSound net.now }
+    requires sound { HasSoundLinks net.now }
     requires lengths { length lengths.now ≡ link_count net.now }
     requires marks { length «open».now ≡ link_count net.now }
     requires limit { All (λ l. l ≤ 2 ^ 28) lengths.now }

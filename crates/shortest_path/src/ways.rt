@@ -2,7 +2,7 @@
 ghost use Rattle.std.specs.Prelude.{◌≡◌, ◌<◌, Some, None, IfOk, IsTrue, MatchOption};
 ghost use Rattle.te_model.specs.Network.{is_well_formed, node_count};
 ghost use Rattle.shortest_path.specs.declared.rows.Direction.TheVariants.{Backward};
-ghost use Rattle.shortest_path.specs.Links.{IsSound};
+ghost use Rattle.shortest_path.specs.Links.{HasSoundLinks};
 ghost use Rattle.shortest_path.specs.Rows.{IsSearchGraph};
 ghost use Rattle.shortest_path.specs.Ways.{AreWays, IsLeastWay};
 
@@ -63,7 +63,7 @@ pub fn way_from(
     ways: &Ways,
     src: u32,
 ) -> Result<Option<Vec<u32>>, Memory>
-    requires sound { IsSound net.now }
+    requires sound { HasSoundLinks net.now }
     requires ways { AreWays net.now ways.now }
     requires src { src < node_count net.now }
     ensures { IfOk result (λ w. MatchOption w (IsLeastWay net.now ways.now src None) (λ v. IsLeastWay net.now ways.now src (Some v.items))) }

@@ -5,7 +5,7 @@ use Rattle.te_model.specs.declared.route.PathShare.{PathShare}
 use Rattle.te_model.specs.declared.units.TheConstants.{SHARE_UNIT}
 use Rattle.te_model.specs.Apportion.{apportion}
 use Rattle.routing.specs.Merge.{no_path}
-use Rattle.routing.specs.Normal.{weighted}
+use Rattle.routing.specs.Normal.{weighted_paths}
 use Rattle.routing.specs.Split.{total_weight}
 use Rattle.routing.proofs.Normalizing.{all_links, all_weights, some_weight, length-apportion, total-normalized, positive-normalized}
 use Rattle.routing.proofs.normal.normalize.Goals as goal
@@ -45,7 +45,7 @@ returns-clause-parts c =
     let are : c.deref-2.result.now ≡ apportion SHARE_UNIT (all_weights parts) =
     c.deref-2.ensures.value ∙ (c.in_ok-shares.ensures.parts ∙ ap (apportion SHARE_UNIT) weights)
     in
-    c.in_ok-made.ensures ∙ ap (weighted (all_links parts)) are
+    c.in_ok-made.ensures ∙ ap (weighted_paths (all_links parts)) are
 
 pub returns-clause-whole : goal.returns-clause-whole
 returns-clause-whole c =

@@ -2,7 +2,7 @@ use Rattle.std.proofs.Common.{◌≡◌, ◌+◌, ◌<◌, [], ◌∷◌, ◌++�
 use Rattle.std.proofs.lemmas.List.{get_or_read, length-map, length-take, map_push, take_more}
 use Rattle.te_model.specs.declared.route.PathShare.{PathShare}
 use Rattle.routing.specs.Merge.{no_path, links_at}
-use Rattle.routing.specs.Normal.{weighted}
+use Rattle.routing.specs.Normal.{weighted_paths}
 use Rattle.routing.proofs.Normalizing.{all_links, weighted_push}
 use Rattle.routing.proofs.normal.with_weights.Goals as goal
 
@@ -25,7 +25,7 @@ loop-i-preserved c =
     in
     pushed
     ∙ (ap (λ l. l ++ (record { links = c.new.result; weight = slice_index weights i }) ∷ []) c.loop-i.invariant
-    ∙ (ap (λ l. weighted (all_links (take i parts)) (take i weights) ++ (record { links = l; weight = slice_index weights i }) ∷ []) links
+    ∙ (ap (λ l. weighted_paths (all_links (take i parts)) (take i weights) ++ (record { links = l; weight = slice_index weights i }) ∷ []) links
     ∙ (sym (weighted_push (all_links (take i parts)) (take i weights) (links_at parts i) (slice_index weights i) lengths)
-    ∙ (ap (λ ps. weighted ps (take i weights ++ slice_index weights i ∷ [])) (sym more_links)
-    ∙ ap (λ ws. weighted (all_links (take (i + 1) parts)) ws) (sym (take_more weights i 0 inside))))))
+    ∙ (ap (λ ps. weighted_paths ps (take i weights ++ slice_index weights i ∷ [])) (sym more_links)
+    ∙ ap (λ ws. weighted_paths (all_links (take (i + 1) parts)) ws) (sym (take_more weights i 0 inside))))))

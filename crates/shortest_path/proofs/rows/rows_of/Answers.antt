@@ -1,11 +1,11 @@
-use Rattle.std.proofs.Common.{◌≡◌, ◌+◌, ◌<◌, ℕ, List, ◌∷◌, [], ◌++◌, length, get_or, arith, subst, ap, ◌∙◌}
+use Rattle.std.proofs.Common.{◌≡◌, ◌<◌, ℕ, List, ◌∷◌, [], ◌++◌, length, get_or, arith, subst, ap, ◌∙◌}
 use Rattle.std.proofs.Math.ListN.{set}
 use Rattle.std.proofs.lemmas.List.{length-set}
 use Rattle.te_model.specs.declared.network.Link.{Link}
 use Rattle.te_model.specs.Network.{link_at, link_count, no_link}
 use Rattle.te_model.proofs.Lists.{written_whole}
 use Rattle.shortest_path.specs.Links.{ends_of, arc_start}
-use Rattle.shortest_path.specs.Rows.{AreRows, row_at}
+use Rattle.shortest_path.specs.Rows.{AreArcRows, arc_row}
 use Rattle.shortest_path.proofs.Building.{rows_more, start_inside}
 use Rattle.shortest_path.proofs.rows.rows_of.Goals as goal
 
@@ -17,15 +17,15 @@ loop-h-preserved c =
     let before = c.loop-h.rows.items in
     let s = arc_start direction net h in
     let ends : c.ends-from.result ≡ ends_of direction (link_at net h) = c.ends-from.ensures ∙ ap (λ ls. ends_of direction (get_or ls h no_link)) c.as_slice-links.ensures in
-    let added : c.add.new.rows ≡ set before s (row_at before s ++ h ∷ []) =
+    let added : c.add.new.rows ≡ set before s (arc_row before s ++ h ∷ []) =
     c.in_ok-add.ensures
-    ∙ (ap (λ g. set g c.ends-from.result.0 (row_at g c.ends-from.result.0 ++ h ∷ [])) c.deref_mut.ensures.value
-    ∙ ap (λ (p : ℕ × ℕ). set before p.0 (row_at before p.0 ++ h ∷ [])) ends)
+    ∙ (ap (λ g. set g c.ends-from.result.0 (arc_row g c.ends-from.result.0 ++ h ∷ [])) c.deref_mut.ensures.value
+    ∙ ap (λ (p : ℕ × ℕ). set before p.0 (arc_row before p.0 ++ h ∷ [])) ends)
     in
     let inside : s < length before =
     omega (arith, start_inside net direction h c.requires (subst (λ (ls : List Link). h < length ls) c.as_slice-links.ensures c.loop-h-test.true), c.loop-h.invariant.count)
     in
-    let whole = written_whole c.loop-h.rows.len c.add.new.rows before (ap length added ∙ length-set before s (row_at before s ++ h ∷ [])) c.loop-h.rows.ok.0 in
+    let whole = written_whole c.loop-h.rows.len c.add.new.rows before (ap length added ∙ length-set before s (arc_row before s ++ h ∷ [])) c.loop-h.rows.ok.0 in
     rw (whole, added) (rows_more net direction h before inside c.loop-h.invariant)
 
 pub returns : goal.returns
@@ -33,4 +33,4 @@ returns c =
     let net = c.args.net.now in
     let count : length c.as_slice-links.result.now ≡ link_count net = ap (λ (ls : List Link). length ls) c.as_slice-links.ensures in
     let every : c.loop-h.h ≡ link_count net = omega (arith, count) in
-    subst (λ m. AreRows net c.args.direction m c.loop-h.rows.items) every c.loop-h.invariant
+    subst (λ m. AreArcRows net c.args.direction m c.loop-h.rows.items) every c.loop-h.invariant

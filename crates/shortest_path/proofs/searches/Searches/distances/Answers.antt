@@ -1,7 +1,7 @@
 use Rattle.std.proofs.Common.{◌≡◌, true, length, replicate, arith, ap, sym, ◌∙◌, subst}
 use Rattle.std.proofs.lemmas.List.{length-map}
 use Rattle.shortest_path.specs.declared.rows.Direction.TheVariants.{Forward}
-use Rattle.shortest_path.specs.Graph.{IsSettled}
+use Rattle.shortest_path.specs.Graph.{AreSettledDistances}
 use Rattle.shortest_path.specs.Links.{every_link}
 use Rattle.shortest_path.specs.Rows.{IsSearchGraph, arcs_of, graph_of}
 use Rattle.shortest_path.proofs.Building.{graph_of_rows}
@@ -22,8 +22,8 @@ returns-clause-distances c =
     in
     let every : marks ≡ every_link net = c.as_slice-open.ensures.value ∙ (c.self.invariant.0 ∙ ap (λ n. replicate n true) is.links) in
     let open_all : AllOpen net marks = subst (AllOpen net) (sym every) (all_open net) in
-    let settled : IsSettled (graph_of net lengths marks Forward rows) c.args.src distances =
-    subst (λ d. IsSettled (graph_of net lengths marks d rows) c.args.src distances) is.direction c.settle.ensures
+    let settled : AreSettledDistances (graph_of net lengths marks Forward rows) c.args.src distances =
+    subst (λ d. AreSettledDistances (graph_of net lengths marks d rows) c.args.src distances) is.direction c.settle.ensures
     in
     let size = length-map rows (arcs_of net lengths marks Forward) in
     distances_of_settled net lengths marks (graph_of net lengths marks Forward rows) c.args.src distances open_all

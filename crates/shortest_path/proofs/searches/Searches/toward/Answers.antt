@@ -1,7 +1,7 @@
 use Rattle.std.proofs.Common.{length, arith, sym, subst}
 use Rattle.std.proofs.lemmas.List.{length-map}
 use Rattle.shortest_path.specs.declared.rows.Direction.TheVariants.{Backward}
-use Rattle.shortest_path.specs.Graph.{IsSettled}
+use Rattle.shortest_path.specs.Graph.{AreSettledDistances}
 use Rattle.shortest_path.specs.Rows.{IsSearchGraph, arcs_of, graph_of}
 use Rattle.shortest_path.proofs.Building.{graph_of_rows}
 use Rattle.shortest_path.proofs.LeastSums.{sums_of_settled}
@@ -18,8 +18,8 @@ returns-clause-sums c =
     let is : IsSearchGraph net Backward (record { direction = arcs.direction; rows = rows; links = length c.self.inside.every.items }) =
     subst (IsSearchGraph net Backward) (sym c.self.view_is) c.requires.against
     in
-    let settled : IsSettled (graph_of net lengths marks Backward rows) c.args.dst sums =
-    subst (λ d. IsSettled (graph_of net lengths marks d rows) c.args.dst sums) is.direction c.settle.ensures
+    let settled : AreSettledDistances (graph_of net lengths marks Backward rows) c.args.dst sums =
+    subst (λ d. AreSettledDistances (graph_of net lengths marks d rows) c.args.dst sums) is.direction c.settle.ensures
     in
     let size = length-map rows (arcs_of net lengths marks Backward) in
     sums_of_settled net lengths marks (graph_of net lengths marks Backward rows) c.args.dst sums (graph_of_rows net lengths marks Backward rows is.rows) settled
