@@ -1,2 +1,3 @@
 pub mod LastLinks
 pub mod Products
+pub mod Weights

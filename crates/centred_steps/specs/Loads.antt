@@ -9,7 +9,7 @@ abbrev pub AreSmall : List ℕ → Type 0
 AreSmall loads = (h : ℕ) → slice_index loads h ≤ 2 ^ 66
 
 -- such a load for each link
-pub record AreLoads (net : Network) (loads : List ℕ) : Type 0 where
+pub record AreLoadsWithin (net : Network) (loads : List ℕ) : Type 0 where
   pub count : length loads ≡ link_count net
   pub small : AreSmall loads
 

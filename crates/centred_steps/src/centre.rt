@@ -1,7 +1,7 @@
 //! The usage in the middle.
 ghost use Rattle.std.specs.Prelude.{◌≡◌, ℕ, ◌^◌, ◌≤◌, IsTrue, length, slice_index};
 ghost use Rattle.te_model.specs.Network.{is_well_formed, link_count};
-ghost use Rattle.centred_steps.specs.Loads.{AreLoads, IsCentre};
+ghost use Rattle.centred_steps.specs.Loads.{AreLoadsWithin, IsCentre};
 ghost use Rattle.centred_steps.specs.Weights.{AreWeightsUpTo};
 
 use te_model::{Network, RATIO_UNIT, capacity_by};
@@ -27,7 +27,7 @@ pub fn usage_of(load: u128, capacity: u64) -> u128
 /// The greatest usage of a link.
 fn greatest_usage(net: &Network, loads: &[u128]) -> u128
     requires network { IsTrue (is_well_formed net.now) }
-    requires loads { AreLoads net.now loads.now }
+    requires loads { AreLoadsWithin net.now loads.now }
     ensures { result ≤ 2 ^ 86 }
 {
     let links = net.links.as_slice();
@@ -59,7 +59,7 @@ fn mean_usage(net: &Network, weights: &[u64], loads: &[u128]) -> u128
     requires network { IsTrue (is_well_formed net.now) }
     requires count { length weights.now ≡ link_count net.now }
     requires weights { AreWeightsUpTo (2 ^ 27) weights.now }
-    requires loads { AreLoads net.now loads.now }
+    requires loads { AreLoadsWithin net.now loads.now }
 {
     let volume = capacity_by(net, weights).max(1);
     load_by(weights, loads) * u128::from(RATIO_UNIT) / volume
@@ -72,7 +72,7 @@ pub fn centre_of(net: &Network, weights: &[u64], loads: &[u128]) -> Centre
     requires network { IsTrue (is_well_formed net.now) }
     requires count { length weights.now ≡ link_count net.now }
     requires weights { AreWeightsUpTo (2 ^ 27) weights.now }
-    requires loads { AreLoads net.now loads.now }
+    requires loads { AreLoadsWithin net.now loads.now }
     ensures { IsCentre result }
 {
     let most = greatest_usage(net, loads);

@@ -1,7 +1,7 @@
 //! Steps of weights.
 ghost use Rattle.std.specs.Prelude.{◌≡◌, ℕ, ◌*◌, ◌^◌, ◌<◌, ◌≤◌, IsTrue, length, slice_index};
 ghost use Rattle.te_model.specs.Network.{is_well_formed, link_count};
-ghost use Rattle.centred_steps.specs.Loads.{AreLoads};
+ghost use Rattle.centred_steps.specs.Loads.{AreLoadsWithin};
 ghost use Rattle.centred_steps.specs.Weights.{AreWeightsUpTo};
 
 use crate::centre::{centre_of, usage_of};
@@ -41,7 +41,7 @@ fn loss_of(weight: u64, below: u128, unit: u128) -> u64
 }
 
 /// The weight of a link of this usage, moved by how far the usage lies from the mean, in units.
-fn moved(weight: u64, usage: u128, mean: u128, unit: u128) -> u64
+fn moved_weight(weight: u64, usage: u128, mean: u128, unit: u128) -> u64
     requires weight { (1 ≤ weight) × (weight ≤ 2 ^ 27) }
     requires usage { usage ≤ 2 ^ 86 }
     requires mean { mean ≤ 2 ^ 86 }
@@ -60,7 +60,7 @@ fn move_each(net: &Network, weights: &mut [u64], loads: &[u128], parts: u64)
     requires network { IsTrue (is_well_formed net.now) }
     requires count { length weights.old ≡ link_count net.now }
     requires weights { AreWeightsUpTo (2 ^ 27) weights.old }
-    requires loads { AreLoads net.now loads.now }
+    requires loads { AreLoadsWithin net.now loads.now }
     requires parts { (1 ≤ parts) × (parts ≤ 128) }
     ensures { AreWeightsUpTo (2 ^ 28) weights.new }
 {
@@ -69,7 +69,7 @@ fn move_each(net: &Network, weights: &mut [u64], loads: &[u128], parts: u64)
     let links = net.links.as_slice();
     for h in 0..links.len() {
         let usage = usage_of(loads[h], links[h].capacity);
-        weights[h] = moved(weights[h], usage, centre.mean, unit);
+        weights[h] = moved_weight(weights[h], usage, centre.mean, unit);
     }
 }
 
@@ -121,11 +121,11 @@ fn level(weights: &mut [u64])
 /// and falls below it, at most to its half. That of the most used link grows by one of so many `parts` of itself.
 ///
 /// `weights` and `loads` have one number for each link. The weights stay from 1 to 2^27. Takes no memory.
-pub fn step(net: &Network, weights: &mut [u64], loads: &[u128], parts: u64)
+pub fn step_weights(net: &Network, weights: &mut [u64], loads: &[u128], parts: u64)
     requires network { IsTrue (is_well_formed net.now) }
     requires count { length weights.old ≡ link_count net.now }
     requires weights { AreWeightsUpTo (2 ^ 27) weights.old }
-    requires loads { AreLoads net.now loads.now }
+    requires loads { AreLoadsWithin net.now loads.now }
     requires parts { (1 ≤ parts) × (parts ≤ 128) }
     ensures count { length weights.new ≡ length weights.old }
     ensures weights { AreWeightsUpTo (2 ^ 27) weights.new }

@@ -70,7 +70,13 @@ pub fn narrowest_on(net: &Network, lasts: &[Option<u32>], dst: u32) -> u64
 }
 
 /// Adds the amount to the loads of the links on the way to the node. Takes no memory.
-pub fn add_along(net: &Network, lasts: &[Option<u32>], dst: u32, amount: u128, loads: &mut [u128])
+pub fn add_load_along(
+    net: &Network,
+    lasts: &[Option<u32>],
+    dst: u32,
+    amount: u128,
+    loads: &mut [u128],
+)
     requires network { IsTrue (is_well_formed net.now) }
     requires lasts { AreLastLinks net.now lasts.now }
     requires dst { dst < node_count net.now }

@@ -27,7 +27,7 @@ use Rattle.scheme.specs.Low.{HasLow}
 use Rattle.shortest_path.specs.Paths.{sum_along}
 use Rattle.shortest_path.proofs.PathLengths.{path_short}
 use Rattle.dual_bounds.specs.Dual.{unit_lengths, total_capacity, demand_by, IsBoundBy, IsBoundOf}
-use Rattle.dual_bounds.specs.GivenPaths.{paths_of, AreFewLinks, AreShortest, IsShortest, IsBracketOnPaths}
+use Rattle.dual_bounds.specs.GivenPaths.{link_lists, AreFewLinks, AreShortest, IsShortest, IsBracketOnPaths}
 use Rattle.dual_bounds.proofs.Choosing.{IsUnique, IsChoice}
 use Rattle.te_model.proofs.WellFormed.{few_nodes}
 use Rattle.dual_bounds.proofs.Sizes.{demand_small, no_length, no_demand, above_unit}
@@ -136,41 +136,41 @@ path_at paths k below =
 
 pub is_lower : (net : Network) (routes : List PairRoutes) (demand : List ℕ) (most : ℕ) (b : Bracket) → is_well_formed net ≡ true → IsPathRouting net routes →
     IsBoundOf net (length routes) demand most (AreShortest routes) b →
-    IsLowerBoundOnPaths net (length routes) (paths_of routes) (slice_index demand) b.low_num b.low_den
+    IsLowerBoundOnPaths net (length routes) (link_lists routes) (slice_index demand) b.low_num b.low_den
 is_lower net routes demand most b formed routing of =
     let enough : sum_below (link_count net) (λ h. capacity_of net h * slice_index b.lengths h) ≤ b.low_den = omega (arith, of.bound.low_den_is) in
     let law =
-    distances_bound net (length routes) (paths_of routes) once within (slice_index b.lengths) of.distance long (slice_index demand) b.low_den enough
+    distances_bound net (length routes) (link_lists routes) once within (slice_index b.lengths) of.distance long (slice_index demand) b.low_den enough
     in
-    subst (λ x. IsLowerBoundOnPaths net (length routes) (paths_of routes) (slice_index demand) x b.low_den) (sym of.bound.low_num_is) law
+    subst (λ x. IsLowerBoundOnPaths net (length routes) (link_lists routes) (slice_index demand) x b.low_den) (sym of.bound.low_num_is) law
   where
-    is_path_at : (p k : ℕ) → p < length routes → k < length (paths_of routes p) →
-        is_path net (routes_at routes p).pair.src (routes_at routes p).pair.dst (slice_index_or (paths_of routes p) k []) ≡ true
+    is_path_at : (p k : ℕ) → p < length routes → k < length (link_lists routes p) →
+        is_path net (routes_at routes p).pair.src (routes_at routes p).pair.dst (slice_index_or (link_lists routes p) k []) ≡ true
     is_path_at p k below in' =
         let r = routes_at routes p in
         let at = path_at r.paths k in' in
         let split = All-get_or (IsPathSplit net) routes p no_routes below routing in
         subst (λ (l : List ℕ). is_path net r.pair.src r.pair.dst l ≡ true) (sym at.1) (split.paths k no_path at.0)
 
-    once : (p k : ℕ) → p < length routes → k < length (paths_of routes p) → IsTrue (is_distinct (slice_index_or (paths_of routes p) k []))
+    once : (p k : ℕ) → p < length routes → k < length (link_lists routes p) → IsTrue (is_distinct (slice_index_or (link_lists routes p) k []))
     once p k below in' =
-        path_links_once net (routes_at routes p).pair.src (routes_at routes p).pair.dst (slice_index_or (paths_of routes p) k []) (is_path_at p k below in')
+        path_links_once net (routes_at routes p).pair.src (routes_at routes p).pair.dst (slice_index_or (link_lists routes p) k []) (is_path_at p k below in')
 
-    within : (p k : ℕ) → p < length routes → k < length (paths_of routes p) →
-        IsTrue (list_all (λ h. nat_lt h (link_count net)) (slice_index_or (paths_of routes p) k []))
+    within : (p k : ℕ) → p < length routes → k < length (link_lists routes p) →
+        IsTrue (list_all (λ h. nat_lt h (link_count net)) (slice_index_or (link_lists routes p) k []))
     within p k below in' =
-        all_to_tests (λ h. nat_lt h (link_count net)) (λ h. h < link_count net) (λ h lt. lt-ltb h (link_count net) lt) (slice_index_or (paths_of routes p) k [])
-        (path_links net (routes_at routes p).pair.src (routes_at routes p).pair.dst (slice_index_or (paths_of routes p) k []) (is_path_at p k below in'))
+        all_to_tests (λ h. nat_lt h (link_count net)) (λ h. h < link_count net) (λ h lt. lt-ltb h (link_count net) lt) (slice_index_or (link_lists routes p) k [])
+        (path_links net (routes_at routes p).pair.src (routes_at routes p).pair.dst (slice_index_or (link_lists routes p) k []) (is_path_at p k below in'))
 
-    long : (p k : ℕ) → p < length routes → k < length (paths_of routes p) →
-        of.distance p ≤ sum_by (slice_index b.lengths) (slice_index_or (paths_of routes p) k [])
+    long : (p k : ℕ) → p < length routes → k < length (link_lists routes p) →
+        of.distance p ≤ sum_by (slice_index b.lengths) (slice_index_or (link_lists routes p) k [])
     long p k below in' =
         let r = routes_at routes p in
         let at = path_at r.paths k in' in
-        let least : of.distance p ≤ sum_along b.lengths (slice_index_or (paths_of routes p) k []) =
+        let least : of.distance p ≤ sum_along b.lengths (slice_index_or (link_lists routes p) k []) =
         subst (λ (l : List ℕ). of.distance p ≤ sum_along b.lengths l) (sym at.1) ((of.made p below).least k no_path at.0)
         in
-        omega (arith, least, sum_along_is b.lengths (slice_index_or (paths_of routes p) k []))
+        omega (arith, least, sum_along_is b.lengths (slice_index_or (link_lists routes p) k []))
 
 -- without links no pair is at a distance
 no_hops : (net : Network) (routes : List PairRoutes) (hops : ℕ → ℕ) → AreShortest routes (unit_lengths net) hops → link_count net ≡ 0 →

@@ -19,7 +19,7 @@ use Rattle.shortest_path.specs.Paths.{IsDistance}
 use Rattle.shortest_path.specs.Pairs.{AreValues}
 use Rattle.shortest_path.proofs.Unique.{distance_unique}
 use Rattle.dual_bounds.specs.Dual.{unit_lengths, demand_by, IsBoundBy, IsBoundOf}
-use Rattle.dual_bounds.specs.Rows.{AreDistancesUnder, sources_of, entry_of, distance_by, AreSourceRows, IsBracket}
+use Rattle.dual_bounds.specs.Rows.{AreDistancesUnder, sources_of, potential_in, distance_by, AreSourceRows, IsBracket}
 use Rattle.dual_bounds.proofs.Choosing.{IsUnique, IsChoice}
 use Rattle.dual_bounds.proofs.Sizes.{demand_same, demand_small, no_length, no_demand, above_unit}
 use Rattle.dual_bounds.proofs.SourceRows.{distances_are, distance_small, rows_small, starts, rises}
@@ -80,7 +80,7 @@ is_lower net routes demand most b formed routing nodes kept of =
     let bound = bound_by_rows net routes demand most b routing nodes kept of in
     let enough : sum_below (link_count net) (λ h. capacity_of net h * slice_index b.lengths h) ≤ b.low_den = omega (arith, bound.low_den_is) in
     let law =
-    potentials_bound net routes (links_join net formed) nodes (slice_index b.lengths) (entry_of b.rows)
+    potentials_bound net routes (links_join net formed) nodes (slice_index b.lengths) (potential_in b.rows)
     (λ i inside. starts net b.lengths b.rows i kept.potentials_are)
     (λ i h inside below. rises net b.lengths b.rows i h kept.potentials_are below) (slice_index demand) b.low_den enough
     in

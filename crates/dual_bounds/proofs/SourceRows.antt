@@ -20,7 +20,7 @@ use Rattle.te_model.proofs.WellFormed.{links_join}
 use Rattle.shortest_path.specs.Pairs.{ArePairDistances}
 use Rattle.shortest_path.proofs.PairDistances.{distance_known, path_of_pair}
 use Rattle.shortest_path.proofs.PathLengths.{potentials_small}
-use Rattle.dual_bounds.specs.Rows.{sends_from, sources_of, entry_of, distance_by, AreSourceRows}
+use Rattle.dual_bounds.specs.Rows.{sends_from, sources_of, potential_in, distance_by, AreSourceRows}
 use Rattle.te_model.proofs.WellFormed.{few_nodes}
 
 any_source : (i : ℕ) (rows : List Row) → list_any (λ r. r.source == i) rows ≡ list_any (λ s. s == i) (map (λ r. r.source) rows)
@@ -141,17 +141,17 @@ distances_are net routes lengths rows routing nodes are p below =
     let (links, chain) = path_of_pair net (routes_at routes p) (All-get_or (IsPathSplit net) routes p no_routes below routing) in
     distance_known net lengths s t (row_of rows s).potential links (row_there net routes lengths rows p nodes are below) (nodes p below).1 chain
 
-pub starts : (net : Network) (lengths : List ℕ) (rows : List Row) (i : ℕ) → All (λ r. ArePotentials net lengths r.source r.potential) rows → entry_of rows i i ≡ 0
+pub starts : (net : Network) (lengths : List ℕ) (rows : List Row) (i : ℕ) → All (λ r. ArePotentials net lengths r.source r.potential) rows → potential_in rows i i ≡ 0
 starts net lengths rows i all = elim (row_found net lengths i rows all) [
   | inl found ↦ found.start
   | inr none ↦ ap (λ (xs : List ℕ). slice_index xs i) none.1
 ]
 
 pub rises : (net : Network) (lengths : List ℕ) (rows : List Row) (i h : ℕ) → All (λ r. ArePotentials net lengths r.source r.potential) rows → h < link_count net →
-    entry_of rows i (head_of net h) ≤ entry_of rows i (tail_of net h) + slice_index lengths h
+    potential_in rows i (head_of net h) ≤ potential_in rows i (tail_of net h) + slice_index lengths h
 rises net lengths rows i h all below = elim (row_found net lengths i rows all) [
   | inl found ↦ found.rises h below
-  | inr none ↦ let zero : entry_of rows i (head_of net h) ≡ 0 = ap (λ (xs : List ℕ). slice_index xs (head_of net h)) none.1 in omega (arith, zero)
+  | inr none ↦ let zero : potential_in rows i (head_of net h) ≡ 0 = ap (λ (xs : List ℕ). slice_index xs (head_of net h)) none.1 in omega (arith, zero)
 ]
 
 -- potentials are at most 2^36

@@ -25,8 +25,8 @@ AreShortest routes lengths distance =
     (p : ℕ) → p < length routes → IsShortest lengths (routes_at routes p).paths (distance p)
 
 -- the paths of pair p, as lists of links
-abbrev pub paths_of : List PairRoutes → ℕ → List (List ℕ)
-paths_of routes p = map (λ s. s.links) (routes_at routes p).paths
+abbrev pub link_lists : List PairRoutes → ℕ → List (List ℕ)
+link_lists routes p = map (λ s. s.links) (routes_at routes p).paths
 
 -- A bracket for every split of the matrix over the paths of the fixed routing. It has no rows; the distance of a pair is the
 -- least along one of its fixed paths.

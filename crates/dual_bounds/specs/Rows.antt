@@ -30,12 +30,12 @@ pub record AreSourceRows (net : Network) (lengths sources : List ℕ) (rows : Li
   pub potentials_are : All (λ r. ArePotentials net lengths r.source r.potential) rows
 
 -- what the row of source i says of node v
-abbrev pub entry_of : List Row → ℕ → ℕ → ℕ
-entry_of rows i v = slice_index (row_of rows i).potential v
+abbrev pub potential_in : List Row → ℕ → ℕ → ℕ
+potential_in rows i v = slice_index (row_of rows i).potential v
 
 -- what the row of its source says of the destination of pair p
 abbrev pub distance_by : List Row → List PairRoutes → ℕ → ℕ
-distance_by rows routes p = entry_of rows (source_of routes p) (destination_of routes p)
+distance_by rows routes p = potential_in rows (source_of routes p) (destination_of routes p)
 
 -- A bracket for every routing of the matrix. The row of a source starts at 0 and rises along each link by its length at most;
 -- the distance of a pair is what the row of its source says of its destination.

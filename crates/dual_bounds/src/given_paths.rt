@@ -8,7 +8,7 @@ ghost use Rattle.scheme.specs.Low.{HasLow};
 ghost use Rattle.shortest_path.specs.Paths.{sum_along};
 ghost use Rattle.dual_bounds.specs.Choice.{IsBestOf};
 ghost use Rattle.dual_bounds.specs.Dual.{IsBoundOf};
-ghost use Rattle.dual_bounds.specs.GivenPaths.{paths_of, AreFewLinks, AreShortest, IsBracketOnPaths, IsShortest};
+ghost use Rattle.dual_bounds.specs.GivenPaths.{link_lists, AreFewLinks, AreShortest, IsBracketOnPaths, IsShortest};
 
 use crate::choice::better;
 use crate::dual::bracket_by;
@@ -110,7 +110,7 @@ pub fn bracket_on_paths(
     requires lengths { All (λ l. length l ≡ link_count net.now) lengths.now }
     requires limit { All (λ l. All (λ x. x ≤ 2 ^ 28) l) lengths.now }
     ensures sound { IfOk result (IsBracketOnPaths net.now fixed.now.routes routing.now.routes matrix.now.demand) }
-    ensures lower { IfOk result (λ b. IsLowerBoundOnPaths net.now (length fixed.now.routes) (paths_of fixed.now.routes) (slice_index matrix.now.demand) b.low_num b.low_den) }
+    ensures lower { IfOk result (λ b. IsLowerBoundOnPaths net.now (length fixed.now.routes) (link_lists fixed.now.routes) (slice_index matrix.now.demand) b.low_num b.low_den) }
     ensures best { IfOk result (IsBestOf net.now (length fixed.now.routes) matrix.now.demand (AreShortest fixed.now.routes) lengths.now) }
     ensures low { IfOk result HasLow }
 {

@@ -9,7 +9,9 @@ mod choice;
 mod dual;
 mod every_routing;
 mod given_paths;
+mod law;
 mod rows;
 
 pub use every_routing::bracket;
 pub use given_paths::bracket_on_paths;
+pub use law::{brackets_exist, brackets_on_paths_exist};

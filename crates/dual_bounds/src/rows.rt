@@ -2,7 +2,7 @@
 ghost use Rattle.std.specs.Prelude.{◌≡◌, ◌^◌, ◌<◌, ◌≤◌, All, IfOk, IsTrue, length};
 ghost use Rattle.te_model.specs.Network.{is_well_formed, link_count, node_count};
 ghost use Rattle.shortest_path.specs.Pairs.{AreValues};
-ghost use Rattle.dual_bounds.specs.Rows.{sends_from, sources_of, entry_of, distance_by, AreSourceRows};
+ghost use Rattle.dual_bounds.specs.Rows.{sends_from, sources_of, potential_in, distance_by, AreSourceRows};
 
 use shortest_path::potentials;
 use std::alloc::Global;
@@ -55,7 +55,7 @@ pub fn rows_of(
 
 /// What the row of the source says of the node.
 fn entry_of(rows: &[Row], source: u32, node: u32) -> u64
-    ensures { result ≡ entry_of rows.now source node }
+    ensures { result ≡ potential_in rows.now source node }
 {
     match rows.iter().find(|row| row.source == source) {
         Some(row) => number_at(row.potential.as_slice(), node as usize),

@@ -12,7 +12,7 @@ use Rattle.te_model.proofs.Counts.{count_below-lt, count_below-bound}
 use Rattle.te_model.proofs.Conditionals.{if_other, if_true}
 use Rattle.routing.specs.Decomposition.{IsAcyclicFlow, IsNumbering}
 use Rattle.shortest_path.specs.Graph.{distance_at}
-use Rattle.ecmp_split.specs.Equal.{AreCostsTo, is_next, next_part, arriving}
+use Rattle.ecmp_split.specs.Equal.{AreCostsTo, is_next, next_part, arrivals_at}
 use Rattle.ecmp_split.proofs.CostsTo.{next_parts, some_next, cost_at_end, no_next_from, no_next_to}
 use Rattle.ecmp_split.proofs.NodeSums.{end_none, next_part-none, outflow_is, outflows_sum, arriving_sum}
 use Rattle.ecmp_split.proofs.Parts.{sum_below-except}
@@ -41,10 +41,10 @@ flow_next net sums flow s t is h inside some = elim (cases_Bool (is_next net sum
 
 -- what leaves any other node than the destination is what arrives there
 leaves : (net : Network) (sums : List (Option ℕ)) (flow : ℕ → ℕ) (s t : ℕ) → IsGiven net sums flow s t → (v : ℕ) → v < node_count net → (v ≡ t → ⊥) →
-    outflow net flow v ≡ arriving net flow s v
+    outflow net flow v ≡ arrivals_at net flow s v
 leaves net sums flow s t is v inside other = go (distance_at sums v) refl
   where
-    go : (o : Option ℕ) → distance_at sums v ≡ o → outflow net flow v ≡ arriving net flow s v
+    go : (o : Option ℕ) → distance_at sums v ≡ o → outflow net flow v ≡ arrivals_at net flow s v
     go (Some x) at = outflow_is net sums flow s v is.parts (some_next net t sums is.costs is.ends v x inside other at)
     go None at =
         let out : outflow net flow v ≡ 0 = end_none net flow (tail_of net) v (λ h below from. no_flow net sums flow s t is h below (no_next_from net sums h v at from)) in
@@ -67,11 +67,11 @@ stays net sums flow s t is = end_none net flow (tail_of net) t (λ h inside from
 balanced : (net : Network) (sums : List (Option ℕ)) (flow : ℕ → ℕ) (s t : ℕ) → IsGiven net sums flow s t → IsFlow net flow SHARE_UNIT s t
 balanced net sums flow s t is v inside = elim (cases_eq v t) [
   | inl e ↦
-      let all = sum_below-except (node_count net) t (outflow net flow) (arriving net flow s) is.t_in (leaves net sums flow s t is) in
-      let whole : arriving net flow s t ≡ SHARE_UNIT =
+      let all = sum_below-except (node_count net) t (outflow net flow) (arrivals_at net flow s) is.t_in (leaves net sums flow s t is) in
+      let whole : arrivals_at net flow s t ≡ SHARE_UNIT =
       omega (arith, all, stays net sums flow s t is, outflows_sum net flow is.ends, arriving_sum net flow s is.ends is.s_in)
       in
-      let at = ap (arriving net flow s) e in
+      let at = ap (arrivals_at net flow s) e in
       let out = ap (outflow net flow) e in
       let target = if_true (t == v) SHARE_UNIT (eq-eqb t v (sym e)) in
       omega (arith, whole, at, out, stays net sums flow s t is, target)

@@ -7,3 +7,5 @@ pub mod Sharing
 pub mod Balance
 pub mod OneFlow
 pub mod OnePaths
+pub mod CostsMade
+pub mod SplitsMade

@@ -13,7 +13,7 @@ use Rattle.te_model.proofs.WellFormed.{links_join}
 use Rattle.shortest_path.specs.Costs.{costs_of}
 use Rattle.shortest_path.specs.Graph.{distance_at}
 use Rattle.shortest_path.proofs.Unique.{distance_only}
-use Rattle.ecmp_split.specs.Equal.{AreCostsTo, is_next, next_part, arriving}
+use Rattle.ecmp_split.specs.Equal.{AreCostsTo, is_next, next_part, arrivals_at}
 use Rattle.ecmp_split.specs.Laws.{EqualSplitsAreOne}
 use Rattle.ecmp_split.proofs.Balance.{rank, rank_rises}
 use Rattle.ecmp_split.proofs.NodeSums.{next_part-kept, next_part-none}
@@ -30,7 +30,7 @@ one_costs net t sums other are also = same_lists sums other (are.count ∙ sym a
 
 -- links of which what arrives at the tail is the same have the same flow
 same_part : (net : Network) (sums : List (Option ℕ)) (f g : ℕ → ℕ) (s h : ℕ) → f h ≡ next_part net sums f s h → g h ≡ next_part net sums g s h →
-    (is_next net sums h ≡ true → arriving net f s (tail_of net h) ≡ arriving net g s (tail_of net h)) → f h ≡ g h
+    (is_next net sums h ≡ true → arrivals_at net f s (tail_of net h) ≡ arrivals_at net g s (tail_of net h)) → f h ≡ g h
 same_part net sums f g s h part_f part_g same = elim (cases_Bool (is_next net sums h)) [
   | inl next ↦ part_f ∙ (next_part-kept net sums g f s h (same next) ∙ sym part_g)
   | inr misses ↦ part_f ∙ (next_part-none net sums f s h misses ∙ sym (part_g ∙ next_part-none net sums g s h misses))
@@ -39,14 +39,14 @@ same_part net sums f g s h part_f part_g same = elim (cases_Bool (is_next net su
 -- by the ranks of nodes, what arrives is the same
 arrives : (net : Network) (sums : List (Option ℕ)) (f g : ℕ → ℕ) (s : ℕ) → is_well_formed net ≡ true →
     ((h : ℕ) → h < link_count net → f h ≡ next_part net sums f s h) → ((h : ℕ) → h < link_count net → g h ≡ next_part net sums g s h) →
-    (k v : ℕ) → rank net sums v < k → arriving net f s v ≡ arriving net g s v
+    (k v : ℕ) → rank net sums v < k → arrivals_at net f s v ≡ arrivals_at net g s v
 arrives net sums f g s formed parts_f parts_g zero v below = absurd (omega arith)
 arrives net sums f g s formed parts_f parts_g (suc k) v below =
     ap (λ x. x + amount_at s SHARE_UNIT v)
     (sum_below-same (link_count net) (λ h. if head_of net h == v then f h else 0) (λ h. if head_of net h == v then g h else 0)
     (λ h inside. go (λ w less. arrives net sums f g s formed parts_f parts_g k w less) h inside (head_of net h == v) refl))
   where
-    go : ((w : ℕ) → rank net sums w < k → arriving net f s w ≡ arriving net g s w) → (h : ℕ) → h < link_count net → (b : Bool) → (head_of net h == v) ≡ b →
+    go : ((w : ℕ) → rank net sums w < k → arrivals_at net f s w ≡ arrivals_at net g s w) → (h : ℕ) → h < link_count net → (b : Bool) → (head_of net h == v) ≡ b →
         (if b then f h else 0) ≡ (if b then g h else 0)
     go earlier h inside false e = refl
     go earlier h inside true e =

@@ -16,7 +16,7 @@ use Rattle.te_model.proofs.Sums.{sum_below-same}
 use Rattle.te_model.proofs.Conditionals.{if_other, if_true, if_zero, if_false, if_le-self}
 use Rattle.shortest_path.specs.Graph.{distance_at}
 use Rattle.ecmp_split.specs.declared.next.NextLink.{NextLink}
-use Rattle.ecmp_split.specs.Equal.{is_next, next_count, next_place, next_part, equal_part, arriving}
+use Rattle.ecmp_split.specs.Equal.{is_next, next_count, next_place, next_part, equal_part, arrivals_at}
 use Rattle.ecmp_split.specs.Next.{IsNextLink, AreNextLinks, times}
 use Rattle.ecmp_split.proofs.Collecting.{times_push, one_same, one_other}
 use Rattle.ecmp_split.proofs.CostsTo.{counted_at_tail, next_parts}
@@ -43,12 +43,12 @@ pub record IsSharing (net : Network) (sums : List (Option ℕ)) (s : ℕ) (waiti
   pub shared : SharedSoFar net sums s waiting (slice_index flow)
   pub flow_size : length flow ≡ link_count net
   pub arrived_size : length arrived ≡ node_count net
-  pub arrived_is : (v : ℕ) → v < node_count net → slice_index arrived v ≡ arriving net (slice_index flow) s v
-  pub few : (v : ℕ) → v < node_count net → arriving net (slice_index flow) s v ≤ SHARE_UNIT
+  pub arrived_is : (v : ℕ) → v < node_count net → slice_index arrived v ≡ arrivals_at net (slice_index flow) s v
+  pub few : (v : ℕ) → v < node_count net → arrivals_at net (slice_index flow) s v ≤ SHARE_UNIT
 
 -- what arrives where only the flow of one link has changed, and that link leads elsewhere
 arriving_kept : (net : Network) (f g : ℕ → ℕ) (s k v : ℕ) → ((h : ℕ) → (h ≡ k → ⊥) → g h ≡ f h) → (head_of net k ≡ v → ⊥) →
-    arriving net g s v ≡ arriving net f s v
+    arrivals_at net g s v ≡ arrivals_at net f s v
 arriving_kept net f g s k v same apart =
     ap (λ x. x + amount_at s SHARE_UNIT v)
     (sum_below-same (link_count net) (λ h. if head_of net h == v then g h else 0) (λ h. if head_of net h == v then f h else 0)
@@ -60,7 +60,7 @@ arriving_kept net f g s k v same apart =
 
 -- .. and where it leads
 arriving_more : (net : Network) (f g : ℕ → ℕ) (s k v : ℕ) → k < link_count net → ((h : ℕ) → (h ≡ k → ⊥) → g h ≡ f h) → f k ≡ 0 →
-    arriving net g s v ≡ arriving net f s v + (if head_of net k == v then g k else 0)
+    arrivals_at net g s v ≡ arrivals_at net f s v + (if head_of net k == v then g k else 0)
 arriving_more net f g s k v inside same none =
     let apart = sum_below-except (link_count net) k (λ h. if head_of net h == v then g h else 0) (λ h. if head_of net h == v then f h else 0) inside
     (λ h h_in other. ap (λ x. if head_of net h == v then x else 0) (same h other))
@@ -98,7 +98,7 @@ last_farthest rest x rises k d below =
 pub shared_more : (net : Network) (sums : List (Option ℕ)) (s : ℕ) (rest : List NextLink) (x : NextLink) (f g : ℕ → ℕ) →
     ((h : ℕ) → h < link_count net → 1 ≤ cost_of net h) → SharedSoFar net sums s (rest ++ x ∷ []) f →
     ((h : ℕ) → (h ≡ x.link → ⊥) → g h ≡ f h) →
-    g x.link ≡ equal_part (arriving net f s (tail_of net x.link)) (next_count net sums (tail_of net x.link)) x.place → SharedSoFar net sums s rest g
+    g x.link ≡ equal_part (arrivals_at net f s (tail_of net x.link)) (next_count net sums (tail_of net x.link)) x.place → SharedSoFar net sums s rest g
 shared_more net sums s rest x f g costs far same part = record {
   each = all_front (IsNextLink net sums) rest x far.each;
   rises = subst (IsNonDecreasingBy (λ (y : NextLink). y.cost)) (front rest x)
@@ -128,10 +128,10 @@ shared_more net sums s rest x f g costs far same part = record {
           let kept = arriving_kept net f g s x.link (tail_of net x.link) same
           (leads_nearer net sums x (tail_of net x.link) x.cost is (costs x.link is.inside) is.cost (omega arith))
           in
-          let here : next_part net sums f s x.link ≡ equal_part (arriving net f s (tail_of net x.link)) (next_count net sums (tail_of net x.link)) (next_place net sums x.link) =
-          if_true (is_next net sums x.link) (equal_part (arriving net f s (tail_of net x.link)) (next_count net sums (tail_of net x.link)) (next_place net sums x.link)) is.next
+          let here : next_part net sums f s x.link ≡ equal_part (arrivals_at net f s (tail_of net x.link)) (next_count net sums (tail_of net x.link)) (next_place net sums x.link) =
+          if_true (is_next net sums x.link) (equal_part (arrivals_at net f s (tail_of net x.link)) (next_count net sums (tail_of net x.link)) (next_place net sums x.link)) is.next
           in
-          let placed = ap (equal_part (arriving net f s (tail_of net x.link)) (next_count net sums (tail_of net x.link))) is.place in
+          let placed = ap (equal_part (arrivals_at net f s (tail_of net x.link)) (next_count net sums (tail_of net x.link))) is.place in
           part ∙ (placed ∙ (sym here ∙ sym (next_part-kept net sums f g s x.link kept)));
       farther = λ d next at. subst (λ c. All (λ (y : NextLink). y.cost ≤ c) rest) (cc (sym is.cost ∙ at)) (last_farthest rest x far.rises);
     }
@@ -197,15 +197,15 @@ sharing_more net sums s rest x flow arrived part ends s_in costs far is_part =
     let total = slice_index arrived head + part in
     let here : g x.link ≡ part = get_or-set_same flow x.link part 0 (omega (arith, far.flow_size, is.inside)) in
     let same : (h : ℕ) → (h ≡ x.link → ⊥) → g h ≡ f h = λ h other. get_or-set_other flow x.link h part 0 other in
-    let from : slice_index arrived (tail_of net x.link) ≡ arriving net f s (tail_of net x.link) = far.arrived_is (tail_of net x.link) (ends x.link is.inside).0 in
-    let gets : g x.link ≡ equal_part (arriving net f s (tail_of net x.link)) (next_count net sums (tail_of net x.link)) x.place =
+    let from : slice_index arrived (tail_of net x.link) ≡ arrivals_at net f s (tail_of net x.link) = far.arrived_is (tail_of net x.link) (ends x.link is.inside).0 in
+    let gets : g x.link ≡ equal_part (arrivals_at net f s (tail_of net x.link)) (next_count net sums (tail_of net x.link)) x.place =
     here ∙ (is_part ∙ ap (λ a. equal_part a (next_count net sums (tail_of net x.link)) x.place) from)
     in
     let shared : SharedSoFar net sums s rest g = shared_more net sums s rest x f g costs far.shared same gets in
-    let more : (v : ℕ) → arriving net g s v ≡ arriving net f s v + (if head == v then g x.link else 0) =
+    let more : (v : ℕ) → arrivals_at net g s v ≡ arrivals_at net f s v + (if head == v then g x.link else 0) =
     λ v. arriving_more net f g s x.link v is.inside same (last_waits net sums s rest x f is.inside far.shared)
     in
-    let kept : (v : ℕ) → (v ≡ head → ⊥) → arriving net g s v ≡ arriving net f s v = λ v ne. arriving_kept net f g s x.link v same (λ e. ne (sym e)) in
+    let kept : (v : ℕ) → (v ≡ head → ⊥) → arrivals_at net g s v ≡ arrivals_at net f s v = λ v ne. arriving_kept net f g s x.link v same (λ e. ne (sym e)) in
     record {
       shared = shared;
       flow_size = length-set flow x.link part ∙ far.flow_size;
@@ -272,7 +272,7 @@ pub sharing_start : (net : Network) (sums : List (Option ℕ)) (s : ℕ) (waitin
     IsSharing net sums s waiting (replicate m 0) (set (replicate n 0) s SHARE_UNIT)
 sharing_start net sums s waiting counts n m s_in are rises is_n is_m =
     let none : (h : ℕ) → h < link_count net → slice_index (replicate m 0) h ≡ 0 = λ h inside. get_or-replicate m h 0 0 (omega (arith, is_m, inside)) in
-    let nothing : (v : ℕ) → arriving net (slice_index (replicate m 0)) s v ≡ amount_at s SHARE_UNIT v =
+    let nothing : (v : ℕ) → arrivals_at net (slice_index (replicate m 0)) s v ≡ amount_at s SHARE_UNIT v =
     λ v. omega (arith, end_none net (slice_index (replicate m 0)) (head_of net) v (λ h inside to. none h inside))
     in
     record {

@@ -36,14 +36,14 @@ abbrev pub equal_part : ℕ → ℕ → ℕ → ℕ
 equal_part x j r = x / j + (if nat_lt r (x % j) then 1 else 0)
 
 -- what arrives at node v: the flow into it, and at the source the unit of shares
-abbrev pub arriving : Network → (ℕ → ℕ) → ℕ → ℕ → ℕ
-arriving net flow s v = inflow net flow v + amount_at s SHARE_UNIT v
+abbrev pub arrivals_at : Network → (ℕ → ℕ) → ℕ → ℕ → ℕ
+arrivals_at net flow s v = inflow net flow v + amount_at s SHARE_UNIT v
 
 -- what link h gets: a next link its part of what arrives at its tail, any other link nothing
 abbrev pub next_part : Network → List (Option ℕ) → (ℕ → ℕ) → ℕ → ℕ → ℕ
 next_part net sums flow s h =
     if is_next net sums h
-    then equal_part (arriving net flow s (tail_of net h)) (next_count net sums (tail_of net h)) (next_place net sums h)
+    then equal_part (arrivals_at net flow s (tail_of net h)) (next_count net sums (tail_of net h)) (next_place net sums h)
     else 0
 
 -- the flow from s to t that is split equally over the next links at each node

@@ -3,7 +3,7 @@
 //!
 //! - `split`: the flow of one pair. `equal_splits_are_one`: no other flow is split so.
 //! - `Ecmp`: the scheme, whose paths are those of that flow. `multipath_splits_are_one`: no other
-//!   paths are.
+//!   paths are. `multipath_splits_exist`: each pair with a path has them.
 #![tactic(auto)]
 
 mod ecmp;
@@ -14,5 +14,5 @@ mod next;
 mod splitting;
 
 pub use ecmp::{Ecmp, EcmpPlan};
-pub use law::{equal_splits_are_one, multipath_splits_are_one};
+pub use law::{equal_splits_are_one, multipath_splits_are_one, multipath_splits_exist};
 pub use splitting::split;

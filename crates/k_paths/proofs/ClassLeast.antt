@@ -29,10 +29,10 @@ visited-append net s p q =
 visited-end : (net : Network) (s v : ℕ) (p : List ℕ) → chains net s v p ≡ true → has_number (nodes_visited net s p) v ≡ true
 visited-end net s v p chain = subst (λ l. has_number l v ≡ true) (sym (nodes_visited-is net s p)) (chains-end net s v p chain)
 
-pub walk_of_member : (net : Network) (marks : List Bool) (s t v : ℕ) (prefix barred q : List ℕ) →
-    AreClassMarks net s v prefix barred marks → chains net s v prefix ≡ true → (m : InClass net s t prefix barred q) →
+pub walk_of_member : (net : Network) (marks : List Bool) (s t v : ℕ) (prefix excluded q : List ℕ) →
+    AreClassMarks net s v prefix excluded marks → chains net s v prefix ≡ true → (m : InClass net s t prefix excluded q) →
     Walk net marks v t (m.next ∷ m.rest)
-walk_of_member net marks s t v prefix barred q are chain m =
+walk_of_member net marks s t v prefix excluded q are chain m =
     let links = m.next ∷ m.rest in
     let path = and_parts (chains net s t q) (is_distinct (nodes_visited net s q)) m.sound in
     let whole : chains net s t (prefix ++ links) ≡ true = subst (λ l. chains net s t l ≡ true) m.is path.0 in
@@ -43,7 +43,7 @@ walk_of_member net marks s t v prefix barred q are chain m =
     let v_is : v ≡ tail_of net m.next = chains-same_end net s v (tail_of net m.next) prefix chain parts.0 in
     go v links (subst (λ k. chains net k t links ≡ true) (sym v_is) parts.1)
     (λ x one two. distinct-apart (nodes_visited net s prefix) (heads net links) x apart one two)
-    (λ h hs e same. let is : m.next ≡ h = cc in subst (λ k. has_number barred k ≡ false) is m.allowed)
+    (λ h hs e same. let is : m.next ≡ h = cc in subst (λ k. has_number excluded k ≡ false) is m.allowed)
   where
     not_on : (h : ℕ) (links : List ℕ) → ((x : ℕ) → has_number (nodes_visited net s prefix) x ≡ true → has_number (heads net links) x ≡ true → ⊥) →
         has_number (heads net links) (head_of net h) ≡ true → has_number (nodes_visited net s prefix) (head_of net h) ≡ false
@@ -52,15 +52,15 @@ walk_of_member net marks s t v prefix barred q are chain m =
       | inr off ↦ off
     ]
 
-    not_barred : (h u : ℕ) → tail_of net h ≡ u → (u ≡ v → has_number barred h ≡ false) → (tail_of net h == v && has_number barred h) ≡ false
-    not_barred h u starts first = elim (cases_Bool (tail_of net h == v)) [
-      | inl e ↦ and_right (tail_of net h == v) (has_number barred h) (first (sym starts ∙ eqb-true (tail_of net h) v e))
-      | inr ne ↦ and_left (tail_of net h == v) (has_number barred h) ne
+    not_excluded : (h u : ℕ) → tail_of net h ≡ u → (u ≡ v → has_number excluded h ≡ false) → (tail_of net h == v && has_number excluded h) ≡ false
+    not_excluded h u starts first = elim (cases_Bool (tail_of net h == v)) [
+      | inl e ↦ and_right (tail_of net h == v) (has_number excluded h) (first (sym starts ∙ eqb-true (tail_of net h) v e))
+      | inr ne ↦ and_left (tail_of net h == v) (has_number excluded h) ne
     ]
 
     go : (u : ℕ) (links : List ℕ) → chains net u t links ≡ true →
         ((x : ℕ) → has_number (nodes_visited net s prefix) x ≡ true → has_number (heads net links) x ≡ true → ⊥) →
-        ((h : ℕ) (hs : List ℕ) → links ≡ h ∷ hs → u ≡ v → has_number barred h ≡ false) → Walk net marks u t links
+        ((h : ℕ) (hs : List ℕ) → links ≡ h ∷ hs → u ≡ v → has_number excluded h ≡ false) → Walk net marks u t links
     go u [] ends apart first = eqb-true u t ends
     go u (h ∷ hs) ends apart first =
         let outer = and_parts (nat_lt h (link_count net) && tail_of net h == u) (chains net (head_of net h) t hs) ends in
@@ -69,8 +69,8 @@ walk_of_member net marks s t v prefix barred q are chain m =
         let starts = eqb-true (tail_of net h) u inner.1 in
         let here : has_number (heads net (h ∷ hs)) (head_of net h) ≡ true = or_left (head_of net h == head_of net h) (has_number (heads net hs) (head_of net h)) (eq-eqb (head_of net h) (head_of net h) refl) in
         let open_h : is_open marks h ≡ true = are h below ∙
-        and_from (not (has_number (nodes_visited net s prefix) (head_of net h))) (not (tail_of net h == v && has_number barred h))
-        (not_from_false _ (not_on h (h ∷ hs) apart here)) (not_from_false _ (not_barred h u starts (λ same. first h hs refl same)))
+        and_from (not (has_number (nodes_visited net s prefix) (head_of net h))) (not (tail_of net h == v && has_number excluded h))
+        (not_from_false _ (not_on h (h ∷ hs) apart here)) (not_from_false _ (not_excluded h u starts (λ same. first h hs refl same)))
         in (
           below,
           starts,
@@ -81,26 +81,26 @@ walk_of_member net marks s t v prefix barred q are chain m =
         )
 
 -- the nodes of an open walk are not those of the prefix
-open_apart : (net : Network) (marks : List Bool) (s t v : ℕ) (prefix barred : List ℕ) → AreClassMarks net s v prefix barred marks →
+open_apart : (net : Network) (marks : List Bool) (s t v : ℕ) (prefix excluded : List ℕ) → AreClassMarks net s v prefix excluded marks →
     (u : ℕ) (links : List ℕ) → Walk net marks u t links → (x : ℕ) → has_number (nodes_visited net s prefix) x ≡ true → has_number (heads net links) x ≡ false
-open_apart net marks s t v prefix barred are u [] walk x on = refl
-open_apart net marks s t v prefix barred are u (h ∷ hs) (below, starts, open_h, walk) x on =
-    let parts = and_parts (not (has_number (nodes_visited net s prefix) (head_of net h))) (not (tail_of net h == v && has_number barred h)) (sym (are h below) ∙ open_h) in
+open_apart net marks s t v prefix excluded are u [] walk x on = refl
+open_apart net marks s t v prefix excluded are u (h ∷ hs) (below, starts, open_h, walk) x on =
+    let parts = and_parts (not (has_number (nodes_visited net s prefix) (head_of net h))) (not (tail_of net h == v && has_number excluded h)) (sym (are h below) ∙ open_h) in
     let off = not-true (has_number (nodes_visited net s prefix) (head_of net h)) parts.0 in
     elim (cases_Bool (has_number (heads net (h ∷ hs)) x)) [
       | inl has ↦ absurd (elim (or_cases (head_of net h == x) (has_number (heads net hs) x) has) [
         | inl e ↦ let also = subst (λ k. has_number (nodes_visited net s prefix) k ≡ true) (sym (eqb-true (head_of net h) x e)) on in cc
-        | inr later ↦ let never = open_apart net marks s t v prefix barred are (head_of net h) hs walk x on in cc
+        | inr later ↦ let never = open_apart net marks s t v prefix excluded are (head_of net h) hs walk x on in cc
       ])
       | inr none ↦ none
     ]
 
-pub member_of_walk : (net : Network) (marks : List Bool) (s t v : ℕ) (prefix barred r : List ℕ) →
-    AreClassMarks net s v prefix barred marks → chains net s v prefix ≡ true → is_distinct (nodes_visited net s prefix) ≡ true → (v ≡ t → ⊥) →
-    Walk net marks v t r → is_distinct (nodes_visited net v r) ≡ true → InClass net s t prefix barred (prefix ++ r)
-member_of_walk net marks s t v prefix barred [] are chain apart differ walk apart_r = absurd (differ walk)
-member_of_walk net marks s t v prefix barred (h ∷ hs) are chain apart differ walk apart_r =
-    let parts = and_parts (not (has_number (nodes_visited net s prefix) (head_of net h))) (not (tail_of net h == v && has_number barred h)) (sym (are h walk.0) ∙ walk.2) in
+pub member_of_walk : (net : Network) (marks : List Bool) (s t v : ℕ) (prefix excluded r : List ℕ) →
+    AreClassMarks net s v prefix excluded marks → chains net s v prefix ≡ true → is_distinct (nodes_visited net s prefix) ≡ true → (v ≡ t → ⊥) →
+    Walk net marks v t r → is_distinct (nodes_visited net v r) ≡ true → InClass net s t prefix excluded (prefix ++ r)
+member_of_walk net marks s t v prefix excluded [] are chain apart differ walk apart_r = absurd (differ walk)
+member_of_walk net marks s t v prefix excluded (h ∷ hs) are chain apart differ walk apart_r =
+    let parts = and_parts (not (has_number (nodes_visited net s prefix) (head_of net h))) (not (tail_of net h == v && has_number excluded h)) (sym (are h walk.0) ∙ walk.2) in
     let apart_heads : is_distinct (heads net (h ∷ hs)) ≡ true =
     distinct-right (v ∷ []) (heads net (h ∷ hs)) (subst (λ l. is_distinct l ≡ true) (nodes_visited-is net v (h ∷ hs)) apart_r)
     in
@@ -109,29 +109,29 @@ member_of_walk net marks s t v prefix barred (h ∷ hs) are chain apart differ w
           (chains-append net s v t prefix (h ∷ hs) chain (chains_of_walk net marks v t (h ∷ hs) walk))
           (subst (λ l. is_distinct l ≡ true) (sym (visited-append net s prefix (h ∷ hs)))
           (distinct-append (nodes_visited net s prefix) (heads net (h ∷ hs)) apart apart_heads
-          (open_apart net marks s t v prefix barred are v (h ∷ hs) walk)));
+          (open_apart net marks s t v prefix excluded are v (h ∷ hs) walk)));
       next = h;
       rest = hs;
       is = refl;
-      allowed = elim (and_cases (tail_of net h == v) (has_number barred h) (not-true (tail_of net h == v && has_number barred h) parts.1)) [
+      allowed = elim (and_cases (tail_of net h == v) (has_number excluded h) (not-true (tail_of net h == v && has_number excluded h) parts.1)) [
         | inl ne ↦ let e = eq-eqb (tail_of net h) v walk.1 in cc
         | inr none ↦ none
       ];
     }
 
-pub class_least : (net : Network) (marks : List Bool) (s t v : ℕ) (prefix barred r : List ℕ) →
-    AreClassMarks net s v prefix barred marks → chains net s v prefix ≡ true → is_distinct (nodes_visited net s prefix) ≡ true → (v ≡ t → ⊥) →
+pub class_least : (net : Network) (marks : List Bool) (s t v : ℕ) (prefix excluded r : List ℕ) →
+    AreClassMarks net s v prefix excluded marks → chains net s v prefix ≡ true → is_distinct (nodes_visited net s prefix) ≡ true → (v ≡ t → ⊥) →
     ((h : ℕ) → h < link_count net → 1 ≤ slice_index (costs_of net) h) →
-    IsLeastWalk net (costs_of net) marks v t (Some r) → IsLeastOfClass net s t (prefix ++ r) (length prefix) barred
-class_least net marks s t v prefix barred r are chain apart differ long least =
+    IsLeastWalk net (costs_of net) marks v t (Some r) → IsLeastOfClass net s t (prefix ++ r) (length prefix) excluded
+class_least net marks s t v prefix excluded r are chain apart differ long least =
     let seam : take (length prefix) (prefix ++ r) ≡ prefix = take-append_seam prefix r in
-    let member = member_of_walk net marks s t v prefix barred r are chain apart differ least.0 (least_walk_apart net (costs_of net) marks v t r long least) in
+    let member = member_of_walk net marks s t v prefix excluded r are chain apart differ least.0 (least_walk_apart net (costs_of net) marks v t r long least) in
     record {
       inside = omega (arith, length-append prefix r, some r least.0);
-      member = subst (λ p. InClass net s t p barred (prefix ++ r)) (sym seam) member;
+      member = subst (λ p. InClass net s t p excluded (prefix ++ r)) (sym seam) member;
       least = λ q in'.
-          let m = subst (λ p. InClass net s t p barred q) seam in' in
-          elim (least.1 (m.next ∷ m.rest) (walk_of_member net marks s t v prefix barred q are chain m)) [
+          let m = subst (λ p. InClass net s t p excluded q) seam in' in
+          elim (least.1 (m.next ∷ m.rest) (walk_of_member net marks s t v prefix excluded q are chain m)) [
             | inl e ↦ inl (m.is ∙ ap (λ l. prefix ++ l) e)
             | inr below ↦ inr (subst (λ l. IsBefore net (prefix ++ r) l) (sym m.is) (below-append (costs_of net) prefix r (m.next ∷ m.rest) below))
           ];
@@ -141,7 +141,7 @@ class_least net marks s t v prefix barred r are chain apart differ long least =
     some [] walk = absurd (differ walk)
     some (h ∷ hs) walk = omega arith
 
-pub class_none : (net : Network) (marks : List Bool) (s t v : ℕ) (prefix barred : List ℕ) →
-    AreClassMarks net s v prefix barred marks → chains net s v prefix ≡ true →
-    IsLeastWalk net (costs_of net) marks v t None → (q : List ℕ) → InClass net s t prefix barred q → ⊥
-class_none net marks s t v prefix barred are chain none q m = none (m.next ∷ m.rest) (walk_of_member net marks s t v prefix barred q are chain m)
+pub class_none : (net : Network) (marks : List Bool) (s t v : ℕ) (prefix excluded : List ℕ) →
+    AreClassMarks net s v prefix excluded marks → chains net s v prefix ≡ true →
+    IsLeastWalk net (costs_of net) marks v t None → (q : List ℕ) → InClass net s t prefix excluded q → ⊥
+class_none net marks s t v prefix excluded are chain none q m = none (m.next ∷ m.rest) (walk_of_member net marks s t v prefix excluded q are chain m)

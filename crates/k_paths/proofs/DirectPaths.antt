@@ -23,31 +23,31 @@ use Rattle.shortest_path.specs.declared.ways.Ways.{Ways}
 use Rattle.k_paths.specs.Classes.{InClass, IsLeastOfClass, IsPrefix, is_allowed_link}
 use Rattle.shortest_path.specs.Ways.{AreWays, IsLeastWay}
 use Rattle.shortest_path.proofs.LeastSums.{all_open}
-use Rattle.k_paths.specs.Ways.{IsFirstLeastAt, is_visited, plus, sum_over}
+use Rattle.k_paths.specs.Ways.{IsFirstLeastAt, is_visited, sum_with, sum_over}
 use Rattle.k_paths.proofs.Ordering.{below-append}
 use Rattle.te_model.proofs.Marks.{nodes_visited-is}
 use Rattle.k_paths.proofs.Visits.{distinct-apart, distinct-append, chains-before, visits-is}
 use Rattle.k_paths.proofs.ClassLeast.{chains-same_end, visited-append}
 
-sum_parts : (b : Bool) (cost x : ℕ) (o : Option ℕ) → (if b then plus cost o else None) ≡ Some x → (b ≡ true) × ((y : ℕ) × (o ≡ Some y) × (x ≡ cost + y))
+sum_parts : (b : Bool) (cost x : ℕ) (o : Option ℕ) → (if b then sum_with cost o else None) ≡ Some x → (b ≡ true) × ((y : ℕ) × (o ≡ Some y) × (x ≡ cost + y))
 sum_parts true cost x None is = cc
 sum_parts true cost x (Some y) is = (refl, (y, refl, cc))
 sum_parts false cost x o is = cc
 
-sum_of_parts : (b : Bool) (cost y : ℕ) (o : Option ℕ) → b ≡ true → o ≡ Some y → (if b then plus cost o else None) ≡ Some (cost + y)
+sum_of_parts : (b : Bool) (cost y : ℕ) (o : Option ℕ) → b ≡ true → o ≡ Some y → (if b then sum_with cost o else None) ≡ Some (cost + y)
 sum_of_parts b cost y o is at = rw (is, at) refl
 
 -- how a path of the class goes on after the prefix
-record GoesOn (net : Network) (s t v : ℕ) (prefix barred : List ℕ) (k : ℕ) (ks : List ℕ) : Type 0 where
+record GoesOn (net : Network) (s t v : ℕ) (prefix excluded : List ℕ) (k : ℕ) (ks : List ℕ) : Type 0 where
   inside : k < link_count net
   starts : tail_of net k ≡ v
   new : has_number (nodes_visited net s prefix) (head_of net k) ≡ false
-  allowed : has_number barred k ≡ false
+  allowed : has_number excluded k ≡ false
   walk : Walk net (every_link net) (head_of net k) t ks
 
-goes_on : (net : Network) (s t v : ℕ) (prefix barred q : List ℕ) → chains net s v prefix ≡ true → (m : InClass net s t prefix barred q) →
-    GoesOn net s t v prefix barred m.next m.rest
-goes_on net s t v prefix barred q chain m =
+goes_on : (net : Network) (s t v : ℕ) (prefix excluded q : List ℕ) → chains net s v prefix ≡ true → (m : InClass net s t prefix excluded q) →
+    GoesOn net s t v prefix excluded m.next m.rest
+goes_on net s t v prefix excluded q chain m =
     let k = m.next in
     let links = k ∷ m.rest in
     let path = and_parts (chains net s t q) (is_distinct (nodes_visited net s q)) m.sound in
@@ -71,19 +71,19 @@ goes_on net s t v prefix barred q chain m =
     }
 
 -- the link has a sum, at most that of the rest of the path
-sum_of_rest : (net : Network) (ways : Ways) (s v : ℕ) (prefix barred : List ℕ) (k : ℕ) (ks : List ℕ) → AreWays net ways →
-    GoesOn net s ways.dst v prefix barred k ks →
-    (z : ℕ) × (sum_over net ways s prefix barred v k ≡ Some (slice_index ways.costs k + z)) × (z ≤ sum_along ways.costs ks)
-sum_of_rest net ways s v prefix barred k ks are on =
+sum_of_rest : (net : Network) (ways : Ways) (s v : ℕ) (prefix excluded : List ℕ) (k : ℕ) (ks : List ℕ) → AreWays net ways →
+    GoesOn net s ways.dst v prefix excluded k ks →
+    (z : ℕ) × (sum_over net ways s prefix excluded v k ≡ Some (slice_index ways.costs k + z)) × (z ≤ sum_along ways.costs ks)
+sum_of_rest net ways s v prefix excluded k ks are on =
     let (z, is_z, le) = at_most-some (distance_at ways.sums (head_of net k)) (sum_along ways.costs ks) (are.sums.below (head_of net k) ks on.walk) in
     let unseen : is_visited net.links s prefix (head_of net k) ≡ false = sym (visits-is net s (head_of net k) prefix) ∙ on.new in
-    let allowed : is_allowed_link net.links s prefix barred v k ≡ true =
-    and_from (not (is_visited net.links s prefix (head_of net k))) (not (tail_of net k == v && has_number barred k))
-    (not_from_false _ unseen) (not_from_false _ (and_right (tail_of net k == v) (has_number barred k) on.allowed))
+    let allowed : is_allowed_link net.links s prefix excluded v k ≡ true =
+    and_from (not (is_visited net.links s prefix (head_of net k))) (not (tail_of net k == v && has_number excluded k))
+    (not_from_false _ unseen) (not_from_false _ (and_right (tail_of net k == v) (has_number excluded k) on.allowed))
     in (
       z,
-      sum_of_parts (tail_of net k == v && is_allowed_link net.links s prefix barred v k) (slice_index ways.costs k) z (distance_at ways.sums (head_of net k))
-          (and_from (tail_of net k == v) (is_allowed_link net.links s prefix barred v k) (eq-eqb (tail_of net k) v on.starts) allowed) is_z,
+      sum_of_parts (tail_of net k == v && is_allowed_link net.links s prefix excluded v k) (slice_index ways.costs k) z (distance_at ways.sums (head_of net k))
+          (and_from (tail_of net k == v) (is_allowed_link net.links s prefix excluded v k) (eq-eqb (tail_of net k) v on.starts) allowed) is_z,
       le,
     )
 
@@ -130,18 +130,18 @@ first_before costs h y k z w ks low high first ne = elim (cases_lt (sum_along co
 long_costs : (net : Network) (ways : Ways) → AreWays net ways → (h : ℕ) → h < link_count net → 1 ≤ slice_index ways.costs h
 long_costs net ways are h below = All-get_or (λ c. 1 ≤ c) ways.costs h 0 (omega (arith, are.costs.count)) are.costs.positive
 
-pub direct_least : (net : Network) (ways : Ways) (s v : ℕ) (prefix barred w : List ℕ) (h x : ℕ) → AreWays net ways → IsPrefix net s ways.dst v prefix →
-    IsFirstLeastAt (sum_over net ways s prefix barred v) (link_count net) h x → IsLeastWay net ways (head_of net h) (Some w) →
+pub direct_least : (net : Network) (ways : Ways) (s v : ℕ) (prefix excluded w : List ℕ) (h x : ℕ) → AreWays net ways → IsPrefix net s ways.dst v prefix →
+    IsFirstLeastAt (sum_over net ways s prefix excluded v) (link_count net) h x → IsLeastWay net ways (head_of net h) (Some w) →
     list_any (λ k. is_visited net.links s prefix (slice_index_or net.links k no_link).head) w ≡ false →
-    IsLeastOfClass net s ways.dst (prefix ++ h ∷ w) (length prefix) barred
-direct_least net ways s v prefix barred w h x are pre first least none =
+    IsLeastOfClass net s ways.dst (prefix ++ h ∷ w) (length prefix) excluded
+direct_least net ways s v prefix excluded w h x are pre first least none =
     let t = ways.dst in
-    let (open_h, (y, at_y, x_is)) = sum_parts (tail_of net h == v && is_allowed_link net.links s prefix barred v h) (slice_index ways.costs h) x
+    let (open_h, (y, at_y, x_is)) = sum_parts (tail_of net h == v && is_allowed_link net.links s prefix excluded v h) (slice_index ways.costs h) x
     (distance_at ways.sums (head_of net h)) first.is
     in
-    let from_v = and_parts (tail_of net h == v) (is_allowed_link net.links s prefix barred v h) open_h in
+    let from_v = and_parts (tail_of net h == v) (is_allowed_link net.links s prefix excluded v h) open_h in
     let starts : tail_of net h ≡ v = eqb-true (tail_of net h) v from_v.0 in
-    let allowed = and_parts (not (is_visited net.links s prefix (head_of net h))) (not (tail_of net h == v && has_number barred h)) from_v.1 in
+    let allowed = and_parts (not (is_visited net.links s prefix (head_of net h))) (not (tail_of net h == v && has_number excluded h)) from_v.1 in
     let unseen : is_visited net.links s prefix (head_of net h) ≡ false = not-true (is_visited net.links s prefix (head_of net h)) allowed.0 in
     let sum_w : sum_along ways.costs w ≤ y = sum_at_most net ways.costs (every_link net) t ways.sums are.sums (head_of net h) y w at_y least in
     let walk : Walk net (every_link net) v t (h ∷ w) = (first.inside, starts, all_open net h first.inside, least.0) in
@@ -150,7 +150,7 @@ direct_least net ways s v prefix barred w h x are pre first least none =
     in
     let unmet = apart_of_none net s prefix (h ∷ w) (or_from (is_visited net.links s prefix (head_of net h)) _ unseen none) in
     let seam : take (length prefix) (prefix ++ h ∷ w) ≡ prefix = take-append_seam prefix (h ∷ w) in
-    let member : InClass net s t prefix barred (prefix ++ h ∷ w) = record {
+    let member : InClass net s t prefix excluded (prefix ++ h ∷ w) = record {
       sound = and_from (chains net s t (prefix ++ h ∷ w)) (is_distinct (nodes_visited net s (prefix ++ h ∷ w)))
           (chains-append net s v t prefix (h ∷ w) pre.chain (chains_of_walk net (every_link net) v t (h ∷ w) walk))
           (subst (λ l. is_distinct l ≡ true) (sym (visited-append net s prefix (h ∷ w)))
@@ -158,15 +158,15 @@ direct_least net ways s v prefix barred w h x are pre first least none =
       next = h;
       rest = w;
       is = refl;
-      allowed = not_barred starts (not-true (tail_of net h == v && has_number barred h) allowed.1);
+      allowed = not_excluded starts (not-true (tail_of net h == v && has_number excluded h) allowed.1);
     }
     in
     record {
       inside = omega (arith, length-append prefix (h ∷ w));
-      member = subst (λ p. InClass net s t p barred (prefix ++ h ∷ w)) (sym seam) member;
+      member = subst (λ p. InClass net s t p excluded (prefix ++ h ∷ w)) (sym seam) member;
       least = λ q in'.
-          let m = subst (λ p. InClass net s t p barred q) seam in' in
-          let on = goes_on net s t v prefix barred q pre.chain m in
+          let m = subst (λ p. InClass net s t p excluded q) seam in' in
+          let on = goes_on net s t v prefix excluded q pre.chain m in
           elim (against y x_is sum_w m.next m.rest on) [
             | inl e ↦ inl (m.is ∙ ap (λ l. prefix ++ l) e)
             | inr below ↦ inr (subst (λ l. IsBefore net (prefix ++ h ∷ w) l) (sym m.is)
@@ -174,13 +174,13 @@ direct_least net ways s v prefix barred w h x are pre first least none =
           ];
     }
   where
-    not_barred : tail_of net h ≡ v → (tail_of net h == v && has_number barred h) ≡ false → has_number barred h ≡ false
-    not_barred starts off = elim (cases_Bool (has_number barred h)) [
-      | inl has ↦ let on = and_from (tail_of net h == v) (has_number barred h) (eq-eqb (tail_of net h) v starts) has in cc
+    not_excluded : tail_of net h ≡ v → (tail_of net h == v && has_number excluded h) ≡ false → has_number excluded h ≡ false
+    not_excluded starts off = elim (cases_Bool (has_number excluded h)) [
+      | inl has ↦ let on = and_from (tail_of net h == v) (has_number excluded h) (eq-eqb (tail_of net h) v starts) has in cc
       | inr none ↦ none
     ]
 
-    against : (y : ℕ) → x ≡ slice_index ways.costs h + y → sum_along ways.costs w ≤ y → (k : ℕ) (ks : List ℕ) → GoesOn net s ways.dst v prefix barred k ks →
+    against : (y : ℕ) → x ≡ slice_index ways.costs h + y → sum_along ways.costs w ≤ y → (k : ℕ) (ks : List ℕ) → GoesOn net s ways.dst v prefix excluded k ks →
         ((k ∷ ks) ≡ (h ∷ w)) ⊎ IsBelow ways.costs (h ∷ w) (k ∷ ks)
     against y x_is sum_w k ks on = elim (cases_order h k) [
       | inl e ↦
@@ -190,26 +190,26 @@ direct_least net ways s v prefix barred w h x are pre first least none =
           ]
       | inr other ↦
           let ne : h ≡ k → ⊥ = λ e. elim other [ inl lt ↦ omega (arith, lt, e) | inr gt ↦ omega (arith, gt, e) ] in
-          let (z, is_z, le) = sum_of_rest net ways s v prefix barred k ks are on in
+          let (z, is_z, le) = sum_of_rest net ways s v prefix excluded k ks are on in
           inr (first_before ways.costs h y k z w ks sum_w le
           (subst (λ a. (a < slice_index ways.costs k + z) ⊎ ((a ≡ slice_index ways.costs k + z) × (h ≤ k))) x_is (first.least k (slice_index ways.costs k + z) on.inside is_z)) ne)
     ]
 
-pub direct_none : (net : Network) (ways : Ways) (s v : ℕ) (prefix barred : List ℕ) → AreWays net ways → IsPrefix net s ways.dst v prefix →
-    ((k : ℕ) → k < link_count net → sum_over net ways s prefix barred v k ≡ None) →
-    (q : List ℕ) → InClass net s ways.dst prefix barred q → ⊥
-direct_none net ways s v prefix barred are pre none q in' =
-    let on = goes_on net s ways.dst v prefix barred q pre.chain in' in
-    let (z, is_z, le) = sum_of_rest net ways s v prefix barred in'.next in'.rest are on in
+pub direct_none : (net : Network) (ways : Ways) (s v : ℕ) (prefix excluded : List ℕ) → AreWays net ways → IsPrefix net s ways.dst v prefix →
+    ((k : ℕ) → k < link_count net → sum_over net ways s prefix excluded v k ≡ None) →
+    (q : List ℕ) → InClass net s ways.dst prefix excluded q → ⊥
+direct_none net ways s v prefix excluded are pre none q in' =
+    let on = goes_on net s ways.dst v prefix excluded q pre.chain in' in
+    let (z, is_z, le) = sum_of_rest net ways s v prefix excluded in'.next in'.rest are on in
     let is_none = none in'.next on.inside in
     cc
 
-pub direct_some : (net : Network) (ways : Ways) (s v : ℕ) (prefix barred w : List ℕ) (h x : ℕ) → AreWays net ways → IsPrefix net s ways.dst v prefix →
-    IsFirstLeastAt (sum_over net ways s prefix barred v) (link_count net) h x → IsLeastWay net ways (head_of net h) (Some w) →
+pub direct_some : (net : Network) (ways : Ways) (s v : ℕ) (prefix excluded w : List ℕ) (h x : ℕ) → AreWays net ways → IsPrefix net s ways.dst v prefix →
+    IsFirstLeastAt (sum_over net ways s prefix excluded v) (link_count net) h x → IsLeastWay net ways (head_of net h) (Some w) →
     list_any (λ k. is_visited net.links s prefix (slice_index_or net.links k no_link).head) w ≡ false →
-    IsLeastOfClass net s ways.dst (prefix ++ h ∷ w) (length prefix) barred × (take (length prefix) (prefix ++ h ∷ w) ≡ prefix)
-direct_some net ways s v prefix barred w h x are pre first least none =
-    (direct_least net ways s v prefix barred w h x are pre first least none, take-append_seam prefix (h ∷ w))
+    IsLeastOfClass net s ways.dst (prefix ++ h ∷ w) (length prefix) excluded × (take (length prefix) (prefix ++ h ∷ w) ≡ prefix)
+direct_some net ways s v prefix excluded w h x are pre first least none =
+    (direct_least net ways s v prefix excluded w h x are pre first least none, take-append_seam prefix (h ∷ w))
 
 pub links_of_walk : (net : Network) (marks : List Bool) (u t : ℕ) (links : List ℕ) → Walk net marks u t links → All (λ h. h < link_count net) links
 links_of_walk net marks u t links walk = walk_links net u t links (chains_of_walk net marks u t links walk)

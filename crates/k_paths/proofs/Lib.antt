@@ -10,3 +10,4 @@ pub mod Rounds
 pub mod EvenSplits
 pub mod FirstLeast
 pub mod DirectPaths
+pub mod Existence

@@ -36,20 +36,20 @@ prefix_of_path net s t links i path below =
           (subst (λ k. has_number (heads net (h ∷ after)) k ≡ true) (sym e) (chains-end net (head_of net h) t after back));
     }
 
-pub deviation_none : (net : Network) (marks : List Bool) (s t v : ℕ) (costs prefix barred : List ℕ) →
-    HasCosts net costs → IsPrefix net s t v prefix → AreClassMarks net s v prefix barred marks →
-    IsLeastWalk net costs marks v t None → (q : List ℕ) → InClass net s t prefix barred q → ⊥
-deviation_none net marks s t v costs prefix barred has pre are none q in' =
-    class_none net marks s t v prefix barred are pre.chain (subst (λ c. IsLeastWalk net c marks v t None) has.are none) q in'
+pub deviation_none : (net : Network) (marks : List Bool) (s t v : ℕ) (costs prefix excluded : List ℕ) →
+    HasCosts net costs → IsPrefix net s t v prefix → AreClassMarks net s v prefix excluded marks →
+    IsLeastWalk net costs marks v t None → (q : List ℕ) → InClass net s t prefix excluded q → ⊥
+deviation_none net marks s t v costs prefix excluded has pre are none q in' =
+    class_none net marks s t v prefix excluded are pre.chain (subst (λ c. IsLeastWalk net c marks v t None) has.are none) q in'
 
-pub deviation_some : (net : Network) (marks : List Bool) (s t v : ℕ) (costs prefix barred r : List ℕ) →
-    HasCosts net costs → IsPrefix net s t v prefix → AreClassMarks net s v prefix barred marks →
+pub deviation_some : (net : Network) (marks : List Bool) (s t v : ℕ) (costs prefix excluded r : List ℕ) →
+    HasCosts net costs → IsPrefix net s t v prefix → AreClassMarks net s v prefix excluded marks →
     IsLeastWalk net costs marks v t (Some r) →
-    IsLeastOfClass net s t (prefix ++ r) (length prefix) barred × (take (length prefix) (prefix ++ r) ≡ prefix)
-deviation_some net marks s t v costs prefix barred r has pre are least =
+    IsLeastOfClass net s t (prefix ++ r) (length prefix) excluded × (take (length prefix) (prefix ++ r) ≡ prefix)
+deviation_some net marks s t v costs prefix excluded r has pre are least =
     let long : (h : ℕ) → h < link_count net → 1 ≤ slice_index (costs_of net) h = λ h in'.
     subst (λ c. 1 ≤ slice_index c h) has.are (All-get_or (λ c. 1 ≤ c) costs h 0 (omega (arith, has.count)) has.positive)
     in (
-      class_least net marks s t v prefix barred r are pre.chain pre.apart pre.differ long (subst (λ c. IsLeastWalk net c marks v t (Some r)) has.are least),
+      class_least net marks s t v prefix excluded r are pre.chain pre.apart pre.differ long (subst (λ c. IsLeastWalk net c marks v t (Some r)) has.are least),
       take-append_seam prefix r,
     )

@@ -14,7 +14,7 @@ use Rattle.shortest_path.specs.Paths.{IsBelow}
 use Rattle.k_paths.specs.declared.candidate.Candidate.{Candidate}
 use Rattle.k_paths.specs.Classes.{AreLeast}
 use Rattle.shortest_path.specs.Costs.{costs_of, HasCosts, IsBefore}
-use Rattle.k_paths.specs.Search.{IsSearch, IsOf, IsLeastCandidate, AreFirst, links_at, no_candidate}
+use Rattle.k_paths.specs.Search.{IsPathSearch, IsOf, IsLeastCandidate, AreFirst, candidate_links, no_candidate}
 use Rattle.k_paths.proofs.Ordering.{below-trans}
 
 -- what holds of the found paths, and the search as long as paths are missing
@@ -23,9 +23,9 @@ pub record FoundSoFar (net : Network) (s t k : ℕ) (found : List (List ℕ)) (c
   pub sound : All (λ p. IsTrue (is_path net s t p)) found
   pub ascending : AllPairs (IsBefore net) found
   pub others : (q : List ℕ) → IsTrue (is_path net s t q) → Contains found q ⊎ All (λ f. IsBefore net f q) found
-  pub search' : length found < k → IsSearch net s t found candidates
+  pub search' : length found < k → IsPathSearch net s t found candidates
 
-pub found_none : (net : Network) (s t k : ℕ) (candidates : List Candidate) → IsSearch net s t [] candidates → FoundSoFar net s t k [] candidates
+pub found_none : (net : Network) (s t k : ℕ) (candidates : List Candidate) → IsPathSearch net s t [] candidates → FoundSoFar net s t k [] candidates
 found_none net s t k candidates search' = record {
   few = omega arith;
   sound = All-nil (λ p. IsTrue (is_path net s t p));
@@ -39,25 +39,25 @@ candidate_at : (candidates : List Candidate) (i : ℕ) → i < length candidates
 candidate_at candidates i below = Contains-get_or candidates i no_candidate below
 
 -- the links of a candidate are those at some place
-pub at_some_place : (candidates : List Candidate) (c : Candidate) → Contains candidates c → (k : ℕ) × (k < length candidates) × (c.links ≡ links_at candidates k)
+pub at_some_place : (candidates : List Candidate) (c : Candidate) → Contains candidates c → (k : ℕ) × (k < length candidates) × (c.links ≡ candidate_links candidates k)
 at_some_place candidates c (k, below, is) = (k, below, ap (λ (d : Candidate). d.links) (get_or_read candidates k c below (sym is) no_candidate))
 
 pub are_first : (net : Network) (costs : List ℕ) (candidates : List Candidate) (i : ℕ) → HasCosts net costs →
-    ((k : ℕ) → k < length candidates → (links_at candidates k ≡ links_at candidates i) ⊎ IsBelow costs (links_at candidates i) (links_at candidates k)) →
-    AreFirst net (links_at candidates i) candidates
+    ((k : ℕ) → k < length candidates → (candidate_links candidates k ≡ candidate_links candidates i) ⊎ IsBelow costs (candidate_links candidates i) (candidate_links candidates k)) →
+    AreFirst net (candidate_links candidates i) candidates
 are_first net costs candidates i has first c has_c =
     let (k, below, is) = at_some_place candidates c has_c in
     elim (first k below) [
       | inl e ↦ inl (is ∙ e)
-      | inr later ↦ inr (subst (λ l. IsBefore net (links_at candidates i) l) (sym is) (subst (λ x. IsBelow x (links_at candidates i) (links_at candidates k)) has.are later))
+      | inr later ↦ inr (subst (λ l. IsBefore net (candidate_links candidates i) l) (sym is) (subst (λ x. IsBelow x (candidate_links candidates i) (candidate_links candidates k)) has.are later))
     ]
 
 pub links_inside : (net : Network) (s t : ℕ) (costs : List ℕ) (found : List (List ℕ)) (candidates : List Candidate) → HasCosts net costs →
-    IsSearch net s t found candidates → (k : ℕ) → k < length candidates → All (λ h. h < length costs) (links_at candidates k)
+    IsPathSearch net s t found candidates → (k : ℕ) → k < length candidates → All (λ h. h < length costs) (candidate_links candidates k)
 links_inside net s t costs found candidates has search' k below =
     let least = search'.least (get_or candidates k no_candidate) (candidate_at candidates k below) in
-    All-weaker (λ h. h < link_count net) (λ h. h < length costs) (λ h lt. omega (arith, lt, has.count)) (links_at candidates k)
-    (path_links net s t (links_at candidates k) least.member.sound)
+    All-weaker (λ h. h < link_count net) (λ h. h < length costs) (λ h lt. omega (arith, lt, has.count)) (candidate_links candidates k)
+    (path_links net s t (candidate_links candidates k) least.member.sound)
 
 -- a path of a candidate's class is the best of all candidates or comes after it
 best_or_after : (net : Network) (s t : ℕ) (best q : List ℕ) (candidates : List Candidate) (c : Candidate) → AreFirst net best candidates →
@@ -74,8 +74,8 @@ best_or_after net s t best q candidates c first has least of_c = elim (first c h
 ]
 
 pub found_more : (net : Network) (s t k : ℕ) (found : List (List ℕ)) (candidates next : List Candidate) (i : ℕ) →
-    FoundSoFar net s t k found candidates → i < length candidates → length found < k → AreFirst net (links_at candidates i) candidates →
-    (length found + 1 < k → IsSearch net s t (found ++ links_at candidates i ∷ []) next) → FoundSoFar net s t k (found ++ links_at candidates i ∷ []) next
+    FoundSoFar net s t k found candidates → i < length candidates → length found < k → AreFirst net (candidate_links candidates i) candidates →
+    (length found + 1 < k → IsPathSearch net s t (found ++ candidate_links candidates i ∷ []) next) → FoundSoFar net s t k (found ++ candidate_links candidates i ∷ []) next
 found_more net s t k found candidates next i so below room first then_search =
     let best = get_or candidates i no_candidate in
     let has = candidate_at candidates i below in

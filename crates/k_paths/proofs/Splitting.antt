@@ -5,44 +5,37 @@ use Rattle.std.proofs.lemmas.Bool.{cases_lt}
 use Rattle.std.proofs.lemmas.List.Elements.{All-push, Contains-push_cases, Contains-append_left, Contains-push}
 use Rattle.te_model.specs.declared.network.Network.{Network}
 use Rattle.k_paths.specs.declared.candidate.Candidate.{Candidate}
-use Rattle.k_paths.specs.Classes.{InClass, IsLeastOfClass, barred_at}
+use Rattle.k_paths.specs.Classes.{InClass, IsLeastOfClass, excluded_at}
 use Rattle.shortest_path.specs.Costs.{costs_of, IsBefore}
-use Rattle.k_paths.specs.Search.{IsOf, IsLeastCandidate, IsPartOf, SplitsBelow, Splits, AreFirst, AreLeastCandidates, IsSearch}
+use Rattle.k_paths.specs.Search.{IsOf, IsLeastCandidate, IsPartOf, SplitsBelow, Splits, AreFirst, AreLeastCandidates, IsPathSearch}
 use Rattle.k_paths.proofs.Ordering.{below-trans, below-cases, below-irrefl}
 use Rattle.k_paths.proofs.Deviating.{leaves_somewhere, leaves_inside}
 
-pub splits_start : (net : Network) (s t : ℕ) (c : Candidate) (old : List Candidate) → SplitsBelow net s t c c.fixed old old
-splits_start net s t c old = record {
-  kept = λ d has. has;
-  added = λ d has. inl has;
-  cover = λ j le below q in'. absurd (omega arith);
-}
-
 pub splits_none : (net : Network) (s t : ℕ) (c : Candidate) (i : ℕ) (old new : List Candidate) → SplitsBelow net s t c i old new →
-    ((q : List ℕ) → InClass net s t (take i c.links) (barred_at c.links c.fixed c.barred i) q → ⊥) → SplitsBelow net s t c (i + 1) old new
+    ((q : List ℕ) → InClass net s t (take i c.links) (excluded_at c.links c.fixed c.excluded i) q → ⊥) → SplitsBelow net s t c (i + 1) old new
 splits_none net s t c i old new so none = record {
   kept = so.kept;
   added = so.added;
   cover = λ j le below q in'. elim (cases_lt j i) [
     | inl lt ↦ so.cover j le lt q in'
     | inr ge ↦ let e : j ≡ i = omega arith in
-        absurd (none q (subst (λ k. InClass net s t (take k c.links) (barred_at c.links c.fixed c.barred k) q) e in'))
+        absurd (none q (subst (λ k. InClass net s t (take k c.links) (excluded_at c.links c.fixed c.excluded k) q) e in'))
   ];
 }
 
 pub splits_some : (net : Network) (s t : ℕ) (c : Candidate) (i : ℕ) (old new : List Candidate) (m : List ℕ) → SplitsBelow net s t c i old new →
     IsLeastCandidate net s t c → c.fixed ≤ i → i < length c.links →
-    IsLeastOfClass net s t m i (barred_at c.links c.fixed c.barred i) → take i m ≡ take i c.links →
-    SplitsBelow net s t c (i + 1) old (new ++ (record { links = m; fixed = i; barred = barred_at c.links c.fixed c.barred i }) ∷ [])
+    IsLeastOfClass net s t m i (excluded_at c.links c.fixed c.excluded i) → take i m ≡ take i c.links →
+    SplitsBelow net s t c (i + 1) old (new ++ (record { links = m; fixed = i; excluded = excluded_at c.links c.fixed c.excluded i }) ∷ [])
 splits_some net s t c i old new m so least le below least_m same =
-    let d : Candidate = record { links = m; fixed = i; barred = barred_at c.links c.fixed c.barred i } in
-    let of_place : (q : List ℕ) → IsOf net s t d q → InClass net s t (take i c.links) (barred_at c.links c.fixed c.barred i) q =
-    λ q in'. subst (λ p. InClass net s t p (barred_at c.links c.fixed c.barred i) q) same in'
+    let d : Candidate = record { links = m; fixed = i; excluded = excluded_at c.links c.fixed c.excluded i } in
+    let of_place : (q : List ℕ) → IsOf net s t d q → InClass net s t (take i c.links) (excluded_at c.links c.fixed c.excluded i) q =
+    λ q in'. subst (λ p. InClass net s t p (excluded_at c.links c.fixed c.excluded i) q) same in'
     in
     let part : IsPartOf net s t c d = record {
       least = least_m;
-      inside = λ q in'. (leaves_inside net s t c.links c.fixed c.barred i q least le below (of_place q in')).0;
-      other = λ q in'. (leaves_inside net s t c.links c.fixed c.barred i q least le below (of_place q in')).1;
+      inside = λ q in'. (leaves_inside net s t c.links c.fixed c.excluded i q least le below (of_place q in')).0;
+      other = λ q in'. (leaves_inside net s t c.links c.fixed c.excluded i q least le below (of_place q in')).1;
     }
     in
     record {
@@ -57,8 +50,8 @@ splits_some net s t c i old new m so least le below least_m same =
             let e : j ≡ i = omega arith in (
               d,
               Contains-push new d,
-              subst (λ p. InClass net s t p (barred_at c.links c.fixed c.barred i) q) (sym same)
-                  (subst (λ k. InClass net s t (take k c.links) (barred_at c.links c.fixed c.barred k) q) e in'),
+              subst (λ p. InClass net s t p (excluded_at c.links c.fixed c.excluded i) q) (sym same)
+                  (subst (λ k. InClass net s t (take k c.links) (excluded_at c.links c.fixed c.excluded k) q) e in'),
             )
       ];
     }
@@ -69,7 +62,7 @@ splits_end net s t c i old new so least past = record {
   kept = so.kept;
   added = so.added;
   cover = λ q of_c ne.
-      let (j, le, below, in') = leaves_somewhere net s t c.links c.fixed c.barred q least of_c ne in
+      let (j, le, below, in') = leaves_somewhere net s t c.links c.fixed c.excluded q least of_c ne in
       so.cover j le (omega arith) q in';
 }
 
@@ -86,13 +79,6 @@ pub record NextSoFar (net : Network) (s t : ℕ) (best : List ℕ) (old rest nex
   pub each : (d : Candidate) → Contains next d → IsNext net s t best old d
   pub cover : (c : Candidate) → Contains old c → (q : List ℕ) → IsOf net s t c q →
       (q ≡ best) ⊎ (Contains rest c ⊎ ((d : Candidate) × Contains next d × IsOf net s t d q))
-
-pub next_start : (net : Network) (s t : ℕ) (best : List ℕ) (old : List Candidate) → NextSoFar net s t best old old []
-next_start net s t best old = record {
-  still = λ c has. has;
-  each = λ d has. absurd (omega (arith, has.1));
-  cover = λ c has q of_c. inr (inl has);
-}
 
 pub next_kept : (net : Network) (s t : ℕ) (best : List ℕ) (old rest : List Candidate) (c : Candidate) (next : List Candidate) →
     AreLeastCandidates net s t old → AreFirst net best old → NextSoFar net s t best old (rest ++ c ∷ []) next →
@@ -170,7 +156,7 @@ next_split net s t best old rest c next new least so is split =
     }
 
 pub next_end : (net : Network) (s t : ℕ) (best : List ℕ) (old next : List Candidate) → NextSoFar net s t best old [] next →
-    (found : List (List ℕ)) → IsSearch net s t found old → IsSearch net s t (found ++ best ∷ []) next
+    (found : List (List ℕ)) → IsPathSearch net s t found old → IsPathSearch net s t (found ++ best ∷ []) next
 next_end net s t best old next so found search' = record {
   least = λ d has. (so.each d has).least;
   after = λ d has q of_d.

@@ -14,7 +14,7 @@ use Rattle.shortest_path.proofs.Tight.{least_walk_apart}
 use Rattle.k_paths.specs.declared.candidate.Candidate.{Candidate}
 use Rattle.k_paths.specs.Classes.{InClass}
 use Rattle.shortest_path.specs.Costs.{HasCosts, IsBefore}
-use Rattle.k_paths.specs.Search.{IsLeastCandidate, IsSearch}
+use Rattle.k_paths.specs.Search.{IsLeastCandidate, IsPathSearch}
 use Rattle.k_paths.proofs.Ordering.{below-trans, below-cases}
 
 -- the first so far after one that comes before it
@@ -31,7 +31,7 @@ first_kept costs x y not_below = elim (below-cases costs x y) [
 ]
 
 pub search_none : (net : Network) (marks : List Bool) (costs : List ℕ) (s t : ℕ) → AllOpen net marks →
-    IsLeastWalk net costs marks s t None → IsSearch net s t [] []
+    IsLeastWalk net costs marks s t None → IsPathSearch net s t [] []
 search_none net marks costs s t open_all none = record {
   least = λ c has. absurd (omega (arith, has.1));
   after = λ c has q of_c. All-nil (λ f. IsBefore net f q);
@@ -47,9 +47,9 @@ some_links net s t [] apart path = absurd (apart (eqb-true s t (chains_of_path n
 some_links net s t (h ∷ hs) apart path = omega arith
 
 pub search_some : (net : Network) (marks : List Bool) (costs : List ℕ) (s t : ℕ) (p : List ℕ) → AllOpen net marks → HasCosts net costs → (s ≡ t → ⊥) →
-    IsLeastWalk net costs marks s t (Some p) → IsSearch net s t [] ([] ++ (record { links = p; fixed = 0; barred = [] }) ∷ [])
+    IsLeastWalk net costs marks s t (Some p) → IsPathSearch net s t [] ([] ++ (record { links = p; fixed = 0; excluded = [] }) ∷ [])
 search_some net marks costs s t p open_all has apart least =
-    let only : Candidate = record { links = p; fixed = 0; barred = [] } in
+    let only : Candidate = record { links = p; fixed = 0; excluded = [] } in
     let long : (h : ℕ) → h < link_count net → 1 ≤ slice_index costs h = λ h below. All-get_or (λ c. 1 ≤ c) costs h 0 (omega (arith, has.count)) has.positive in
     let path : is_path net s t p ≡ true = path_of_walk net marks s t p least.0 (least_walk_apart net costs marks s t p long least) in
     let mine : IsLeastCandidate net s t only = record {

@@ -19,18 +19,6 @@ pub record LoweredSoFar (net : Network) (costs : List ℕ) (marks : List Bool) (
   pub same : fell ≡ false → sums ≡ old
   pub taut : fell ≡ false → (k : ℕ) → k < h → IsTaut net costs marks sums k
 
-pub lowered_start : (net : Network) (costs : List ℕ) (marks : List Bool) (t : ℕ) (sums : List (Option ℕ)) → LoweredSoFar net costs marks t 0 false sums sums
-lowered_start net costs marks t sums = record {
-  are = λ n were. record {
-    count = were.count;
-    start = were.start;
-    reached = were.reached;
-    small = λ v d is. omega (arith, were.small v d is);
-  };
-  same = λ e. refl;
-  taut = λ e k below. absurd (omega (arith, below));
-}
-
 pub lowered_skip : (net : Network) (costs : List ℕ) (marks : List Bool) (t h : ℕ) (fell : Bool) (old sums : List (Option ℕ)) →
     LoweredSoFar net costs marks t h fell old sums → IsTaut net costs marks sums h → LoweredSoFar net costs marks t (h + 1) fell old sums
 lowered_skip net costs marks t h fell old sums so taut = record {

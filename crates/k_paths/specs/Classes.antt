@@ -16,19 +16,19 @@ pub record AreLeast (net : Network) (s t k : ℕ) (paths : List (List ℕ)) : Ty
   pub ascending : AllPairs (IsBefore net) paths
   pub others : (q : List ℕ) → IsTrue (is_path net s t q) → Contains paths q ⊎ ((length paths ≡ k) × All (λ p. IsBefore net p q) paths)
 
--- a path that begins with these links and goes on with a link that is not barred
-pub record InClass (net : Network) (s t : ℕ) (prefix barred q : List ℕ) : Type 0 where
+-- a path that begins with these links and goes on with a link that is not excluded
+pub record InClass (net : Network) (s t : ℕ) (prefix excluded q : List ℕ) : Type 0 where
   pub sound : is_path net s t q ≡ true
   pub next : ℕ
   pub rest : List ℕ
   pub is : q ≡ prefix ++ next ∷ rest
-  pub allowed : has_number barred next ≡ false
+  pub allowed : has_number excluded next ≡ false
 
 -- the least path of the class of those that begin with its first links, as many as are fixed
-pub record IsLeastOfClass (net : Network) (s t : ℕ) (links : List ℕ) (fixed : ℕ) (barred : List ℕ) : Type 0 where
+pub record IsLeastOfClass (net : Network) (s t : ℕ) (links : List ℕ) (fixed : ℕ) (excluded : List ℕ) : Type 0 where
   pub inside : fixed < length links
-  pub member : InClass net s t (take fixed links) barred links
-  pub least : (q : List ℕ) → InClass net s t (take fixed links) barred q → (q ≡ links) ⊎ IsBefore net links q
+  pub member : InClass net s t (take fixed links) excluded links
+  pub least : (q : List ℕ) → InClass net s t (take fixed links) excluded q → (q ≡ links) ⊎ IsBefore net links q
 
 -- the first links of a path from s to t, which lead to v before t
 pub record IsPrefix (net : Network) (s t v : ℕ) (prefix : List ℕ) : Type 0 where
@@ -38,22 +38,22 @@ pub record IsPrefix (net : Network) (s t v : ℕ) (prefix : List ℕ) : Type 0 w
 
 -- the least path of the class of those that begin with the prefix, or none where there is no path of the class
 abbrev pub IsLeastIn : Network → ℕ → ℕ → List ℕ → List ℕ → Option (Vec ℕ Global) → Type 0
-IsLeastIn net s t prefix barred found =
-    MatchOption found ((q : List ℕ) → InClass net s t prefix barred q → ⊥)
-    (λ m. IsLeastOfClass net s t m.items (length prefix) barred × (take (length prefix) m.items ≡ prefix))
+IsLeastIn net s t prefix excluded found =
+    MatchOption found ((q : List ℕ) → InClass net s t prefix excluded q → ⊥)
+    (λ m. IsLeastOfClass net s t m.items (length prefix) excluded × (take (length prefix) m.items ≡ prefix))
 
 -- the marks of the links over which a class's paths may go on from v
 abbrev pub AreClassMarks : Network → ℕ → ℕ → List ℕ → List ℕ → List Bool → Type 0
-AreClassMarks net s v prefix barred marks =
+AreClassMarks net s v prefix excluded marks =
     (h : ℕ) → h < link_count net →
-    is_open marks h ≡ (not (has_number (nodes_visited net s prefix) (head_of net h)) && not (tail_of net h == v && has_number barred h))
+    is_open marks h ≡ (not (has_number (nodes_visited net s prefix) (head_of net h)) && not (tail_of net h == v && has_number excluded h))
 
--- what is barred for the paths that leave the links at place i, and not before
-abbrev pub barred_at : List ℕ → ℕ → List ℕ → ℕ → List ℕ
-barred_at links fixed barred i = (if i == fixed then barred else []) ++ slice_index links i ∷ []
+-- what is excluded for the paths that leave the links at place i, and not before
+abbrev pub excluded_at : List ℕ → ℕ → List ℕ → ℕ → List ℕ
+excluded_at links fixed excluded i = (if i == fixed then excluded else []) ++ slice_index links i ∷ []
 
--- whether the link leads to no node of the prefix, and is not one that is barred at v
+-- whether the link leads to no node of the prefix, and is not one that is excluded at v
 abbrev pub is_allowed_link : List Link → ℕ → List ℕ → List ℕ → ℕ → ℕ → Bool
-is_allowed_link links s prefix barred v h =
+is_allowed_link links s prefix excluded v h =
     not (s == (slice_index_or links h no_link).head || list_any (λ k. (slice_index_or links k no_link).head == (slice_index_or links h no_link).head) prefix)
-    && not ((slice_index_or links h no_link).tail == v && has_number barred h)
+    && not ((slice_index_or links h no_link).tail == v && has_number excluded h)

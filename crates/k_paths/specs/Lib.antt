@@ -3,3 +3,4 @@ pub mod Search
 pub mod Even
 pub mod Ways
 pub mod Sums
+pub mod Laws

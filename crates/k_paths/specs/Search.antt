@@ -4,15 +4,15 @@ use Rattle.std.specs.List.{Contains}
 use Rattle.te_model.specs.declared.network.Network.{Network}
 use Rattle.te_model.specs.Path.{is_path}
 use Rattle.k_paths.specs.declared.candidate.Candidate.{Candidate}
-use Rattle.k_paths.specs.Classes.{InClass, IsLeastOfClass, barred_at}
+use Rattle.k_paths.specs.Classes.{InClass, IsLeastOfClass, excluded_at}
 use Rattle.shortest_path.specs.Costs.{IsBefore}
 
 -- the path is of the candidate's class
 abbrev pub IsOf : Network → ℕ → ℕ → Candidate → List ℕ → Type 0
-IsOf net s t c q = InClass net s t (take c.fixed c.links) c.barred q
+IsOf net s t c q = InClass net s t (take c.fixed c.links) c.excluded q
 
 abbrev pub IsLeastCandidate : Network → ℕ → ℕ → Candidate → Type 0
-IsLeastCandidate net s t c = IsLeastOfClass net s t c.links c.fixed c.barred
+IsLeastCandidate net s t c = IsLeastOfClass net s t c.links c.fixed c.excluded
 
 -- a candidate of paths that are of this class and not its least
 pub record IsPartOf (net : Network) (s t : ℕ) (c d : Candidate) : Type 0 where
@@ -24,7 +24,7 @@ pub record IsPartOf (net : Network) (s t : ℕ) (c d : Candidate) : Type 0 where
 pub record SplitsBelow (net : Network) (s t : ℕ) (c : Candidate) (i : ℕ) (old new : List Candidate) : Type 0 where
   pub kept : (d : Candidate) → Contains old d → Contains new d
   pub added : (d : Candidate) → Contains new d → Contains old d ⊎ IsPartOf net s t c d
-  pub cover : (j : ℕ) → c.fixed ≤ j → j < i → (q : List ℕ) → InClass net s t (take j c.links) (barred_at c.links c.fixed c.barred j) q →
+  pub cover : (j : ℕ) → c.fixed ≤ j → j < i → (q : List ℕ) → InClass net s t (take j c.links) (excluded_at c.links c.fixed c.excluded j) q →
       (d : Candidate) × Contains new d × IsOf net s t d q
 
 -- candidates for all paths of the class but its least
@@ -41,14 +41,14 @@ abbrev pub AreLeastCandidates : Network → ℕ → ℕ → List Candidate → T
 AreLeastCandidates net s t candidates = (c : Candidate) → Contains candidates c → IsLeastCandidate net s t c
 
 -- every path is found or of the class of a candidate, and those come after all that are found
-pub record IsSearch (net : Network) (s t : ℕ) (found : List (List ℕ)) (candidates : List Candidate) : Type 0 where
+pub record IsPathSearch (net : Network) (s t : ℕ) (found : List (List ℕ)) (candidates : List Candidate) : Type 0 where
   pub least : AreLeastCandidates net s t candidates
   pub after : (c : Candidate) → Contains candidates c → (q : List ℕ) → IsOf net s t c q → All (λ f. IsBefore net f q) found
   pub cover : (q : List ℕ) → IsTrue (is_path net s t q) → Contains found q ⊎ ((c : Candidate) × Contains candidates c × IsOf net s t c q)
 
 -- what stands for a candidate that is not there
 abbrev pub no_candidate : Candidate
-no_candidate = record { links = []; fixed = 0; barred = [] }
+no_candidate = record { links = []; fixed = 0; excluded = [] }
 
-abbrev pub links_at : List Candidate → ℕ → List ℕ
-links_at candidates i = (slice_index_or candidates i no_candidate).links
+abbrev pub candidate_links : List Candidate → ℕ → List ℕ
+candidate_links candidates i = (slice_index_or candidates i no_candidate).links

@@ -12,15 +12,15 @@ use Rattle.k_paths.specs.Classes.{is_allowed_link}
 abbrev pub is_visited : List Link → ℕ → List ℕ → ℕ → Bool
 is_visited links s prefix v = s == v || list_any (λ k. (slice_index_or links k no_link).head == v) prefix
 
-abbrev pub plus : ℕ → Option ℕ → Option ℕ
-plus cost None = None
-plus cost (Some sum) = Some (cost + sum)
+abbrev pub sum_with : ℕ → Option ℕ → Option ℕ
+sum_with cost None = None
+sum_with cost (Some sum) = Some (cost + sum)
 
 -- the least sum of a walk from v that begins with link h, or none where no path that begins with the prefix may go on so
 abbrev pub sum_over : Network → Ways → ℕ → List ℕ → List ℕ → ℕ → ℕ → Option ℕ
-sum_over net ways s prefix barred v h =
-    if tail_of net h == v && is_allowed_link net.links s prefix barred v h
-    then plus (slice_index ways.costs h) (distance_at ways.sums (head_of net h)) else None
+sum_over net ways s prefix excluded v h =
+    if tail_of net h == v && is_allowed_link net.links s prefix excluded v h
+    then sum_with (slice_index ways.costs h) (distance_at ways.sums (head_of net h)) else None
 
 -- of the numbers below n, h is the first that has the least value, which is x
 pub record IsFirstLeastAt (value : ℕ → Option ℕ) (n h x : ℕ) : Type 0 where
@@ -29,6 +29,6 @@ pub record IsFirstLeastAt (value : ℕ → Option ℕ) (n h x : ℕ) : Type 0 wh
   pub least : (k z : ℕ) → k < n → value k ≡ Some z → (x < z) ⊎ ((x ≡ z) × (h ≤ k))
 
 -- of the numbers below n, the first that has the least value, or none where none has a value
-abbrev pub IsFirstLeast : (ℕ → Option ℕ) → ℕ → Option ℕ → Type 0
-IsFirstLeast value n first =
+abbrev pub IsFirstLeastValue : (ℕ → Option ℕ) → ℕ → Option ℕ → Type 0
+IsFirstLeastValue value n first =
     MatchOption first ((k : ℕ) → k < n → value k ≡ None) (λ h. (x : ℕ) × IsFirstLeastAt value n h x)

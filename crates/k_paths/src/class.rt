@@ -2,8 +2,8 @@
 ghost use Rattle.std.specs.Prelude.{if◌then◌else◌, [], ◌≡◌, ◌<◌, ◌≤◌, ◌++◌, ◌∷◌, IfOk, IsTrue, OnOk, length, take};
 ghost use Rattle.te_model.specs.Network.{node_count};
 ghost use Rattle.te_model.specs.Path.{is_path};
-ghost use Rattle.shortest_path.specs.Links.{IsSound};
-ghost use Rattle.k_paths.specs.Classes.{IsLeastIn, IsPrefix, barred_at};
+ghost use Rattle.shortest_path.specs.Links.{HasSoundLinks};
+ghost use Rattle.k_paths.specs.Classes.{IsLeastIn, IsPrefix, excluded_at};
 ghost use Rattle.k_paths.specs.Search.{IsLeastCandidate, Splits};
 ghost use Rattle.shortest_path.specs.Ways.{AreWays};
 
@@ -16,23 +16,23 @@ use std::alloc::Global;
 use te_model::{Items, Memory, Network};
 
 /// The least path of those that begin with the prefix and go on from the node with a link that is not
-/// barred, by a search over the links that these leave open.
+/// excluded, by a search over the links that these leave open.
 fn detour(
     alloc: Global,
     net: &Network,
     ways: &Ways,
     src: u32,
     prefix: &[u32],
-    barred: &[u32],
+    excluded: &[u32],
     node: u32,
 ) -> Result<Option<Vec<u32>>, Memory>
-    requires sound { IsSound net.now }
+    requires sound { HasSoundLinks net.now }
     requires ways { AreWays net.now ways.now }
     requires node { node < node_count net.now }
     requires prefix { IsPrefix net.now src ways.now.dst node prefix.now }
-    ensures { IfOk result (IsLeastIn net.now src ways.now.dst prefix.now barred.now) }
+    ensures { IfOk result (IsLeastIn net.now src ways.now.dst prefix.now excluded.now) }
 {
-    let marks = class_marks(alloc, net, src, prefix, barred, node)?;
+    let marks = class_marks(alloc, net, src, prefix, excluded, node)?;
     let costs = ways.costs.as_slice();
     let sums = least_sums(alloc, net, costs, &marks, ways.dst)?;
     match follow(alloc, net, costs, &marks, &sums, node, ways.dst)? {
@@ -46,7 +46,7 @@ fn detour(
 }
 
 /// The first links of a path, and a link and a way after them.
-fn joined(alloc: Global, prefix: &[u32], first: u32, way: &[u32]) -> Result<Vec<u32>, Memory>
+fn join_links(alloc: Global, prefix: &[u32], first: u32, way: &[u32]) -> Result<Vec<u32>, Memory>
     ensures { IfOk result (λ l. l.items ≡ prefix.now ++ first ∷ way.now) }
 {
     let mut links = Vec::from_slice(alloc, prefix)?;
@@ -55,7 +55,7 @@ fn joined(alloc: Global, prefix: &[u32], first: u32, way: &[u32]) -> Result<Vec<
     Ok(links)
 }
 
-/// The least path of those that begin with the first links of a path and go on with a link that is not barred.
+/// The least path of those that begin with the first links of a path and go on with a link that is not excluded.
 ///
 /// It goes on along the least way over all links, where this meets none of the first nodes.
 pub fn deviation(
@@ -65,52 +65,52 @@ pub fn deviation(
     src: u32,
     links: &[u32],
     fixed: usize,
-    barred: &[u32],
+    excluded: &[u32],
 ) -> Result<Option<Vec<u32>>, Memory>
-    requires sound { IsSound net.now }
+    requires sound { HasSoundLinks net.now }
     requires ways { AreWays net.now ways.now }
     requires path { IsTrue (is_path net.now src ways.now.dst links.now) }
     requires inside { fixed < length links.now }
-    ensures { IfOk result (IsLeastIn net.now src ways.now.dst (take fixed links.now) barred.now) }
+    ensures { IfOk result (IsLeastIn net.now src ways.now.dst (take fixed links.now) excluded.now) }
 {
     let prefix = &links[..fixed];
     let all = net.links.as_slice();
     let node = all[links[fixed] as usize].tail;
-    match first_link(net, ways, src, prefix, barred, node) {
+    match first_link(net, ways, src, prefix, excluded, node) {
         None => Ok(None),
         Some(first) => {
             match way_from(alloc, net, ways, all[first as usize].head)? {
                 Some(way) if !meets(all, src, prefix, &way) => {
-                    let found = joined(alloc, prefix, first, &way)?;
+                    let found = join_links(alloc, prefix, first, &way)?;
                     Ok(Some(found))
                 }
-                _ => detour(alloc, net, ways, src, prefix, barred, node),
+                _ => detour(alloc, net, ways, src, prefix, excluded, node),
             }
         }
     }
 }
 
-/// The bars that still hold at the place where the class begins, and no others elsewhere.
-fn bars_from(barred: &[u32], is_first: bool) -> &[u32]
-    ensures { result.now ≡ (if is_first then barred.now else []) }
+/// The links that are still excluded at the place where the class begins, and none elsewhere.
+fn still_excluded(excluded: &[u32], is_first: bool) -> &[u32]
+    ensures { result.now ≡ (if is_first then excluded.now else []) }
 {
-    if is_first { barred } else { &barred[..0] }
+    if is_first { excluded } else { &excluded[..0] }
 }
 
-/// What is barred for the paths that leave the links at a place.
-fn bars_at(
+/// What is excluded for the paths that leave the links at a place.
+fn excluded_at_place(
     alloc: Global,
     links: &[u32],
     fixed: usize,
-    barred: &[u32],
+    excluded: &[u32],
     place: usize,
 ) -> Result<Vec<u32>, Memory>
     requires { place < length links.now }
-    ensures { IfOk result (λ b. b.items ≡ barred_at links.now fixed barred.now place) }
+    ensures { IfOk result (λ b. b.items ≡ excluded_at links.now fixed excluded.now place) }
 {
-    let mut bars = Vec::from_slice(alloc, bars_from(barred, place == fixed))?;
-    bars.push(links[place])?;
-    Ok(bars)
+    let mut list = Vec::from_slice(alloc, still_excluded(excluded, place == fixed))?;
+    list.push(links[place])?;
+    Ok(list)
 }
 
 /// Adds candidates for all paths of a class but its least.
@@ -122,22 +122,28 @@ pub fn split(
     class: &Candidate,
     next: &mut Vec<Candidate>,
 ) -> Result<(), Memory>
-    requires sound { IsSound net.now }
+    requires sound { HasSoundLinks net.now }
     requires ways { AreWays net.now ways.now }
     requires least { IsLeastCandidate net.now src ways.now.dst class.now }
     ensures { OnOk result (Splits net.now src ways.now.dst class.now next.old.items next.new.items) }
 {
     let links = class.links.as_slice();
     for place in class.fixed..links.len() {
-        let barred = bars_at(alloc, links, class.fixed, class.barred.as_slice(), place)?;
-        match deviation(alloc, net, ways, src, links, place, &barred)? {
+        let excluded = excluded_at_place(
+            alloc,
+            links,
+            class.fixed,
+            class.excluded.as_slice(),
+            place,
+        )?;
+        match deviation(alloc, net, ways, src, links, place, &excluded)? {
             Some(found) => {
                 let links = Items::new(found);
-                let barred = Items::new(barred);
+                let excluded = Items::new(excluded);
                 next.push(Candidate {
                     links,
                     fixed: place,
-                    barred,
+                    excluded,
                 })?;
             }
             None => {}

@@ -2,9 +2,9 @@
 ghost use Rattle.std.specs.Prelude.{◌≡◌, ◌⊎◌, ◌<◌, ◌≤◌, All, Some, MatchOption, length, slice_index_or};
 ghost use Rattle.std.specs.List.{list_any};
 ghost use Rattle.te_model.specs.Network.{link_count, no_link};
-ghost use Rattle.shortest_path.specs.Links.{IsSound};
+ghost use Rattle.shortest_path.specs.Links.{HasSoundLinks};
 ghost use Rattle.shortest_path.specs.Ways.{AreWays};
-ghost use Rattle.k_paths.specs.Ways.{IsFirstLeast, is_visited, sum_over};
+ghost use Rattle.k_paths.specs.Ways.{IsFirstLeastValue, is_visited, sum_over};
 
 use crate::marks::{is_allowed, leads_to};
 use shortest_path::Ways;
@@ -17,19 +17,19 @@ fn sum_over(
     ways: &Ways,
     src: u32,
     prefix: &[u32],
-    barred: &[u32],
+    excluded: &[u32],
     node: u32,
     h: u32,
 ) -> Option<u128>
-    requires sound { IsSound net.now }
+    requires sound { HasSoundLinks net.now }
     requires ways { AreWays net.now ways.now }
     requires prefix { All (λ k. k < link_count net.now) prefix.now }
     requires link { h < link_count net.now }
-    ensures { result ≡ sum_over net.now ways.now src prefix.now barred.now node h }
+    ensures { result ≡ sum_over net.now ways.now src prefix.now excluded.now node h }
 {
     let links = net.links.as_slice();
     let link = links[h as usize];
-    if link.tail == node && is_allowed(links, src, prefix, barred, node, h) {
+    if link.tail == node && is_allowed(links, src, prefix, excluded, node, h) {
         let cost = ways.costs.as_slice()[h as usize];
         match ways.sums.as_slice()[link.head as usize] {
             Some(sum) => Some(u128::from(cost) + u128::from(sum)),
@@ -56,17 +56,17 @@ pub fn first_link(
     ways: &Ways,
     src: u32,
     prefix: &[u32],
-    barred: &[u32],
+    excluded: &[u32],
     node: u32,
 ) -> Option<u32>
-    requires sound { IsSound net.now }
+    requires sound { HasSoundLinks net.now }
     requires ways { AreWays net.now ways.now }
     requires prefix { All (λ k. k < link_count net.now) prefix.now }
-    ensures { IsFirstLeast (sum_over net.now ways.now src prefix.now barred.now node) (link_count net.now) result }
+    ensures { IsFirstLeastValue (sum_over net.now ways.now src prefix.now excluded.now node) (link_count net.now) result }
 {
     let mut best: Option<(u32, u128)> = None;
     for h in 0..net.links.as_slice().len() {
-        if let Some(sum) = sum_over(net, ways, src, prefix, barred, node, h as u32) {
+        if let Some(sum) = sum_over(net, ways, src, prefix, excluded, node, h as u32) {
             best = lesser(best, h as u32, sum);
         }
     }

@@ -6,6 +6,7 @@ mod candidate;
 mod class;
 mod direct;
 mod ksp;
+mod law;
 mod least;
 mod marks;
 mod order;
@@ -13,4 +14,5 @@ mod search;
 mod sums;
 
 pub use ksp::{Ksp, KspPlan};
+pub use law::{even_splits_exist, first_paths_exist};
 pub use least::{k_least, k_least_by};

@@ -2,7 +2,7 @@
 ghost use Rattle.std.specs.Prelude.{◌≡◌, ◌<◌, ◌==◌, All, IfOk, length, slice_index_or, vec_len};
 ghost use Rattle.std.specs.List.{list_any};
 ghost use Rattle.te_model.specs.Network.{link_count, no_link};
-ghost use Rattle.shortest_path.specs.Links.{IsSound};
+ghost use Rattle.shortest_path.specs.Links.{HasSoundLinks};
 ghost use Rattle.k_paths.specs.Classes.{AreClassMarks, is_allowed_link};
 
 use std::alloc::Global;
@@ -26,17 +26,17 @@ pub fn is_allowed(
     links: &[Link],
     src: u32,
     prefix: &[u32],
-    barred: &[u32],
+    excluded: &[u32],
     node: u32,
     h: u32,
 ) -> bool
     requires prefix { All (λ k. k < length links.now) prefix.now }
     requires link { h < length links.now }
-    ensures { result ≡ is_allowed_link links.now src prefix.now barred.now node h }
+    ensures { result ≡ is_allowed_link links.now src prefix.now excluded.now node h }
 {
     let link = links[h as usize];
     !(src == link.head || leads_to(links, prefix, link.head))
-        && !(link.tail == node && barred.contains(&h))
+        && !(link.tail == node && excluded.contains(&h))
 }
 
 /// The marks of the links over which paths that begin with the prefix may go on from the node.
@@ -45,18 +45,18 @@ pub fn class_marks(
     net: &Network,
     src: u32,
     prefix: &[u32],
-    barred: &[u32],
+    excluded: &[u32],
     node: u32,
 ) -> Result<Vec<bool>, Memory>
-    requires sound { IsSound net.now }
+    requires sound { HasSoundLinks net.now }
     requires links { All (λ h. h < link_count net.now) prefix.now }
     ensures count { IfOk result (λ m. vec_len m ≡ link_count net.now) }
-    ensures marks { IfOk result (λ m. AreClassMarks net.now src node prefix.now barred.now m.items) }
+    ensures marks { IfOk result (λ m. AreClassMarks net.now src node prefix.now excluded.now m.items) }
 {
     let links = net.links.as_slice();
     let mut marks = Vec::new(alloc);
     for h in 0..links.len() {
-        marks.push(is_allowed(links, src, prefix, barred, node, h as u32))?;
+        marks.push(is_allowed(links, src, prefix, excluded, node, h as u32))?;
     }
     Ok(marks)
 }

@@ -1,9 +1,9 @@
 //! The rounds of the search for the least paths.
 ghost use Rattle.std.specs.Prelude.{◌≡◌, ◌≢◌, ◌<◌, ◌≤◌, ◌^◌, ◌++◌, ◌∷◌, [], ◌⊎◌, ℕ, List, All, IfOk, length};
 ghost use Rattle.te_model.specs.Network.{node_count};
-ghost use Rattle.shortest_path.specs.Links.{IsSound};
+ghost use Rattle.shortest_path.specs.Links.{HasSoundLinks};
 ghost use Rattle.shortest_path.specs.Paths.{IsBelow};
-ghost use Rattle.k_paths.specs.Search.{AreFirst, AreLeastCandidates, IsSearch, links_at};
+ghost use Rattle.k_paths.specs.Search.{AreFirst, AreLeastCandidates, IsPathSearch, candidate_links};
 ghost use Rattle.shortest_path.specs.Ways.{AreWays};
 
 use crate::candidate::Candidate;
@@ -16,10 +16,10 @@ use te_model::{Items, Memory, Network};
 /// The number of the candidate that comes first.
 pub fn first_of(costs: &[u64], candidates: &[Candidate]) -> usize
     requires some { 0 < length candidates.now }
-    requires links { (k : ℕ) → k < length candidates.now → All (λ h. h < length costs.now) (links_at candidates.now k) }
+    requires links { (k : ℕ) → k < length candidates.now → All (λ h. h < length costs.now) (candidate_links candidates.now k) }
     requires costs { All (λ c. c ≤ 2 ^ 28) costs.now }
     ensures inside { result < length candidates.now }
-    ensures first { (k : ℕ) → k < length candidates.now → (links_at candidates.now k ≡ links_at candidates.now result) ⊎ IsBelow costs.now (links_at candidates.now result) (links_at candidates.now k) }
+    ensures first { (k : ℕ) → k < length candidates.now → (candidate_links candidates.now k ≡ candidate_links candidates.now result) ⊎ IsBelow costs.now (candidate_links candidates.now result) (candidate_links candidates.now k) }
 {
     let mut best = 0;
     for i in 0..candidates.len() {
@@ -43,11 +43,11 @@ pub fn advance(
     mut candidates: Vec<Candidate>,
     best: &[u32],
 ) -> Result<Vec<Candidate>, Memory>
-    requires sound { IsSound net.now }
+    requires sound { HasSoundLinks net.now }
     requires ways { AreWays net.now ways.now }
     requires least { AreLeastCandidates net.now src ways.now.dst candidates.items }
     requires first { AreFirst net.now best.now candidates.items }
-    ensures { IfOk result (λ next. (found : List (List ℕ)) → IsSearch net.now src ways.now.dst found candidates.items → IsSearch net.now src ways.now.dst (found ++ best.now ∷ []) next.items) }
+    ensures { IfOk result (λ next. (found : List (List ℕ)) → IsPathSearch net.now src ways.now.dst found candidates.items → IsPathSearch net.now src ways.now.dst (found ++ best.now ∷ []) next.items) }
 {
     let mut next = Vec::new(alloc);
     while let Some(candidate) = candidates.pop() {
@@ -67,21 +67,21 @@ pub fn first_class(
     ways: &Ways,
     src: u32,
 ) -> Result<Vec<Candidate>, Memory>
-    requires sound { IsSound net.now }
+    requires sound { HasSoundLinks net.now }
     requires ways { AreWays net.now ways.now }
     requires src { src < node_count net.now }
     requires apart { src ≢ ways.now.dst }
-    ensures { IfOk result (λ cs. IsSearch net.now src ways.now.dst [] cs.items) }
+    ensures { IfOk result (λ cs. IsPathSearch net.now src ways.now.dst [] cs.items) }
 {
     let mut candidates = Vec::new(alloc);
     match way_from(alloc, net, ways, src)? {
         Some(way) => {
             let links = Items::new(way);
-            let barred = Items::new(Vec::new(alloc));
+            let excluded = Items::new(Vec::new(alloc));
             candidates.push(Candidate {
                 links,
                 fixed: 0,
-                barred,
+                excluded,
             })?;
         }
         None => {}

@@ -4,7 +4,7 @@ ghost use Rattle.te_model.specs.declared.limits.TheConstants.{FORMAT_2};
 ghost use Rattle.te_model.specs.Network.{link_count, node_count};
 ghost use Rattle.shortest_path.specs.Graph.{AtMost};
 ghost use Rattle.shortest_path.specs.Least.{AreLeastSums};
-ghost use Rattle.shortest_path.specs.Links.{IsSound};
+ghost use Rattle.shortest_path.specs.Links.{HasSoundLinks};
 ghost use Rattle.k_paths.specs.Sums.{AreWalkSums, IsTaut};
 
 use shortest_path::toward;
@@ -35,7 +35,7 @@ fn lesser_sum(at_tail: Option<u64>, at_head: Option<u64>, cost: u64) -> Option<u
 
 /// Lowers the sums at the tails of open links to those over the links, and says whether one fell.
 fn lower(net: &Network, costs: &[u64], open: &[bool], dst: u32, sums: &mut [Option<u64>]) -> bool
-    requires sound { IsSound net.now }
+    requires sound { HasSoundLinks net.now }
     requires costs { length costs.now ≡ link_count net.now }
     requires marks { length «open».now ≡ link_count net.now }
     requires limit { All (λ c. c ≤ 65535) costs.now }
@@ -65,7 +65,7 @@ pub fn least_sums(
     open: &[bool],
     dst: u32,
 ) -> Result<Vec<Option<u64>>, Memory>
-    requires sound { IsSound net.now }
+    requires sound { HasSoundLinks net.now }
     requires costs { length costs.now ≡ link_count net.now }
     requires marks { length «open».now ≡ link_count net.now }
     requires limit { All (λ c. c ≤ 65535) costs.now }

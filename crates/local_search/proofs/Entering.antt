@@ -13,7 +13,7 @@ use Rattle.te_model.specs.Path.{has_number, is_path, no_routes, routes_at}
 use Rattle.te_model.specs.PathRouting.{IsPathRouting, IsPathSplit}
 use Rattle.te_model.proofs.Chains.{path_links}
 use Rattle.routing.specs.Merge.{links_at, no_path}
-use Rattle.local_search.specs.Pairs.{ArePairsOn, HaveLinksBelow, IsEntry, IsPairList, holds, pairs_on, some_holds}
+use Rattle.local_search.specs.Pairs.{ArePairsOn, HaveLinksBelow, IsPairEntered, IsPairList, holds, pairs_on, some_holds}
 
 -- a list of pairs below n has no other
 pub none_past : (list : List ℕ) (n q : ℕ) → All (λ p. p < n) list → n ≤ q → has_number list q ≡ false
@@ -26,21 +26,9 @@ list_weaker n list is = record {
   below = All-weaker (λ p. p < n) (λ p. p < n + 1) (λ p lt. omega (arith, lt)) list is.below;
 }
 
--- nothing is entered
-pub no_entry : (table : List (List ℕ)) (p : ℕ) (at : ℕ → Bool) → ((e : ℕ) → at e ≡ false) → IsEntry table table p at
-no_entry table p at none = record {
-  count = refl;
-  each = λ e q below. sym (ap (λ b. has_number (pairs_on table e) q || (p == q && b)) (none e) ∙ drop (has_number (pairs_on table e) q) (p == q));
-}
-  where
-    drop : (a b : Bool) → (a || (b && false)) ≡ a
-    drop true b = refl
-    drop false true = refl
-    drop false false = refl
-
 -- an entry at one link
 entry_one : (table : List (List ℕ)) (h : ℕ) (row : List ℕ) (p : ℕ) → h < length table →
-    ((q : ℕ) → has_number row q ≡ (has_number (pairs_on table h) q || p == q)) → IsEntry table (set table h row) p (λ e. h == e)
+    ((q : ℕ) → has_number row q ≡ (has_number (pairs_on table h) q || p == q)) → IsPairEntered table (set table h row) p (λ e. h == e)
 entry_one table h row p inside entered = record {
   count = length-set table h row;
   each = λ e q below. elim (cases_eq e h) [
@@ -64,8 +52,8 @@ entry_one table h row p inside entered = record {
     same false false c is = refl
 
 -- two entries of one pair
-entry_more : (old middle new : List (List ℕ)) (p : ℕ) (f g both : ℕ → Bool) → IsEntry old middle p f → IsEntry middle new p g →
-    ((e : ℕ) → both e ≡ (f e || g e)) → IsEntry old new p both
+entry_more : (old middle new : List (List ℕ)) (p : ℕ) (f g both : ℕ → Bool) → IsPairEntered old middle p f → IsPairEntered middle new p g →
+    ((e : ℕ) → both e ≡ (f e || g e)) → IsPairEntered old new p both
 entry_more old middle new p f g both first second is = record {
   count = second.count ∙ first.count;
   each = λ e q below.
@@ -80,21 +68,14 @@ entry_more old middle new p f g both first second is = record {
 
 -- one link more of a path
 pub link_entered : (old table : List (List ℕ)) (links row : List ℕ) (p i : ℕ) → All (λ h. h < length old) links → i < length links →
-    IsEntry old table p (has_number (take i links)) → ((q : ℕ) → has_number row q ≡ (has_number (pairs_on table (slice_index links i)) q || p == q)) →
-    IsEntry old (set table (slice_index links i) row) p (has_number (take (i + 1) links))
+    IsPairEntered old table p (has_number (take i links)) → ((q : ℕ) → has_number row q ≡ (has_number (pairs_on table (slice_index links i)) q || p == q)) →
+    IsPairEntered old (set table (slice_index links i) row) p (has_number (take (i + 1) links))
 link_entered old table links row p i all below so entered =
     let h = slice_index links i in
     let inside : h < length old = All-get_or (λ h. h < length old) links i 0 below all in
     entry_more old table (set table h row) p (has_number (take i links)) (λ e. h == e) (has_number (take (i + 1) links)) so
     (entry_one table h row p (omega (arith, inside, so.count)) entered)
     (λ e. list_any_more (λ k. k == e) links i 0 below)
-
--- one path more of a pair
-pub path_entered : (old table new : List (List ℕ)) (paths : List PathShare) (p i : ℕ) → i < length paths →
-    IsEntry old table p (some_holds (take i paths)) → IsEntry table new p (has_number (links_at paths i)) → IsEntry old new p (some_holds (take (i + 1) paths))
-path_entered old table new paths p i below so is =
-    entry_more old table new p (some_holds (take i paths)) (has_number (links_at paths i)) (some_holds (take (i + 1) paths)) so is
-    (λ e. list_any_more (λ s. has_number s.links e) paths i no_path below)
 
 -- the paths of a routing go over links of the network
 pub links_inside : (net : Network) (routes : List PairRoutes) → IsPathRouting net routes → All (λ r. HaveLinksBelow (link_count net) r.paths) routes
@@ -109,7 +90,7 @@ lists_weaker n table all = All-weaker (IsPairList n) (IsPairList (n + 1)) (list_
 
 -- the pairs before pair p and this one, of which the links of both routings are entered
 pub pair_entered : (old middle new : List (List ℕ)) (routes others : List PairRoutes) (p e q : ℕ) → All (IsPairList p) old → e < length old → q < p + 1 →
-    IsEntry old middle p (some_holds (routes_at routes p).paths) → IsEntry middle new p (some_holds (routes_at others p).paths) →
+    IsPairEntered old middle p (some_holds (routes_at routes p).paths) → IsPairEntered middle new p (some_holds (routes_at others p).paths) →
     (q < p → has_number (pairs_on old e) q ≡ (holds routes q e || holds others q e)) →
     has_number (pairs_on new e) q ≡ (holds routes q e || holds others q e)
 pair_entered old middle new routes others p e q order inside below first second before =

@@ -9,7 +9,7 @@ use Rattle.te_model.specs.Path.{has_number, no_routes, routes_at}
 use Rattle.te_model.proofs.Amounts.{all_of_numbers}
 use Rattle.routing.specs.Merge.{HasLinks, links_at, no_path}
 use Rattle.local_search.specs.Moves.{UsesOnly}
-use Rattle.local_search.specs.Pairs.{ArePairs, HaveHolders, holds, pairs_on, some_holds}
+use Rattle.local_search.specs.Pairs.{ArePairsOnLinks, HaveHolders, holds, pairs_on, some_holds}
 
 -- a pair that holds the link is a pair of the routing
 holder_inside : (routes : List PairRoutes) (p e : ℕ) → holds routes p e ≡ true → p < length routes
@@ -35,7 +35,7 @@ holds_before before candidates routes p e only is =
       | inr new ↦ or_right (holds before p e) (holds candidates p e) (holds_links (routes_at candidates p).paths s.links e new holds_it)
     ]
 
-pub holders_stay : (n : ℕ) (before candidates routes : List PairRoutes) (table : List (List ℕ)) → ArePairs n before candidates table →
+pub holders_stay : (n : ℕ) (before candidates routes : List PairRoutes) (table : List (List ℕ)) → ArePairsOnLinks n before candidates table →
     UsesOnly before candidates routes → length routes ≡ length before → length candidates ≡ length before → HaveHolders n routes table
 holders_stay n before candidates routes table are only count others = record {
   count = are.count;

@@ -8,3 +8,6 @@ pub mod Searching
 pub mod Settled
 pub mod Entering
 pub mod Holders
+pub mod MadeMoves
+pub mod ImprovingMoves
+pub mod SettledRoutings

@@ -13,7 +13,7 @@ use Rattle.routing.specs.Merge.{links_at, path_at}
 use Rattle.routing.specs.Routes.{AreLoads, HasFewPaths, load_on}
 use Rattle.routing.specs.Utilisation.{parts}
 use Rattle.local_search.specs.Loads.{IsPeakBelow, load_after}
-use Rattle.local_search.specs.Moves.{CanMove, HaveFewTogether, Improves, IsMoved, IsStable, UsesOnly}
+use Rattle.local_search.specs.Moves.{CanMove, HaveFewTogether, ImprovesBy1024th, IsMoved, IsStable, UsesOnly}
 use Rattle.local_search.specs.Search.{FitsAt, loads_moved}
 use Rattle.local_search.specs.Settling.{SettledSoFar}
 use Rattle.routing.proofs.FewPaths.{few_among}
@@ -57,11 +57,11 @@ fits_can net demand routes candidates loads times p k j size link fit inside abo
 -- where no move fits, the routing is stable
 pub stable_from_none : (net : Network) (demand : List ℕ) (routes candidates : List PairRoutes) (loads : List ℕ) (x times : ℕ) →
     is_well_formed net ≡ true → AreLoads net demand routes loads → parts net routes demand ≡ x →
-    ((y : ℕ) → Improves x y → y ≤ times) →
+    ((y : ℕ) → ImprovesBy1024th x y → y ≤ times) →
     ((p k j size : ℕ) → FitsAt net loads times demand routes candidates p k j size → ⊥) → IsStable net demand candidates routes
 stable_from_none net demand routes candidates loads x times formed are is_x improved none p k to size moved can is improves =
     let (j, inside, at) = can.candidate in
-    let le = improved (parts net moved demand) (subst (λ n. Improves n (parts net moved demand)) is_x improves) in
+    let le = improved (parts net moved demand) (subst (λ n. ImprovesBy1024th n (parts net moved demand)) is_x improves) in
     let within = within_from_parts net moved demand times formed le in
     none p k j size (record {
       pair = can.pair;
@@ -76,16 +76,6 @@ stable_from_none net demand routes candidates loads x times formed are is_x impr
             (within e below);
       };
     })
-
-pub settled_begin : (net : Network) (demand : List ℕ) (before candidates : List PairRoutes) (loads : List ℕ) → IsPathRouting net before →
-    AreLoads net demand before loads → SettledSoFar net demand before candidates before loads
-settled_begin net demand before candidates loads routing are = record {
-  routing = routing;
-  pairs = refl;
-  lower = omega arith;
-  only = λ p links has. inl has;
-  are_loads = are;
-}
 
 pub settled_more : (net : Network) (demand : List ℕ) (before candidates routes moved : List PairRoutes) (loads carried : List ℕ) (p k : ℕ) (to : List ℕ) (size : ℕ) →
     IsPathRouting net candidates → map (λ r. r.pair) candidates ≡ map (λ r. r.pair) before → SettledSoFar net demand before candidates routes loads →

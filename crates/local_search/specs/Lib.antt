@@ -4,3 +4,4 @@ pub mod Search
 pub mod Shifting
 pub mod Pairs
 pub mod Settling
+pub mod Laws

@@ -36,15 +36,15 @@ pub record IsMoved (routes : List PairRoutes) (p k : ℕ) (to : List ℕ) (size 
       (min size (path_at (routes_at routes p).paths k).weight) (routes_at moved p).paths
 
 -- y is below x by a 1024th of x at least
-abbrev pub Improves : ℕ → ℕ → Type 0
-Improves x y = (y < x) × (1024 * y ≤ 1023 * x)
+abbrev pub ImprovesBy1024th : ℕ → ℕ → Type 0
+ImprovesBy1024th x y = (y < x) × (1024 * y ≤ 1023 * x)
 
 -- no move lowers the greatest utilisation by that share
 abbrev pub IsStable : Network → List ℕ → List PairRoutes → List PairRoutes → Type 0
 IsStable net demand candidates routes =
     (p k : ℕ) (to : List ℕ) (size : ℕ) (moved : List PairRoutes) →
     CanMove routes candidates p k to size → IsMoved routes p k to size moved →
-    Improves (parts net routes demand) (parts net moved demand) → ⊥
+    ImprovesBy1024th (parts net routes demand) (parts net moved demand) → ⊥
 
 -- each path of a pair is one that the pair had before, or a candidate of the pair
 abbrev pub UsesOnly : List PairRoutes → List PairRoutes → List PairRoutes → Type 0

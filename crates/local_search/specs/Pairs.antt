@@ -24,7 +24,7 @@ pub record ArePairsOn (routes others : List PairRoutes) (e : ℕ) (list : List �
   pub exact : (p : ℕ) → has_number list p ≡ (holds routes p e || holds others p e)
 
 -- these pairs at each of n links
-pub record ArePairs (n : ℕ) (routes others : List PairRoutes) (table : List (List ℕ)) : Type 0 where
+pub record ArePairsOnLinks (n : ℕ) (routes others : List PairRoutes) (table : List (List ℕ)) : Type 0 where
   pub count : length table ≡ n
   pub each : (e : ℕ) → e < n → ArePairsOn routes others e (pairs_on table e)
 
@@ -48,6 +48,6 @@ pub record IsPairList (n : ℕ) (list : List ℕ) : Type 0 where
   pub below : All (λ p. p < n) list
 
 -- pair p is entered at each of these links, and nothing else changes
-pub record IsEntry (old new : List (List ℕ)) (p : ℕ) (at : ℕ → Bool) : Type 0 where
+pub record IsPairEntered (old new : List (List ℕ)) (p : ℕ) (at : ℕ → Bool) : Type 0 where
   pub count : length new ≡ length old
   pub each : (e q : ℕ) → e < length old → has_number (pairs_on new e) q ≡ (has_number (pairs_on old e) q || (p == q && at e))

@@ -6,6 +6,7 @@
 #![tactic(auto)]
 
 mod greatest;
+mod law;
 mod loads;
 mod pairs;
 mod search;
@@ -13,5 +14,6 @@ mod settling;
 mod shifting;
 mod step;
 
+pub use law::stable_routings_exist;
 pub use settling::settle;
 pub use shifting::paths_after;

@@ -3,7 +3,7 @@ ghost use Rattle.std.specs.Prelude.{◌≡◌, ◌+◌, ◌^◌, ◌<◌, ◌||�
 ghost use Rattle.te_model.specs.Network.{link_count};
 ghost use Rattle.te_model.specs.Path.{has_number};
 ghost use Rattle.te_model.specs.PathRouting.{IsPathRouting};
-ghost use Rattle.local_search.specs.Pairs.{ArePairs, HaveLinksBelow, IsEntry, IsPairList, pairs_on, some_holds};
+ghost use Rattle.local_search.specs.Pairs.{ArePairsOnLinks, HaveLinksBelow, IsPairEntered, IsPairList, pairs_on, some_holds};
 
 use std::alloc::Global;
 use std::marker::Model;
@@ -43,7 +43,7 @@ fn add_path(table: &mut [LinkPairs], links: &[u32], pair: u32) -> Result<(), Mem
     requires links { All (λ h. h < length table.old) links.now }
     requires order { All (IsPairList (pair + 1)) table.old }
     ensures order { OnOk result (All (IsPairList (pair + 1)) table.new) }
-    ensures entered { OnOk result (IsEntry table.old table.new pair (has_number links.now)) }
+    ensures entered { OnOk result (IsPairEntered table.old table.new pair (has_number links.now)) }
 {
     for link in links {
         table[*link as usize].add(pair)?;
@@ -56,7 +56,7 @@ fn add_pair(table: &mut [LinkPairs], pair: u32, paths: &[PathShare]) -> Result<(
     requires links { HaveLinksBelow (length table.old) paths.now }
     requires order { All (IsPairList (pair + 1)) table.old }
     ensures order { OnOk result (All (IsPairList (pair + 1)) table.new) }
-    ensures entered { OnOk result (IsEntry table.old table.new pair (some_holds paths.now)) }
+    ensures entered { OnOk result (IsPairEntered table.old table.new pair (some_holds paths.now)) }
 {
     for path in paths {
         add_path(table, path.links.as_slice(), pair)?;
@@ -87,7 +87,7 @@ fn add_pairs(
     requires other_links { All (λ r. HaveLinksBelow (length table.old) r.paths) others.now }
     requires pairs { length others.now ≡ length routes.now }
     requires few { length routes.now < 2 ^ 32 }
-    ensures { OnOk result (ArePairs (length table.old) routes.now others.now table.new) }
+    ensures { OnOk result (ArePairsOnLinks (length table.old) routes.now others.now table.new) }
 {
     for p in 0..routes.len() {
         let pair = p as u32;
@@ -125,7 +125,7 @@ impl PairsOnLinks {
         requires others { IsPathRouting net.now others.now }
         requires pairs { length others.now ≡ length routes.now }
         requires few { length routes.now < 2 ^ 32 }
-        ensures { IfOk result (ArePairs (link_count net.now) routes.now others.now) }
+        ensures { IfOk result (ArePairsOnLinks (link_count net.now) routes.now others.now) }
     {
         let mut table = empty_table(alloc, net.links.as_slice().len())?;
         add_pairs(&mut table, routes, others)?;

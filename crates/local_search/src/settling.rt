@@ -10,8 +10,8 @@ ghost use Rattle.routing.specs.Merge.{links_at};
 ghost use Rattle.routing.specs.Routes.{AreDemands, AreLoads, HasFewPaths, IsRoutingOf};
 ghost use Rattle.routing.specs.Split.{are_splits};
 ghost use Rattle.routing.specs.Utilisation.{parts};
-ghost use Rattle.local_search.specs.Moves.{CanMove, HaveFewTogether, Improves, IsMoved, IsStable, UsesOnly};
-ghost use Rattle.local_search.specs.Pairs.{ArePairs, HaveHolders};
+ghost use Rattle.local_search.specs.Moves.{CanMove, HaveFewTogether, ImprovesBy1024th, IsMoved, IsStable, UsesOnly};
+ghost use Rattle.local_search.specs.Pairs.{ArePairsOnLinks, HaveHolders};
 ghost use Rattle.local_search.specs.Settling.{SettledSoFar};
 
 use crate::greatest::peak_of;
@@ -27,7 +27,7 @@ use te_model::{Items, Matrix, Memory, Network, PairRoutes};
 fn greatest_improvement(parts: u128) -> u128
     requires some { 1 ≤ parts }
     requires fits { parts ≤ 2 ^ 84 }
-    ensures { (y : ℕ) → Improves parts y ↔ (y ≤ result) }
+    ensures { (y : ℕ) → ImprovesBy1024th parts y ↔ (y ≤ result) }
 {
     parts * 1023 / 1024
 }
@@ -54,7 +54,7 @@ fn next_move(
     requires loads { AreLoads net.now matrix.now.demand routes.now loads.now }
     ensures place { IfOk result (λ o. IfSome o (λ m. m.target.candidate < length (routes_at candidates.now m.pair).paths)) }
     ensures some { IfOk result (λ o. IfSome o (λ m. CanMove routes.now candidates.now m.pair m.from (links_at (routes_at candidates.now m.pair).paths m.target.candidate) m.target.size)) }
-    ensures improves { IfOk result (λ o. IfSome o (λ m. (moved : List PairRoutes) → IsMoved routes.now m.pair m.from (links_at (routes_at candidates.now m.pair).paths m.target.candidate) m.target.size moved → Improves (parts net.now routes.now matrix.now.demand) (parts net.now moved matrix.now.demand))) }
+    ensures improves { IfOk result (λ o. IfSome o (λ m. (moved : List PairRoutes) → IsMoved routes.now m.pair m.from (links_at (routes_at candidates.now m.pair).paths m.target.candidate) m.target.size moved → ImprovesBy1024th (parts net.now routes.now matrix.now.demand) (parts net.now moved matrix.now.demand))) }
     ensures none { IfOk result (λ o. IfNone o (IsStable net.now matrix.now.demand candidates.now routes.now)) }
 {
     let peak = peak_of(net, loads);
@@ -91,7 +91,7 @@ fn make_moves(
     requires routing { IsPathRouting net.now routes.old }
     requires others { IsPathRouting net.now candidates.now }
     requires pairs { map (λ r. r.pair) candidates.now ≡ map (λ r. r.pair) routes.old }
-    requires holders { ArePairs (link_count net.now) routes.old candidates.now holders.now }
+    requires holders { ArePairsOnLinks (link_count net.now) routes.old candidates.now holders.now }
     requires loads { AreLoads net.now matrix.now.demand routes.old loads.old }
     ensures settled { OnOk result (SettledSoFar net.now matrix.now.demand routes.old candidates.now routes.new loads.new) }
     ensures stable { OnOk result (IsStable net.now matrix.now.demand candidates.now routes.new) }

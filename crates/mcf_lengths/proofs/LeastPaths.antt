@@ -1,15 +1,14 @@
 -- The least paths of the pairs, one after the other.
-use Rattle.std.proofs.Common.{◌≡◌, inl, inr, ℕ, ◌+◌, ◌<◌, ◌≤◌, true, List, [], ◌∷◌, ◌++◌, Option, Some, All, length, get_or, map, arith, refl, sym, ◌∙◌, subst}
+use Rattle.std.proofs.Common.{◌≡◌, ℕ, ◌+◌, ◌<◌, ◌≤◌, true, List, [], ◌∷◌, ◌++◌, Option, Some, All, length, get_or, map, arith, refl, ◌∙◌, subst}
 use Rattle.std.specs.Prelude.{IsTrue}
-use Rattle.std.proofs.lemmas.Bool.{cases_lt}
-use Rattle.std.proofs.lemmas.List.{get_or-map, get_or_append_left, length-append, length-map}
+use Rattle.std.proofs.lemmas.List.{get_or-map, length-map}
 use Rattle.std.proofs.lemmas.List.Elements.{All-from_get_or, All-get_or}
-use Rattle.std.proofs.Math.Seq.{get_or-append_seam}
 use Rattle.te_model.specs.declared.network.Network.{Network}
 use Rattle.te_model.specs.declared.route.Pair.{Pair}
 use Rattle.te_model.specs.declared.route.Path.{Path}
 use Rattle.te_model.specs.Network.{link_count}
 use Rattle.te_model.specs.Path.{is_distinct, is_path}
+use Rattle.te_model.proofs.Choices.{pushed_count, pushed_each}
 use Rattle.te_model.proofs.SimplePaths.{path_links, path_links_once}
 use Rattle.shortest_path.specs.Least.{IsLeastWalk}
 use Rattle.shortest_path.specs.Links.{every_link}
@@ -32,19 +31,8 @@ paths_none net lengths pairs = record { count = refl; each = λ q below. absurd 
 pub paths_more : (net : Network) (lengths : List ℕ) (pairs : List Pair) (p : ℕ) (paths : List (List ℕ)) (path : List ℕ) → PathsSoFar net lengths pairs p paths →
     IsLeastPath net lengths (pair_at pairs p).src (pair_at pairs p).dst (Some path) → PathsSoFar net lengths pairs (p + 1) (paths ++ path ∷ [])
 paths_more net lengths pairs p paths path far is = record {
-  count = omega (arith, far.count, length-append paths (path ∷ []));
-  each = λ q below. elim (cases_lt q p) [
-    | inl lt ↦
-        subst (λ l. IsLeastPath net lengths (pair_at pairs q).src (pair_at pairs q).dst (Some l))
-        (sym (get_or_append_left paths (path ∷ []) [] q (omega (arith, far.count, lt)))) (far.each q lt)
-    | inr ge ↦
-        let same : p ≡ q = omega arith in
-        let at : get_or (paths ++ path ∷ []) p [] ≡ path =
-        subst (λ n. get_or (paths ++ path ∷ []) n [] ≡ path) far.count (get_or-append_seam paths path [] [])
-        in
-        subst (λ q. IsLeastPath net lengths (pair_at pairs q).src (pair_at pairs q).dst (Some (get_or (paths ++ path ∷ []) q []))) same
-        (subst (λ l. IsLeastPath net lengths (pair_at pairs p).src (pair_at pairs p).dst (Some l)) (sym at) is)
-  ];
+  count = pushed_count paths path p far.count;
+  each = pushed_each (λ q l. IsLeastPath net lengths (pair_at pairs q).src (pair_at pairs q).dst (Some l)) paths path [] p far.count far.each is;
 }
 
 pub paths_done : (net : Network) (lengths : List ℕ) (pairs : List Pair) (p : ℕ) (paths : List (List ℕ)) → PathsSoFar net lengths pairs p paths →

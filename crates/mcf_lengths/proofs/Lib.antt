@@ -4,3 +4,5 @@ mod Lengthening
 mod Splitting
 mod Balancing
 mod Sweeping
+mod RoundsMade
+pub mod Existence

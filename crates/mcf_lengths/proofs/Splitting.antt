@@ -15,31 +15,31 @@ use Rattle.routing.proofs.EvenSplits.{even_few, even_split}
 use Rattle.mcf_lengths.specs.declared.round.FlowRound.{FlowRound}
 use Rattle.mcf_lengths.specs.declared.round.TheConstants.{ROUNDS}
 use Rattle.rate_sweeps.specs.Sweeps.{links_in}
-use Rattle.mcf_lengths.specs.Rounds.{AreLeastPaths, AreRoundPaths, IsRoundsSplit, no_flow_round, paths_in, paths_of_pair, flow_round_at}
+use Rattle.mcf_lengths.specs.Rounds.{AreLeastPaths, AreRoundPaths, IsRoundsSplit, no_flow_round, paths_of_round, round_paths_of_pair, flow_round_at}
 
 -- the paths of pair p are its least paths in the rounds
-pair_paths : (net : Network) (pairs : List Pair) (rounds : List FlowRound) (p : ℕ) → All (λ r. AreLeastPaths net r.lengths pairs (paths_in r)) rounds → p < length pairs →
-    AreRoundPaths net rounds (pair_at pairs p) (paths_of_pair rounds p)
+pub pair_paths : (net : Network) (pairs : List Pair) (rounds : List FlowRound) (p : ℕ) → All (λ r. AreLeastPaths net r.lengths pairs (paths_of_round r)) rounds → p < length pairs →
+    AreRoundPaths net rounds (pair_at pairs p) (round_paths_of_pair rounds p)
 pair_paths net pairs rounds p least inside = record {
-  count = length-map rounds (λ (r : FlowRound). get_or (paths_in r) p []);
+  count = length-map rounds (λ (r : FlowRound). get_or (paths_of_round r) p []);
   each = λ j below.
-      let at : get_or (paths_of_pair rounds p) j [] ≡ get_or (paths_in (flow_round_at rounds j)) p [] =
-      get_or-map (λ (r : FlowRound). get_or (paths_in r) p []) rounds j no_flow_round [] below
+      let at : get_or (round_paths_of_pair rounds p) j [] ≡ get_or (paths_of_round (flow_round_at rounds j)) p [] =
+      get_or-map (λ (r : FlowRound). get_or (paths_of_round r) p []) rounds j no_flow_round [] below
       in
-      let here = All-get_or (λ (r : FlowRound). AreLeastPaths net r.lengths pairs (paths_in r)) rounds j no_flow_round below least in
+      let here = All-get_or (λ (r : FlowRound). AreLeastPaths net r.lengths pairs (paths_of_round r)) rounds j no_flow_round below least in
       subst (λ l. IsLeastPath net (flow_round_at rounds j).lengths (pair_at pairs p).src (pair_at pairs p).dst (Some l)) (sym at) (here.each p inside);
 }
 
-sound_paths : (net : Network) (rounds : List FlowRound) (pair : Pair) (paths : List (List ℕ)) → AreRoundPaths net rounds pair paths →
+pub sound_paths : (net : Network) (rounds : List FlowRound) (pair : Pair) (paths : List (List ℕ)) → AreRoundPaths net rounds pair paths →
     All (λ p. IsTrue (is_path net pair.src pair.dst p)) paths
 sound_paths net rounds pair paths are = All-from_get_or (λ (p : List ℕ). IsTrue (is_path net pair.src pair.dst p)) paths [] (λ j below.
     (are.each j (omega (arith, below, are.count))).0)
 
 pub rounds_split : (net : Network) (pairs : List Pair) (rounds : List FlowRound) (p : ℕ) (merged : List PathShare) → length rounds ≡ ROUNDS →
-    All (λ r. AreLeastPaths net r.lengths pairs (paths_in r)) rounds → p < length pairs → IsEvenMix (paths_of_pair rounds p) merged →
+    All (λ r. AreLeastPaths net r.lengths pairs (paths_of_round r)) rounds → p < length pairs → IsEvenMix (round_paths_of_pair rounds p) merged →
     IsSplitBy (IsRoundsSplit rounds) ROUNDS net (record { pair = pair_at pairs p; paths = merged })
 rounds_split net pairs rounds p merged count least inside so =
-    let paths = paths_of_pair rounds p in
+    let paths = round_paths_of_pair rounds p in
     let are = pair_paths net pairs rounds p least inside in
     record {
       split = even_split net (pair_at pairs p) paths merged (omega (arith, are.count, count)) (omega (arith, are.count, count))
@@ -47,10 +47,3 @@ rounds_split net pairs rounds p merged count least inside so =
       few = omega (arith, even_few paths merged so, are.count, count);
       by_rule = (paths, are, so);
     }
-
--- each round has a path of each pair
-pub has_path_of : (net : Network) (pairs : List Pair) (rounds : List FlowRound) (p : ℕ) → All (λ r. AreLeastPaths net r.lengths pairs (paths_in r)) rounds → p < length pairs →
-    All (λ r. p < length r.paths) rounds
-has_path_of net pairs rounds p least inside =
-    All-weaker (λ (r : FlowRound). AreLeastPaths net r.lengths pairs (paths_in r)) (λ (r : FlowRound). p < length r.paths)
-    (λ r are. omega (arith, are.count, length-map r.paths links_in, inside)) rounds least

@@ -13,12 +13,9 @@ use Rattle.routing.specs.Routes.{IsRoutingOf}
 use Rattle.routing.proofs.InOrder.{routes_count}
 use Rattle.scheme.specs.Reach.{pair_at}
 use Rattle.rate_sweeps.specs.declared.mix.Sweep.{Sweep}
-use Rattle.rate_sweeps.specs.Sweeps.{paths_in, AreOnLinks, AreWays, IsWeight}
+use Rattle.rate_sweeps.specs.Sweeps.{paths_in, AreOnLinks, ArePathsOfPairs, IsWeight}
 use Rattle.mcf_lengths.specs.Rounds.{AreLeastPaths}
 use Rattle.mcf_lengths.specs.Sweeps.{AreLeastSweeps, IsLeastSweep}
-
-pub sweeps_none : (net : Network) (pairs : List Pair) → AreLeastSweeps 0 net pairs []
-sweeps_none net pairs = record { count = refl; weights = All-nil (λ (s : Sweep). IsWeight s.weight); least = All-nil (IsLeastSweep net pairs) }
 
 -- one sweep more
 pub sweeps_more : (n m : ℕ) (net : Network) (pairs : List Pair) (sweeps : List Sweep) (s : Sweep) → AreLeastSweeps n net pairs sweeps → m ≡ n + 1 → IsWeight s.weight →
@@ -36,7 +33,7 @@ least_on_links net lengths pairs paths are = All-from_get_or (λ (links : List �
 
 -- least paths of the pairs of a routing lead from their sources to their destinations
 pub least_ways : (net : Network) (pairs : List Pair) (routes : List PairRoutes) (lengths : List ℕ) (paths : List (List ℕ)) → IsRoutingOf net pairs routes →
-    AreLeastPaths net lengths pairs paths → AreWays net routes paths
+    AreLeastPaths net lengths pairs paths → ArePathsOfPairs net routes paths
 least_ways net pairs routes lengths paths is least = record {
   count = omega (arith, least.count, routes_count pairs routes is.in_order);
   each = λ p below.
@@ -49,9 +46,9 @@ least_ways net pairs routes lengths paths is least = record {
 
 -- the same of each sweep
 pub sweeps_ways : (net : Network) (pairs : List Pair) (routes : List PairRoutes) (sweeps : List Sweep) → IsRoutingOf net pairs routes → All (IsLeastSweep net pairs) sweeps →
-    All (λ s. AreWays net routes (paths_in s)) sweeps
+    All (λ s. ArePathsOfPairs net routes (paths_in s)) sweeps
 sweeps_ways net pairs routes sweeps is least =
-    All-weaker (IsLeastSweep net pairs) (λ (s : Sweep). AreWays net routes (paths_in s)) (λ s by. least_ways net pairs routes by.0 (paths_in s) is by.1) sweeps least
+    All-weaker (IsLeastSweep net pairs) (λ (s : Sweep). ArePathsOfPairs net routes (paths_in s)) (λ s by. least_ways net pairs routes by.0 (paths_in s) is by.1) sweeps least
 
 -- what holds of two routings holds of the one that is taken
 pub taken_keeps : (P : List PairRoutes → Type 0) (first second taken : List PairRoutes) → (taken ≡ first) ⊎ (taken ≡ second) → P first → P second → P taken

@@ -24,16 +24,16 @@ abbrev pub flow_round_at : List FlowRound → ℕ → FlowRound
 flow_round_at rounds j = slice_index_or rounds j no_flow_round
 
 -- the path of each pair in the round
-abbrev pub paths_in : FlowRound → List (List ℕ)
-paths_in round = map links_in round.paths
+abbrev pub paths_of_round : FlowRound → List (List ℕ)
+paths_of_round round = map links_in round.paths
 
 -- the path of pair p in each round
-abbrev pub paths_of_pair : List FlowRound → ℕ → List (List ℕ)
-paths_of_pair rounds p = map (λ r. slice_index_or (paths_in r) p []) rounds
+abbrev pub round_paths_of_pair : List FlowRound → ℕ → List (List ℕ)
+round_paths_of_pair rounds p = map (λ r. slice_index_or (paths_of_round r) p []) rounds
 
 -- the load of a link is the sum of the demands of the pairs whose path holds it
 abbrev pub loads_in : Network → List ℕ → FlowRound → List ℕ
-loads_in net demand round = loads_of net (slice_index demand) (paths_in round)
+loads_in net demand round = loads_of net (slice_index demand) (paths_of_round round)
 
 -- the greatest usage of a link in the rounds before round j, in millionths, and at least 1
 abbrev pub most_before : Network → List ℕ → List FlowRound → ℕ → ℕ
@@ -62,9 +62,9 @@ pub record AreLeastPaths (net : Network) (lengths : List ℕ) (pairs : List Pair
 -- the round of these multipliers
 pub record IsFlowRound (net : Network) (pairs : List Pair) (multipliers : List ℕ) (round : FlowRound) : Type 0 where
   pub lengths : round.lengths ≡ lengths_of net multipliers
-  pub paths : AreLeastPaths net round.lengths pairs (paths_in round)
+  pub paths : AreLeastPaths net round.lengths pairs (paths_of_round round)
 
-pub record AreRounds (net : Network) (pairs : List Pair) (demand : List ℕ) (rounds : List FlowRound) : Type 0 where
+pub record AreFlowRounds (net : Network) (pairs : List Pair) (demand : List ℕ) (rounds : List FlowRound) : Type 0 where
   pub count : length rounds ≡ ROUNDS
   pub each : (j : ℕ) → j < ROUNDS → IsFlowRound net pairs (flow_multipliers net demand rounds j) (flow_round_at rounds j)
 
@@ -80,12 +80,12 @@ IsRoundsSplit rounds net pair shares = (paths : List (List ℕ)) × AreRoundPath
 -- the routing of the rounds for these demands
 abbrev pub IsRoundsRouting : Network → List Pair → List ℕ → List PairRoutes → Type 0
 IsRoundsRouting net pairs demand routes =
-    (rounds : List FlowRound) × AreRounds net pairs demand rounds × IsRoutingBy (IsRoundsSplit rounds) ROUNDS net pairs routes
+    (rounds : List FlowRound) × AreFlowRounds net pairs demand rounds × IsRoutingBy (IsRoundsSplit rounds) ROUNDS net pairs routes
 
 -- the lengths of each round for these demands
 abbrev pub AreRoundLengths : Network → List Pair → List ℕ → List (List ℕ) → Type 0
 AreRoundLengths net pairs demand lengths =
-    (rounds : List FlowRound) × AreRounds net pairs demand rounds × (lengths ≡ map (λ r. r.lengths) rounds)
+    (rounds : List FlowRound) × AreFlowRounds net pairs demand rounds × (lengths ≡ map (λ r. r.lengths) rounds)
 
 -- one length of 1 to 2^28 for each link
 pub record AreLengths (net : Network) (lengths : List ℕ) : Type 0 where

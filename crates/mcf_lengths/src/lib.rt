@@ -15,6 +15,6 @@ mod split;
 mod sweeps;
 
 pub use flow::{Mcf, McfPlan};
-pub use law::rounds_are_28;
+pub use law::{balanced_routings_exist, flow_plans_exist, rounds_are_28};
 pub use round::FlowRound;
 pub use rounds::{make_rounds, rounds_routing};

@@ -2,7 +2,7 @@
 ghost use Rattle.std.specs.Prelude.{◌≡◌, ◌<◌, ◌≤◌, ◌^◌, ℕ, List, Some, All, IfOk, IsTrue, length, map};
 ghost use Rattle.te_model.specs.Network.{is_well_formed, link_count, node_count};
 ghost use Rattle.shortest_path.specs.declared.rows.Direction.TheVariants.{Backward};
-ghost use Rattle.shortest_path.specs.Links.{IsSound};
+ghost use Rattle.shortest_path.specs.Links.{HasSoundLinks};
 ghost use Rattle.shortest_path.specs.Paths.{HasPath, IsLeastPath};
 ghost use Rattle.shortest_path.specs.Rows.{IsSearchGraph};
 ghost use Rattle.scheme.specs.Reach.{AllReached, ArePairsOf, IsPairOf};
@@ -44,7 +44,7 @@ fn ways_where(
     node: u32,
     wanted: bool,
 ) -> Result<LeastWays, Memory>
-    requires sound { IsSound net.now }
+    requires sound { HasSoundLinks net.now }
     requires against { IsSearchGraph net.now Backward searches.old }
     requires lengths { length lengths.now ≡ link_count net.now }
     requires limit { All (λ l. l ≤ 2 ^ 28) lengths.now }
@@ -76,7 +76,7 @@ fn ways_toward(
     lengths: &[u64],
     wanted: &[bool],
 ) -> Result<Vec<LeastWays>, Memory>
-    requires sound { IsSound net.now }
+    requires sound { HasSoundLinks net.now }
     requires lengths { length lengths.now ≡ link_count net.now }
     requires limit { All (λ l. l ≤ 2 ^ 28) lengths.now }
     requires positive { All (λ l. 1 ≤ l) lengths.now }
@@ -101,7 +101,7 @@ fn ways_toward(
 
 /// The least path of the pair, by the least ways to its destination.
 fn path_by(alloc: Global, net: &Network, ways: &LeastWays, pair: Pair) -> Result<Path, Memory>
-    requires sound { IsSound net.now }
+    requires sound { HasSoundLinks net.now }
     requires ways { (lengths : List ℕ) × AreLeastWays net.now lengths pair.dst ways.now }
     requires pair { IsPairOf net.now pair }
     requires reached { HasPath net.now pair.src pair.dst }

@@ -3,7 +3,7 @@ ghost use Rattle.std.specs.Prelude.{◌≡◌, All, IfOk, IsTrue, length, map};
 ghost use Rattle.te_model.specs.Network.{is_well_formed};
 ghost use Rattle.routing.specs.Routes.{AreDemands, HasFewPaths, IsRoutingOf};
 ghost use Rattle.scheme.specs.Reach.{AllReached, ArePairsOf};
-ghost use Rattle.mcf_lengths.specs.Rounds.{AreLengths, AreRoundLengths, AreRounds, IsRoundsRouting};
+ghost use Rattle.mcf_lengths.specs.Rounds.{AreLengths, AreRoundLengths, AreFlowRounds, IsRoundsRouting};
 
 use crate::loads::loads_of;
 use crate::paths::destinations;
@@ -29,7 +29,7 @@ pub fn make_rounds(
     requires pairs { ArePairsOf net.now pairs.now.list }
     requires reached { AllReached net.now pairs.now.list }
     requires demands { AreDemands (length pairs.now.list) matrix.now.demand }
-    ensures { IfOk result (λ r. AreRounds net.now pairs.now.list matrix.now.demand r.items) }
+    ensures { IfOk result (λ r. AreFlowRounds net.now pairs.now.list matrix.now.demand r.items) }
 {
     let wanted = destinations(alloc, net, pairs)?;
     let mut multipliers = first_multipliers(alloc, net)?;

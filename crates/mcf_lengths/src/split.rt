@@ -1,7 +1,7 @@
 //! The routing over the paths of the rounds.
 ghost use Rattle.std.specs.Prelude.{◌≡◌, ◌<◌, All, IfOk, length, map};
 ghost use Rattle.scheme.specs.Fixed.{IsRoutingBy};
-ghost use Rattle.mcf_lengths.specs.Rounds.{AreLeastPaths, IsRoundsSplit, paths_in, paths_of_pair};
+ghost use Rattle.mcf_lengths.specs.Rounds.{AreLeastPaths, IsRoundsSplit, paths_of_round, round_paths_of_pair};
 
 use crate::round::{FlowRound, ROUNDS};
 use routing::{Routing, even_mix};
@@ -11,7 +11,7 @@ use te_model::{Items, Memory, Network, PairRoutes, Pairs, Path};
 /// The path of the pair of this number in each round.
 fn paths_of_pair(alloc: Global, rounds: &[FlowRound], pair: usize) -> Result<Vec<Path>, Memory>
     requires { All (λ r. pair < length r.paths) rounds.now }
-    ensures { IfOk result (λ q. map (λ p. p.links) q.items ≡ paths_of_pair rounds.now pair) }
+    ensures { IfOk result (λ q. map (λ p. p.links) q.items ≡ round_paths_of_pair rounds.now pair) }
 {
     let mut paths = Vec::with_capacity(alloc, rounds.len())?;
     for round in rounds {
@@ -33,7 +33,7 @@ pub fn routing_over(
     pairs: &Pairs,
 ) -> Result<Routing, Memory>
     requires count { length rounds.now ≡ ROUNDS }
-    requires paths { All (λ r. AreLeastPaths net.now r.lengths pairs.now.list (paths_in r)) rounds.now }
+    requires paths { All (λ r. AreLeastPaths net.now r.lengths pairs.now.list (paths_of_round r)) rounds.now }
     ensures { IfOk result (λ r. IsRoutingBy (IsRoundsSplit rounds.now) ROUNDS net.now pairs.now.list r.routes) }
 {
     let list = pairs.list.as_slice();

@@ -1,8 +1,7 @@
 -- Lists of one number for each link.
-use Rattle.std.proofs.Common.{◌≡◌, ℕ, ◌+◌, ◌<◌, List, [], ◌∷◌, ◌++◌, All, length, map, get_or, arith, sym, ◌∙◌}
-use Rattle.std.specs.List.{range_with_len}
+use Rattle.std.proofs.Common.{◌≡◌, ℕ, ◌<◌, All, length, get_or, arith}
 use Rattle.std.proofs.lemmas.List.Elements.{All-from_get_or}
-use Rattle.std.proofs.lemmas.List.FromFn.{get_or-map-range_with_len, length-map-range_with_len, map-range_with_len_more}
+use Rattle.std.proofs.lemmas.List.FromFn.{get_or-map-range_with_len, length-map-range_with_len}
 use Rattle.te_model.specs.declared.network.Network.{Network}
 use Rattle.te_model.specs.Network.{link_count}
 use Rattle.multiplicative_lengths.specs.Growth.{for_each_link}
@@ -18,8 +17,3 @@ pub all_links : (P : ℕ → Type 0) (net : Network) (number : ℕ → ℕ) → 
 all_links P net number each = All-from_get_or P (for_each_link net number) 0 (λ h below.
     let inside : h < link_count net = omega (arith, below, count_each net number) in
     each h inside (get_or (for_each_link net number) h 0) (at_link net number h inside))
-
--- the number of one link more
-pub each_more : (number : ℕ → ℕ) (h n : ℕ) (numbers next : List ℕ) → next ≡ numbers ++ n ∷ [] → numbers ≡ map number (range_with_len 0 h) → n ≡ number h →
-    next ≡ map number (range_with_len 0 (h + 1))
-each_more number h n numbers next pushed far is = pushed ∙ rw (far, is) (sym (map-range_with_len_more number 0 h h (omega arith)))

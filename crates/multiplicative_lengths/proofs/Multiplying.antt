@@ -8,7 +8,7 @@ use Rattle.te_model.specs.declared.network.Network.{Network}
 use Rattle.te_model.specs.Network.{link_count}
 use Rattle.te_model.specs.Division.{quotient_up}
 use Rattle.te_model.proofs.Quotients.{quotient_up-least, below_greatest}
-use Rattle.multiplicative_lengths.specs.Growth.{first_multipliers, greatest_usage, grown, grown_multiplier, usage_of}
+use Rattle.multiplicative_lengths.specs.Growth.{first_multipliers, greatest_usage, grown_multipliers, grown_multiplier, usage_of}
 use Rattle.multiplicative_lengths.proofs.EachLink.{all_links, at_link, count_each}
 
 -- the multipliers of round j
@@ -34,7 +34,7 @@ part_small : (m usage most : ℕ) → 1 ≤ most → usage ≤ most → quotient
 part_small m usage most some le = quotient_up-least (m * usage) most m some (mul-le-mul_left m le)
 
 pub next_grown : (net : Network) (j : ℕ) (loads : List ℕ) (divisor : ℕ) (multipliers next : List ℕ) → HaveGrown net j multipliers →
-    greatest_usage net loads ≤ divisor → next ≡ grown net loads divisor multipliers → HaveGrown net (j + 1) next
+    greatest_usage net loads ≤ divisor → next ≡ grown_multipliers net loads divisor multipliers → HaveGrown net (j + 1) next
 next_grown net j loads divisor multipliers next far most are = subst (HaveGrown net (j + 1)) (sym are) (record {
   count = count_each net (grown_multiplier net loads divisor multipliers);
   some = all_links (λ m. 1 ≤ m) net (grown_multiplier net loads divisor multipliers) (λ h inside n is.
@@ -57,8 +57,8 @@ grown_small net j multipliers far few = All-from_get_or (λ m. m ≤ 2 ^ 38) mul
 
 pub at_most_double : (net : Network) (loads : List ℕ) (divisor : ℕ) (multipliers : List ℕ) → greatest_usage net loads ≤ divisor →
     (h : ℕ) → h < link_count net →
-    (get_or multipliers h 0 ≤ get_or (grown net loads divisor multipliers) h 0)
-    × (get_or (grown net loads divisor multipliers) h 0 ≤ 2 * get_or multipliers h 0)
+    (get_or multipliers h 0 ≤ get_or (grown_multipliers net loads divisor multipliers) h 0)
+    × (get_or (grown_multipliers net loads divisor multipliers) h 0 ≤ 2 * get_or multipliers h 0)
 at_most_double net loads divisor multipliers most h inside =
     let is = at_link net (grown_multiplier net loads divisor multipliers) h inside in
     let usage : usage_of net loads h ≤ divisor = omega (arith, below_greatest (link_count net) (usage_of net loads) h inside, most) in

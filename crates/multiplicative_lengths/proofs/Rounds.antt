@@ -1,9 +1,8 @@
 -- Rounds, one after the other, whose multipliers grow.
-use Rattle.std.proofs.Common.{◌≡◌, inl, inr, ℕ, zero, suc, ◌+◌, ◌<◌, ◌≤◌, List, [], ◌∷◌, ◌++◌, length, get_or, arith, refl, ap, sym, ◌∙◌, subst}
-use Rattle.std.proofs.lemmas.Bool.{cases_lt}
-use Rattle.std.proofs.lemmas.List.{get_or_append_left, get_or_push, length-append}
+use Rattle.std.proofs.Common.{◌≡◌, ℕ, zero, suc, ◌+◌, ◌<◌, ◌≤◌, List, [], ◌∷◌, ◌++◌, length, get_or, arith, refl, ap, ◌∙◌, subst}
 use Rattle.te_model.specs.declared.network.Network.{Network}
-use Rattle.multiplicative_lengths.specs.Growth.{first_multipliers, greatest_usage, grown, multipliers_after}
+use Rattle.te_model.proofs.Choices.{pushed_count, pushed_each}
+use Rattle.multiplicative_lengths.specs.Growth.{first_multipliers, greatest_usage, grown_multipliers, multipliers_after}
 use Rattle.multiplicative_lengths.proofs.Multiplying.{HaveGrown, first_grown, next_grown}
 
 -- loads and divisors that agree before round j give it the same multipliers
@@ -11,9 +10,9 @@ pub multipliers_same : (net : Network) (loads loads' : ℕ → List ℕ) (diviso
     ((i : ℕ) → i < j → divisor i ≡ divisor' i) → multipliers_after net loads divisor j ≡ multipliers_after net loads' divisor' j
 multipliers_same net loads loads' divisor divisor' zero same_loads same_divisors = refl
 multipliers_same net loads loads' divisor divisor' (suc j) same_loads same_divisors =
-    ap (λ l. grown net l (divisor j) (multipliers_after net loads divisor j)) (same_loads j (omega arith))
-    ∙ (ap (λ d. grown net (loads' j) d (multipliers_after net loads divisor j)) (same_divisors j (omega arith))
-    ∙ ap (λ m. grown net (loads' j) (divisor' j) m)
+    ap (λ l. grown_multipliers net l (divisor j) (multipliers_after net loads divisor j)) (same_loads j (omega arith))
+    ∙ (ap (λ d. grown_multipliers net (loads' j) d (multipliers_after net loads divisor j)) (same_divisors j (omega arith))
+    ∙ ap (λ m. grown_multipliers net (loads' j) (divisor' j) m)
     (multipliers_same net loads loads' divisor divisor' j (λ i below. same_loads i (omega arith)) (λ i below. same_divisors i (omega arith))))
 
 -- the multipliers of each round are within their limits
@@ -49,23 +48,15 @@ rounds_none Round none IsRound net loads divisor multipliers first = record {
 pub rounds_more : (Round : Type 0) (none : Round) (IsRound : ℕ → List ℕ → Round → Type 0) (net : Network) (loads loads' : ℕ → List ℕ) (divisor divisor' : ℕ → ℕ)
     (j : ℕ) (multipliers next : List ℕ) (rounds : List Round) (round : Round) → RoundsSoFar Round none IsRound net loads divisor j multipliers rounds →
     ((i : ℕ) → i < j → loads i ≡ loads' i) → ((i : ℕ) → i < j → divisor i ≡ divisor' i) → IsRound j multipliers round →
-    greatest_usage net (loads' j) ≤ divisor' j → next ≡ grown net (loads' j) (divisor' j) multipliers →
+    greatest_usage net (loads' j) ≤ divisor' j → next ≡ grown_multipliers net (loads' j) (divisor' j) multipliers →
     RoundsSoFar Round none IsRound net loads' divisor' (j + 1) next (rounds ++ round ∷ [])
 rounds_more Round none IsRound net loads loads' divisor divisor' j multipliers next rounds round far same_loads same_divisors is most grows = record {
-  count = omega (arith, far.count, length-append rounds (round ∷ []));
-  each = λ i below. elim (cases_lt i j) [
-    | inl lt ↦
-        subst (λ m. IsRound i m (get_or (rounds ++ round ∷ []) i none))
-        (multipliers_same net loads loads' divisor divisor' i (λ k before. same_loads k (omega arith)) (λ k before. same_divisors k (omega arith)))
-        (subst (λ r. IsRound i (multipliers_after net loads divisor i) r) (sym (get_or_append_left rounds (round ∷ []) none i (omega (arith, far.count, lt))))
-        (far.each i lt))
-    | inr ge ↦
-        let same : j ≡ i = omega arith in
-        subst (λ i. IsRound i (multipliers_after net loads' divisor' i) (get_or (rounds ++ round ∷ []) i none)) same
-        (subst (λ m. IsRound j m (get_or (rounds ++ round ∷ []) j none)) (far.are ∙ kept)
-        (subst (λ r. IsRound j multipliers r) (sym (get_or_push rounds round none j far.count)) is))
-  ];
-  are = subst (λ n. next ≡ multipliers_after net loads' divisor' n) suc_is (grows ∙ ap (λ m. grown net (loads' j) (divisor' j) m) (far.are ∙ kept));
+  count = pushed_count rounds round j far.count;
+  each = pushed_each (λ i r. IsRound i (multipliers_after net loads' divisor' i) r) rounds round none j far.count
+      (λ i below. subst (λ m. IsRound i m (get_or rounds i none))
+      (multipliers_same net loads loads' divisor divisor' i (λ k before. same_loads k (omega arith)) (λ k before. same_divisors k (omega arith))) (far.each i below))
+      (subst (λ m. IsRound j m round) (far.are ∙ kept) is);
+  are = subst (λ n. next ≡ multipliers_after net loads' divisor' n) suc_is (grows ∙ ap (λ m. grown_multipliers net (loads' j) (divisor' j) m) (far.are ∙ kept));
   grown = next_grown net j (loads' j) (divisor' j) multipliers next far.grown most grows;
 }
   where

@@ -40,10 +40,10 @@ abbrev pub grown_multiplier : Network → List ℕ → ℕ → List ℕ → ℕ 
 grown_multiplier net loads divisor multipliers h =
     slice_index multipliers h + quotient_up (slice_index multipliers h * usage_of net loads h) divisor
 
-abbrev pub grown : Network → List ℕ → ℕ → List ℕ → List ℕ
-grown net loads divisor multipliers = for_each_link net (grown_multiplier net loads divisor multipliers)
+abbrev pub grown_multipliers : Network → List ℕ → ℕ → List ℕ → List ℕ
+grown_multipliers net loads divisor multipliers = for_each_link net (grown_multiplier net loads divisor multipliers)
 
 -- the multipliers after so many rounds, in each of which they grow by its loads over its divisor
 abbrev pub multipliers_after : Network → (ℕ → List ℕ) → (ℕ → ℕ) → ℕ → List ℕ
 multipliers_after net loads divisor zero = first_multipliers net
-multipliers_after net loads divisor (suc j) = grown net (loads j) (divisor j) (multipliers_after net loads divisor j)
+multipliers_after net loads divisor (suc j) = grown_multipliers net (loads j) (divisor j) (multipliers_after net loads divisor j)

@@ -3,7 +3,7 @@ ghost use Rattle.std.specs.Prelude.{◌≡◌, ◌+◌, ◌*◌, ◌/◌, ◌<�
 ghost use Rattle.te_model.specs.Network.{is_well_formed, link_count};
 ghost use Rattle.te_model.specs.declared.units.TheConstants.{RATIO_UNIT};
 ghost use Rattle.te_model.specs.Division.{quotient_up};
-ghost use Rattle.multiplicative_lengths.specs.Growth.{greatest_usage, grown};
+ghost use Rattle.multiplicative_lengths.specs.Growth.{greatest_usage, grown_multipliers};
 
 use std::alloc::Global;
 use te_model::{Memory, Network, RATIO_UNIT, ceil_div};
@@ -64,7 +64,7 @@ pub fn grow(
     requires divisor { greatest_usage net.now loads.now ≤ divisor }
     requires count { length multipliers.now ≡ link_count net.now }
     requires moderate { All (λ m. m ≤ 2 ^ 38) multipliers.now }
-    ensures { IfOk result (λ m. m.items ≡ grown net.now loads.now divisor multipliers.now) }
+    ensures { IfOk result (λ m. m.items ≡ grown_multipliers net.now loads.now divisor multipliers.now) }
 {
     let links = net.links.as_slice();
     let mut next = Vec::with_capacity(alloc, links.len())?;

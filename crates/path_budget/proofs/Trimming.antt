@@ -20,12 +20,12 @@ use Rattle.te_model.proofs.Counts.{count_below-all, count_below-bound}
 use Rattle.te_model.proofs.Ranks.{count_among_first}
 use Rattle.te_model.proofs.Tests.{all_from_tests, all_to_tests}
 use Rattle.routing.specs.Merge.{no_path, links_at}
-use Rattle.routing.specs.Normal.{normalized}
+use Rattle.routing.specs.Normal.{with_whole_weight}
 use Rattle.routing.specs.Routes.{IsRoutingOf, HasFewPaths}
 use Rattle.routing.specs.Split.{is_split, are_splits, total_weight}
 use Rattle.routing.proofs.Ascending.{ascending_at, ascending_from}
 use Rattle.routing.proofs.Normalizing.{length-normalized, links_at-normalized, positive-normalized, some_weight, total-normalized}
-use Rattle.path_budget.specs.Budget.{weight_at, is_heavy, heaviest, trimmed_pair, trimmed}
+use Rattle.path_budget.specs.Budget.{weight_at, is_heavy, heaviest, trimmed_pair, trimmed_routes}
 use Rattle.path_budget.proofs.Heaviest.{heavy_so_far}
 
 -- a split of some demand, wherever its paths lead
@@ -101,15 +101,15 @@ trimmed_split budget r some is =
     let heavy = heaviest budget r.paths in
     let same = links_at-normalized heavy in
     record {
-      ascending = ascending_from (normalized heavy) (λ k below.
+      ascending = ascending_from (with_whole_weight heavy) (λ k below.
           let inside : suc k < length heavy = omega (arith, below, length-normalized heavy) in
           from heavy k (same k (omega arith)) (same (suc k) inside) (ascending_at heavy k kept.ascending inside));
       weights = positive-normalized heavy kept.some kept.weights kept.whole;
       whole = total-normalized heavy (some_weight heavy kept.some kept.weights);
     }
   where
-    from : (heavy : List PathShare) (k : ℕ) → links_at (normalized heavy) k ≡ links_at heavy k → links_at (normalized heavy) (suc k) ≡ links_at heavy (suc k) →
-        list_below (links_at heavy k) (links_at heavy (suc k)) ≡ true → list_below (links_at (normalized heavy) k) (links_at (normalized heavy) (suc k)) ≡ true
+    from : (heavy : List PathShare) (k : ℕ) → links_at (with_whole_weight heavy) k ≡ links_at heavy k → links_at (with_whole_weight heavy) (suc k) ≡ links_at heavy (suc k) →
+        list_below (links_at heavy k) (links_at heavy (suc k)) ≡ true → list_below (links_at (with_whole_weight heavy) k) (links_at (with_whole_weight heavy) (suc k)) ≡ true
     from heavy k one two is = cc
 
 pub trimmed_few : (budget : ℕ) (r : PairRoutes) → 1 ≤ budget → IsSplit r.paths → length (trimmed_pair budget r).paths ≤ budget
@@ -124,10 +124,10 @@ trimmed_on budget net r some split =
     let made = trimmed_split budget r some is in
     let heavy = heaviest budget r.paths in
     record {
-      paths = All-from_get_or (λ s. IsTrue (is_path net r.pair.src r.pair.dst s.links)) (normalized heavy) no_path (λ k below.
+      paths = All-from_get_or (λ s. IsTrue (is_path net r.pair.src r.pair.dst s.links)) (with_whole_weight heavy) no_path (λ k below.
           let inside : k < length heavy = omega (arith, below, length-normalized heavy) in
           let (i, within, at) = kept.from k inside in
-          let links : links_at (normalized heavy) k ≡ links_at r.paths i = links_at-normalized heavy k inside ∙ ap (λ (s : PathShare). s.links) at in
+          let links : links_at (with_whole_weight heavy) k ≡ links_at r.paths i = links_at-normalized heavy k inside ∙ ap (λ (s : PathShare). s.links) at in
           subst (λ (l : List ℕ). is_path net r.pair.src r.pair.dst l ≡ true) (sym links)
           (All-get_or (λ s. IsTrue (is_path net r.pair.src r.pair.dst s.links)) r.paths i no_path within split.paths));
       distinct = made.ascending;
@@ -136,7 +136,7 @@ trimmed_on budget net r some split =
     }
 
 pub trimmed_routing : (budget : ℕ) (net : Network) (pairs : List Pair) (routes : List PairRoutes) → 1 ≤ budget → IsRoutingOf net pairs routes →
-    IsRoutingOf net pairs (trimmed budget routes)
+    IsRoutingOf net pairs (trimmed_routes budget routes)
 trimmed_routing budget net pairs routes some is = record {
   in_order = map-map (λ (r : PairRoutes). r.pair) (trimmed_pair budget) routes ∙ is.in_order;
   splits = All-map (IsPathSplit net) (trimmed_pair budget) routes
@@ -146,13 +146,13 @@ trimmed_routing budget net pairs routes some is = record {
 all_splits : (routes : List PairRoutes) → are_splits routes ≡ true → All (λ r. is_split r ≡ true) routes
 all_splits routes splits = all_from_tests is_split (λ r. is_split r ≡ true) (λ r e. e) routes splits
 
-pub trimmed_splits : (budget : ℕ) (routes : List PairRoutes) → 1 ≤ budget → are_splits routes ≡ true → are_splits (trimmed budget routes) ≡ true
-trimmed_splits budget routes some splits = all_to_tests is_split (λ r. is_split r ≡ true) (λ r e. e) (trimmed budget routes)
+pub trimmed_splits : (budget : ℕ) (routes : List PairRoutes) → 1 ≤ budget → are_splits routes ≡ true → are_splits (trimmed_routes budget routes) ≡ true
+trimmed_splits budget routes some splits = all_to_tests is_split (λ r. is_split r ≡ true) (λ r e. e) (trimmed_routes budget routes)
     (All-map (λ r. is_split r ≡ true) (trimmed_pair budget) routes
     (All-weaker (λ r. is_split r ≡ true) (λ r. is_split (trimmed_pair budget r) ≡ true)
     (λ r split. split_from (trimmed_pair budget r) (trimmed_split budget r some (split_parts r split))) routes (all_splits routes splits)))
 
-pub trimmed_has_few : (budget : ℕ) (routes : List PairRoutes) → 1 ≤ budget → are_splits routes ≡ true → HasFewPaths budget (trimmed budget routes)
+pub trimmed_has_few : (budget : ℕ) (routes : List PairRoutes) → 1 ≤ budget → are_splits routes ≡ true → HasFewPaths budget (trimmed_routes budget routes)
 trimmed_has_few budget routes some splits =
     All-map (λ r. length r.paths ≤ budget) (trimmed_pair budget) routes
     (All-weaker (λ r. is_split r ≡ true) (λ r. length (trimmed_pair budget r).paths ≤ budget)

@@ -4,7 +4,7 @@ use Rattle.te_model.specs.declared.route.PathShare.{PathShare}
 use Rattle.te_model.specs.declared.route.PairRoutes.{PairRoutes}
 use Rattle.te_model.specs.Apportion.{is_among_first}
 use Rattle.routing.specs.Merge.{path_at}
-use Rattle.routing.specs.Normal.{normalized}
+use Rattle.routing.specs.Normal.{with_whole_weight}
 
 abbrev pub weight_at : List PathShare → ℕ → ℕ
 weight_at paths i = (path_at paths i).weight
@@ -23,7 +23,7 @@ heaviest budget paths = heavy_below budget paths (length paths)
 
 -- the heaviest paths of the pair, their weights scaled to the unit of shares
 abbrev pub trimmed_pair : ℕ → PairRoutes → PairRoutes
-trimmed_pair budget r = record { pair = r.pair; paths = normalized (heaviest budget r.paths) }
+trimmed_pair budget r = record { pair = r.pair; paths = with_whole_weight (heaviest budget r.paths) }
 
-abbrev pub trimmed : ℕ → List PairRoutes → List PairRoutes
-trimmed budget routes = map (trimmed_pair budget) routes
+abbrev pub trimmed_routes : ℕ → List PairRoutes → List PairRoutes
+trimmed_routes budget routes = map (trimmed_pair budget) routes

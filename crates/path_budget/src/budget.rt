@@ -4,7 +4,7 @@ ghost use Rattle.te_model.specs.declared.network.Network.{Network};
 ghost use Rattle.te_model.specs.declared.route.Pair.{Pair};
 ghost use Rattle.routing.specs.Routes.{HasFewPaths, IsRoutingOf};
 ghost use Rattle.routing.specs.Split.{is_split};
-ghost use Rattle.path_budget.specs.Budget.{trimmed, trimmed_pair};
+ghost use Rattle.path_budget.specs.Budget.{trimmed_routes, trimmed_pair};
 
 use crate::heavy::heaviest;
 use routing::{Routing, normalize};
@@ -33,7 +33,7 @@ fn trim_pair(alloc: Global, routes: &PairRoutes, budget: u32) -> Result<PairRout
 pub fn trim(alloc: Global, routing: &Routing, budget: u32) -> Result<Routing, Memory>
     requires some { 1 ≤ budget }
     requires few { budget ≤ 32 }
-    ensures trimmed { IfOk result (λ r. r.routes ≡ trimmed budget routing.now.routes) }
+    ensures trimmed { IfOk result (λ r. r.routes ≡ trimmed_routes budget routing.now.routes) }
     ensures few { IfOk result (λ r. HasFewPaths budget r.routes) }
     ensures routing { (net : Network) → (pairs : List Pair) → IsRoutingOf net pairs routing.now.routes → IfOk result (λ r. IsRoutingOf net pairs r.routes) }
 {

@@ -4,3 +4,6 @@ mod PathLinks
 mod Loading
 mod Mixing
 mod TreeSplits
+mod OrdersExist
+mod MixesExist
+pub mod Existence

@@ -1,12 +1,11 @@
 -- The loads of a tree, link by link.
-use Rattle.std.proofs.Common.{◌≡◌, inl, inr, ℕ, ◌+◌, ◌^◌, ◌<◌, ◌≤◌, List, [], ◌∷◌, ◌++◌, Some, length, get_or, replicate, arith, refl, ap, sym, ◌∙◌, subst}
-use Rattle.std.proofs.lemmas.Bool.{cases_lt}
-use Rattle.std.proofs.lemmas.List.{get_or_append_left, length-append}
-use Rattle.std.proofs.Math.Seq.{get_or-append_seam}
+use Rattle.std.proofs.Common.{◌≡◌, ℕ, ◌+◌, ◌^◌, ◌<◌, ◌≤◌, List, [], ◌∷◌, ◌++◌, Some, length, get_or, replicate, arith, refl, ap, sym, ◌∙◌}
+use Rattle.std.proofs.lemmas.List.{get_or_push}
 use Rattle.te_model.specs.declared.network.Network.{Network}
 use Rattle.te_model.specs.declared.limits.TheConstants.{FORMAT_2}
 use Rattle.te_model.specs.Network.{link_count, capacity_of, tail_of, head_of}
 use Rattle.te_model.specs.Path.{amount_on}
+use Rattle.te_model.proofs.Choices.{pushed_count, pushed_each}
 use Rattle.tree_embed.specs.Embedding.{Embedding}
 use Rattle.tree_embed.specs.TreePaths.{IsTreePath}
 use Rattle.multiplicative_lengths.proofs.Loading.{LoadsSoFar, length-loads_of, loads_done, loads_kept, loads_more, loads_none}
@@ -33,22 +32,11 @@ pub tree_loads_more : (net : Network) (tree : Embedding) (h : ℕ) (loads next p
     ((e : ℕ) → get_or next e 0 ≡ get_or loads e 0 + amount_on path (capacity_of net h) e) → TreeLoadsSoFar net tree (h + 1) next
 tree_loads_more net tree h loads next path far kept is small added = record {
   paths = far.paths ++ path ∷ [];
-  count = omega (arith, far.count, length-append far.paths (path ∷ []));
-  each = λ k below. elim (cases_lt k h) [
-    | inl lt ↦
-        subst (λ p. IsTreePath tree (tail_of net k) (head_of net k) (Some p))
-        (sym (get_or_append_left far.paths (path ∷ []) [] k (omega (arith, far.count, lt)))) (far.each k lt)
-    | inr ge ↦
-        let e : k ≡ h = omega arith in
-        subst (λ k. IsTreePath tree (tail_of net k) (head_of net k) (Some (get_or (far.paths ++ path ∷ []) k []))) (sym e)
-        (subst (λ p. IsTreePath tree (tail_of net h) (head_of net h) (Some p)) (sym at_end) is)
-  ];
+  count = pushed_count far.paths path h far.count;
+  each = pushed_each (λ k p. IsTreePath tree (tail_of net k) (head_of net k) (Some p)) far.paths path [] h far.count far.each is;
   loaded = loads_more net (capacity_of net) (2 ^ 32) (far.paths ++ path ∷ []) h loads next path
-      (loads_kept net (capacity_of net) (2 ^ 32) far.paths (path ∷ []) h loads far.loaded far.count) kept at_end small added;
+      (loads_kept net (capacity_of net) (2 ^ 32) far.paths (path ∷ []) h loads far.loaded far.count) kept (get_or_push far.paths path [] h far.count) small added;
 }
-  where
-    at_end : get_or (far.paths ++ path ∷ []) h [] ≡ path
-    at_end = subst (λ n. get_or (far.paths ++ path ∷ []) n [] ≡ path) far.count (get_or-append_seam far.paths path [] [])
 
 pub tree_loads_done : (net : Network) (tree : Embedding) (h : ℕ) (loads : List ℕ) → TreeLoadsSoFar net tree h loads → h ≡ link_count net → AreTreeLoads net tree loads
 tree_loads_done net tree h loads far done = (

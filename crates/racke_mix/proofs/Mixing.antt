@@ -1,14 +1,14 @@
 -- The rounds of the mix, one after the other.
-use Rattle.std.proofs.Common.{◌≡◌, inl, inr, ℕ, ◌+◌, ◌<◌, List, [], ◌∷◌, ◌++◌, All, length, arith, refl, ap, sym, ◌∙◌, subst}
-use Rattle.std.proofs.lemmas.Bool.{cases_lt}
-use Rattle.std.proofs.lemmas.List.{get_or_append_left, get_or_push, length-append}
+use Rattle.std.proofs.Common.{◌≡◌, ℕ, ◌+◌, ◌<◌, List, [], ◌∷◌, ◌++◌, All, length, arith, refl, ap, sym, ◌∙◌, subst}
+use Rattle.std.proofs.lemmas.List.{get_or_append_left, get_or_push}
 use Rattle.std.proofs.lemmas.List.Elements.{All-from_get_or}
 use Rattle.rand_chacha.specs.ChaCha.{ChaCha}
 use Rattle.te_model.specs.declared.network.Network.{Network}
 use Rattle.te_model.specs.Network.{node_count}
+use Rattle.te_model.proofs.Choices.{pushed_count, pushed_each}
 use Rattle.random_words.specs.Words.{generator}
 use Rattle.random_words.proofs.Moving.{generator_round}
-use Rattle.multiplicative_lengths.specs.Growth.{first_multipliers, greatest_usage, grown}
+use Rattle.multiplicative_lengths.specs.Growth.{first_multipliers, greatest_usage, grown_multipliers}
 use Rattle.multiplicative_lengths.proofs.Rounds.{RoundsSoFar, rounds_more, rounds_none}
 use Rattle.racke_mix.specs.declared.round.Round.{Round}
 use Rattle.racke_mix.specs.Mix.{AreTreeLoads, IsMix, IsTreeRound, generator_at, loads_at, no_round, round_at}
@@ -38,27 +38,19 @@ mix_none net seed rng multipliers start first = record {
 pub mix_more : (net : Network) (seed j : ℕ) (rng rng' : ChaCha) (multipliers loads next : List ℕ) (rounds : List Round) (round : Round) →
     MixSoFar net seed j rng multipliers rounds → IsTreeRound net rng multipliers round →
     rng' ≡ record rng { word_pos = rng.word_pos + (node_count net + 1) } → AreTreeLoads net round.tree loads →
-    next ≡ grown net loads (greatest_usage net loads) multipliers →
+    next ≡ grown_multipliers net loads (greatest_usage net loads) multipliers →
     MixSoFar net seed (j + 1) rng' next (rounds ++ round ∷ [])
 mix_more net seed j rng rng' multipliers loads next rounds round so is on put grows = record {
   loads = so.loads ++ loads ∷ [];
-  loads_count = omega (arith, so.loads_count, length-append so.loads (loads ∷ []));
-  are_loads = λ i below. elim (cases_lt i j) [
-    | inl lt ↦
-        subst (λ (r : Round). AreTreeLoads net r.tree (loads_at (so.loads ++ loads ∷ []) i))
-        (sym (get_or_append_left rounds (round ∷ []) no_round i (omega (arith, so.far.count, lt))))
-        (subst (AreTreeLoads net (round_at rounds i).tree) (kept i lt) (so.are_loads i lt))
-    | inr ge ↦
-        let same : j ≡ i = omega arith in
-        subst (λ i. AreTreeLoads net (round_at (rounds ++ round ∷ []) i).tree (loads_at (so.loads ++ loads ∷ []) i)) same
-        (subst (λ (r : Round). AreTreeLoads net r.tree (loads_at (so.loads ++ loads ∷ []) j)) (sym (get_or_push rounds round no_round j so.far.count))
-        (subst (AreTreeLoads net round.tree) (sym new) put))
-  ];
+  loads_count = pushed_count so.loads loads j so.loads_count;
+  are_loads = pushed_each (λ i (r : Round). AreTreeLoads net r.tree (loads_at (so.loads ++ loads ∷ []) i)) rounds round no_round j so.far.count
+      (λ i below. subst (AreTreeLoads net (round_at rounds i).tree) (kept i below) (so.are_loads i below))
+      (subst (AreTreeLoads net round.tree) (sym new) put);
   rng_is = generator_round seed 0 (node_count net + 1) j rng rng' so.rng_is on;
   far = rounds_more Round no_round (IsRoundAt net seed) net (loads_at so.loads) (loads_at (so.loads ++ loads ∷ []))
       (λ i. greatest_usage net (loads_at so.loads i)) (λ i. greatest_usage net (loads_at (so.loads ++ loads ∷ []) i)) j multipliers next rounds round so.far
       kept (λ i below. ap (greatest_usage net) (kept i below)) (subst (λ (g : ChaCha). IsTreeRound net g multipliers round) so.rng_is is) (omega arith)
-      (grows ∙ ap (λ l. grown net l (greatest_usage net l) multipliers) (sym new));
+      (grows ∙ ap (λ l. grown_multipliers net l (greatest_usage net l) multipliers) (sym new));
 }
   where
     kept : (i : ℕ) → i < j → loads_at so.loads i ≡ loads_at (so.loads ++ loads ∷ []) i

@@ -1,15 +1,13 @@
 -- The tree paths of a pair, round by round, and the split of its demand over them.
-use Rattle.std.proofs.Common.{◌≡◌, inl, inr, ℕ, ◌+◌, ◌<◌, ◌≤◌, true, List, [], ◌∷◌, ◌++◌, Some, All, length, get_or, arith, refl, sym, ◌∙◌, subst}
+use Rattle.std.proofs.Common.{◌≡◌, ℕ, ◌+◌, ◌<◌, ◌≤◌, true, List, [], ◌∷◌, ◌++◌, Some, All, length, get_or, arith, refl, ◌∙◌}
 use Rattle.std.specs.Prelude.{IsTrue}
-use Rattle.std.proofs.lemmas.Bool.{cases_lt}
-use Rattle.std.proofs.lemmas.List.{get_or_append_left, length-append}
 use Rattle.std.proofs.lemmas.List.Elements.{All-nil, All-push}
-use Rattle.std.proofs.Math.Seq.{get_or-append_seam}
 use Rattle.te_model.specs.declared.network.Network.{Network}
 use Rattle.te_model.specs.declared.route.Pair.{Pair}
 use Rattle.te_model.specs.declared.route.PairRoutes.{PairRoutes}
 use Rattle.te_model.specs.declared.route.PathShare.{PathShare}
 use Rattle.te_model.specs.Path.{is_path}
+use Rattle.te_model.proofs.Choices.{pushed_count, pushed_each}
 use Rattle.tree_embed.specs.TreePaths.{IsTreePath}
 use Rattle.routing.specs.Even.{IsEvenMix}
 use Rattle.routing.proofs.EvenSplits.{even_few, even_split}
@@ -25,24 +23,11 @@ pub record PathsSoFar (net : Network) (rounds : List Round) (s t k : ℕ) (paths
   pub each : (j : ℕ) → j < k → IsTreePath (round_at rounds j).tree s t (Some (get_or paths j []))
   pub sound : All (λ p. IsTrue (is_path net s t p)) paths
 
-pub paths_none : (net : Network) (rounds : List Round) (s t : ℕ) → PathsSoFar net rounds s t 0 []
-paths_none net rounds s t = record { count = refl; each = λ j below. absurd (omega arith); sound = All-nil (λ p. IsTrue (is_path net s t p)) }
-
 pub paths_more : (net : Network) (rounds : List Round) (s t k : ℕ) (paths : List (List ℕ)) (path : List ℕ) → PathsSoFar net rounds s t k paths →
     IsTreePath (round_at rounds k).tree s t (Some path) → is_path net s t path ≡ true → PathsSoFar net rounds s t (k + 1) (paths ++ path ∷ [])
 paths_more net rounds s t k paths path far is sound = record {
-  count = omega (arith, far.count, length-append paths (path ∷ []));
-  each = λ j below. elim (cases_lt j k) [
-    | inl lt ↦
-        subst (λ p. IsTreePath (round_at rounds j).tree s t (Some p)) (sym (get_or_append_left paths (path ∷ []) [] j (omega (arith, far.count, lt)))) (far.each j lt)
-    | inr ge ↦
-        let same : k ≡ j = omega arith in
-        let at : get_or (paths ++ path ∷ []) k [] ≡ path =
-        subst (λ n. get_or (paths ++ path ∷ []) n [] ≡ path) far.count (get_or-append_seam paths path [] [])
-        in
-        subst (λ j. IsTreePath (round_at rounds j).tree s t (Some (get_or (paths ++ path ∷ []) j []))) same
-        (subst (λ p. IsTreePath (round_at rounds k).tree s t (Some p)) (sym at) is)
-  ];
+  count = pushed_count paths path k far.count;
+  each = pushed_each (λ j p. IsTreePath (round_at rounds j).tree s t (Some p)) paths path [] k far.count far.each is;
   sound = All-push (λ p. IsTrue (is_path net s t p)) paths path far.sound sound;
 }
 

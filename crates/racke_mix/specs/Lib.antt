@@ -1,3 +1,4 @@
 pub mod Draws
 pub mod Mix
 pub mod Racke
+pub mod Laws

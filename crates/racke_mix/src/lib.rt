@@ -6,11 +6,13 @@
 #![tactic(auto)]
 
 mod drawing;
+mod law;
 mod loads;
 mod racke;
 mod round;
 mod rounds;
 mod split;
 
+pub use law::{mixes_exist, racke_plans_exist};
 pub use racke::{Racke, RackePlan};
 pub use round::Round;

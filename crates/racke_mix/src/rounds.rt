@@ -1,7 +1,7 @@
 //! The rounds of the mix.
 ghost use Rattle.std.specs.Prelude.{◌≡◌, ◌≤◌, ◌^◌, ℕ, List, All, IfOk, IsTrue, length};
 ghost use Rattle.te_model.specs.Network.{is_well_formed, link_count};
-ghost use Rattle.multiplicative_lengths.specs.Growth.{greatest_usage, grown};
+ghost use Rattle.multiplicative_lengths.specs.Growth.{greatest_usage, grown_multipliers};
 ghost use Rattle.racke_mix.specs.Mix.{AreTreeLoads, IsMix};
 
 use crate::loads::loads_of;
@@ -45,7 +45,7 @@ fn grow_by_tree(
     requires own { tree.now.network ≡ net.now }
     requires count { length multipliers.now ≡ link_count net.now }
     requires moderate { All (λ m. m ≤ 2 ^ 38) multipliers.now }
-    ensures { IfOk result (λ m. (loads : List ℕ) × AreTreeLoads net.now tree.now loads × (m.items ≡ grown net.now loads (greatest_usage net.now loads) multipliers.now)) }
+    ensures { IfOk result (λ m. (loads : List ℕ) × AreTreeLoads net.now tree.now loads × (m.items ≡ grown_multipliers net.now loads (greatest_usage net.now loads) multipliers.now)) }
 {
     let loads = loads_of(alloc, net, tree)?;
     let most = greatest_usage(net, &loads);

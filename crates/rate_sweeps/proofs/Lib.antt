@@ -1,5 +1,4 @@
 pub mod Among
-pub mod Lengths
 pub mod Mixing
 pub mod Passed
 pub mod PathLinks

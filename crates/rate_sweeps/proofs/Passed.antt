@@ -11,7 +11,7 @@ use Rattle.te_model.specs.PathRouting.{IsPathRouting, IsPathSplit}
 use Rattle.routing.specs.Merge.{HasLinks}
 use Rattle.routing.specs.Routes.{HasFewPaths}
 use Rattle.rate_sweeps.specs.Shifts.{IsShifted, UsesOnlyWays}
-use Rattle.rate_sweeps.specs.Sweeps.{AreWays}
+use Rattle.rate_sweeps.specs.Sweeps.{ArePathsOfPairs}
 use Rattle.rate_sweeps.proofs.Shifted.{shifted_split, unshifted}
 
 -- the first n pairs are as they were or shifted, the others as they were
@@ -19,9 +19,6 @@ pub record ShiftedSoFar (limit : ℕ) (old : List PairRoutes) (offered : List (L
   pub count : length now ≡ length old
   pub passed : (p : ℕ) → p < n → IsShifted limit (routes_at old p) (get_or offered p []) (routes_at now p)
   pub left : (p : ℕ) → n ≤ p → routes_at now p ≡ routes_at old p
-
-pub passed_none : (limit : ℕ) (old : List PairRoutes) (offered : List (List ℕ)) → ShiftedSoFar limit old offered 0 old
-passed_none limit old offered = record { count = refl; passed = λ p below. absurd (omega (arith, below)); left = λ p le. refl }
 
 -- a pair that is not passed yet has its split
 pub left_split : (net : Network) (limit : ℕ) (old : List PairRoutes) (offered : List (List ℕ)) (n : ℕ) (now : List PairRoutes) → IsPathRouting net old →
@@ -86,7 +83,7 @@ passed_pairs limit old offered n now far all =
 
 -- and keep splits over paths of the network
 pub passed_splits : (net : Network) (limit : ℕ) (old : List PairRoutes) (offered : List (List ℕ)) (n : ℕ) (now : List PairRoutes) → IsPathRouting net old →
-    AreWays net old offered → ShiftedSoFar limit old offered n now → length old ≤ n → IsPathRouting net now
+    ArePathsOfPairs net old offered → ShiftedSoFar limit old offered n now → length old ≤ n → IsPathRouting net now
 passed_splits net limit old offered n now splits ways far all = All-from_get_or (IsPathSplit net) now no_routes (λ p inside.
     let below : p < length old = omega (arith, inside, far.count) in
     shifted_split net limit (routes_at old p) (routes_at now p) (get_or offered p []) (All-get_or (IsPathSplit net) old p no_routes below splits) (ways.each p below)

@@ -9,10 +9,10 @@ use Rattle.te_model.specs.Network.{link_count}
 use Rattle.te_model.specs.Path.{is_path, routes_at}
 use Rattle.te_model.specs.PathRouting.{IsPathSplit}
 use Rattle.te_model.proofs.Chains.{path_links}
-use Rattle.rate_sweeps.specs.Sweeps.{AreOnLinks, AreWays, HaveLinks}
+use Rattle.rate_sweeps.specs.Sweeps.{AreOnLinks, ArePathsOfPairs, HaveLinks}
 
 -- paths of pairs run over links of the network
-pub ways_on_links : (net : Network) (routes : List PairRoutes) (paths : List (List ℕ)) → AreWays net routes paths → AreOnLinks net paths
+pub ways_on_links : (net : Network) (routes : List PairRoutes) (paths : List (List ℕ)) → ArePathsOfPairs net routes paths → AreOnLinks net paths
 ways_on_links net routes paths ways = All-from_get_or (λ (links : List ℕ). All (λ h. h < link_count net) links) paths [] (λ p below.
     path_links net (routes_at routes p).pair.src (routes_at routes p).pair.dst (get_or paths p []) (ways.each p (omega (arith, below, ways.count))))
 

@@ -15,18 +15,9 @@ use Rattle.rate_sweeps.specs.Shifts.{UsesOnlyWays}
 use Rattle.routing.proofs.OwnPaths.{has_inside}
 use Rattle.routing.proofs.Splits.{split_some}
 
--- the best routing of a descent is one of the pairs, and so is that of the next turn
-pub best_routing : (net : Network) (pairs : List Pair) (demand : List ℕ) (start : List PairRoutes) (d : Descent) → IsRoutingOf net pairs start →
-    IsDescent net demand start d → IsRoutingOf net pairs d.best.routes
-best_routing net pairs demand start d of is = record { in_order = is.best_pairs ∙ of.in_order; splits = is.best }
-
 pub turn_routing : (net : Network) (pairs : List Pair) (demand : List ℕ) (start : List PairRoutes) (d : Descent) → IsRoutingOf net pairs start →
     IsDescent net demand start d → IsRoutingOf net pairs d.routing.routes
 turn_routing net pairs demand start d of is = record { in_order = is.routing_pairs ∙ of.in_order; splits = is.routing }
-
--- what holds of the start holds of both routings before the first turn
-pub both_start : (P : List PairRoutes → Type 0) (start : List PairRoutes) (d : Descent) → d.routing.routes ≡ start → d.best.routes ≡ start → P start → BothKeep P d
-both_start P start d routing best holds = (subst P (sym routing) holds, subst P (sym best) holds)
 
 -- what holds of the routing that a turn made and of the best one before holds of both routings after the turn
 pub both_turned : (P : List PairRoutes → Type 0) (old new : Descent) (made : List PairRoutes) → (new.best.routes ≡ made) ⊎ (new.best.routes ≡ old.best.routes) →

@@ -11,7 +11,7 @@ abbrev pub cost_at : List ℕ → List PathShare → ℕ → ℕ
 cost_at lengths paths k = sum_along lengths (links_at paths k)
 
 -- the first place among the first n at which the number is least
-pub record IsFirstLeast (number : ℕ → ℕ) (n place : ℕ) : Type 0 where
+pub record IsFirstLeastPlace (number : ℕ → ℕ) (n place : ℕ) : Type 0 where
   pub least : (k : ℕ) → k < n → number place ≤ number k
   pub first : (k : ℕ) → k < place → number place < number k
 

@@ -16,6 +16,10 @@ pub record IsPace (pace : Pace) : Type 0 where
   pub times : pace.times ≤ 9
   pub idle : pace.idle ≤ 10
 
+-- the pace at the start of a descent, where a turn takes an eighth of a weight and usages are squared six times
+abbrev pub first_pace : ℕ → Pace
+first_pace most = record { parts = 8; times = 6; idle = 0; least = most }
+
 -- The pace after a turn to this greatest utilisation. A gain, which is a fall by more than one of 2000 parts, is kept. A turn without one is
 -- idle, and after ten idle ones shares become half as great, and usages are squared once more, up to nine times.
 pub record IsNextPace (old : Pace) (most : ℕ) (new : Pace) : Type 0 where

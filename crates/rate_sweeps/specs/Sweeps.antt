@@ -7,7 +7,7 @@ use Rattle.te_model.specs.declared.route.PathShare.{PathShare}
 use Rattle.te_model.specs.Network.{link_count}
 use Rattle.te_model.specs.Path.{destination_of, is_path, routes_at, source_of}
 use Rattle.routing.specs.Merge.{HasLinks}
-use Rattle.centred_steps.specs.Loads.{AreLoads}
+use Rattle.centred_steps.specs.Loads.{AreLoadsWithin}
 use Rattle.centred_steps.specs.Weights.{AreWeightsUpTo}
 use Rattle.rate_sweeps.specs.declared.mix.Sweep.{Sweep}
 use Rattle.rate_sweeps.specs.declared.rates.Rates.{Rates}
@@ -29,7 +29,7 @@ abbrev pub paths_of_pair : List Sweep → ℕ → List (List ℕ)
 paths_of_pair sweeps p = map (λ s. slice_index_or (paths_in s) p []) sweeps
 
 -- a path from its source to its destination for each pair
-pub record AreWays (net : Network) (routes : List PairRoutes) (paths : List (List ℕ)) : Type 0 where
+pub record ArePathsOfPairs (net : Network) (routes : List PairRoutes) (paths : List (List ℕ)) : Type 0 where
   pub count : length paths ≡ length routes
   pub each : (p : ℕ) → p < length routes → IsTrue (is_path net (source_of routes p) (destination_of routes p) (slice_index_or paths p []))
 
@@ -54,7 +54,7 @@ HaveLinks m paths = All (λ s. All (λ h. h < m) s.links) paths
 pub record AreRates (net : Network) (r : Rates) : Type 0 where
   pub count : length r.weights.items ≡ link_count net
   pub weights : AreWeightsUpTo (2 ^ 27) r.weights.items
-  pub loads : AreLoads net r.loads.items
+  pub loads : AreLoadsWithin net r.loads.items
   pub lengths_count : length r.lengths.items ≡ link_count net
   pub lengths : AreWeightsUpTo (2 ^ 27) r.lengths.items
 

@@ -4,13 +4,14 @@ ghost use Rattle.te_model.specs.declared.route.PairRoutes.{PairRoutes};
 ghost use Rattle.te_model.specs.Network.{is_well_formed, link_count};
 ghost use Rattle.te_model.specs.PathRouting.{IsPathRouting};
 ghost use Rattle.routing.specs.Routes.{AreDemands};
+ghost use Rattle.routing.specs.Utilisation.{parts};
 ghost use Rattle.centred_steps.specs.Weights.{AreWeightsUpTo};
-ghost use Rattle.rate_sweeps.specs.Descents.{IsDescent, IsTurn, MakesTurn};
-ghost use Rattle.rate_sweeps.specs.Sweeps.{AreWays, links_in};
+ghost use Rattle.rate_sweeps.specs.Descents.{IsDescent, IsTurn, MakesTurn, first_pace};
+ghost use Rattle.rate_sweeps.specs.Sweeps.{ArePathsOfPairs, links_in};
 
 use crate::pace::{Pace, first_pace, next_pace};
 use crate::shifting::shift_dearest;
-use crate::stress::lengths_under;
+use crate::usage::lengths_under;
 use routing::Routing;
 use std::alloc::Global;
 use te_model::{Matrix, Memory, Network, Path};
@@ -42,6 +43,7 @@ pub fn first_descent(
     ensures descent { IfOk result (IsDescent net.now matrix.now.demand start.routes) }
     ensures routing { IfOk result (λ d. d.routing.routes ≡ start.routes) }
     ensures best { IfOk result (λ d. d.best.routes ≡ start.routes) }
+    ensures pace { IfOk result (λ d. d.pace ≡ first_pace (parts net.now start.routes matrix.now.demand)) }
 {
     let best = start.copy(alloc)?;
     let least = best.greatest_utilisation(alloc, net, matrix)?;
@@ -84,7 +86,7 @@ pub fn take_turn(
 ) -> Result<Descent, Memory>
     requires network { IsTrue (is_well_formed net.now) }
     requires descent { (start : List PairRoutes) × (length start < 2 ^ 32) × AreDemands (length start) matrix.now.demand × IsDescent net.now matrix.now.demand start descent }
-    requires offered { AreWays net.now descent.routing.routes (map links_in offered.now) }
+    requires offered { ArePathsOfPairs net.now descent.routing.routes (map links_in offered.now) }
     requires count { length lengths.now ≡ link_count net.now }
     requires lengths { All (λ l. l ≤ 2 ^ 28) lengths.now }
     requires limit { 1 ≤ limit }

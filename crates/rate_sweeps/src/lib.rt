@@ -15,7 +15,7 @@ mod pace;
 mod paths;
 mod rates;
 mod shifting;
-mod stress;
+mod usage;
 
 pub use choice::lesser;
 pub use descent::{Descent, first_descent, next_lengths, take_turn};

@@ -2,7 +2,7 @@
 ghost use Rattle.std.specs.Prelude.{◌≡◌, ◌<◌, ◌≤◌, ℕ, List, [], ◌∷◌, ◌++◌, All, IfOk, OnOk, length, map};
 ghost use Rattle.te_model.specs.declared.route.Pair.{Pair};
 ghost use Rattle.routing.specs.Routes.{HasFewPaths, IsRoutingOf};
-ghost use Rattle.rate_sweeps.specs.Sweeps.{AreWays, IsOfSweeps, IsWeight, paths_in, paths_of_pair};
+ghost use Rattle.rate_sweeps.specs.Sweeps.{ArePathsOfPairs, IsOfSweeps, IsWeight, paths_in, paths_of_pair};
 
 use crate::rates::UNCOUNTED;
 use routing::{Routing, merge, normalize};
@@ -70,7 +70,7 @@ pub fn routing_by(
     requires some { 1 ≤ length sweeps.now }
     requires few { length sweeps.now ≤ 32 }
     requires weights { All (λ s. IsWeight s.weight) sweeps.now }
-    requires paths { All (λ s. AreWays net.now like.now.routes (paths_in s)) sweeps.now }
+    requires paths { All (λ s. ArePathsOfPairs net.now like.now.routes (paths_in s)) sweeps.now }
     ensures routing { (pairs : List Pair) → IsRoutingOf net.now pairs like.now.routes → IfOk result (λ r. IsRoutingOf net.now pairs r.routes) }
     ensures few { IfOk result (λ r. HasFewPaths (length sweeps.now) r.routes) }
     ensures only { IfOk result (λ r. IsOfSweeps sweeps.now r.routes) }

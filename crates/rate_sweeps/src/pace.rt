@@ -1,6 +1,6 @@
 //! How a descent goes on: with ever smaller shares and ever sharper lengths.
 ghost use Rattle.std.specs.Prelude.{◌≡◌, ◌↔◌, ◌^◌, ◌<◌, ◌≤◌, IsTrue};
-ghost use Rattle.rate_sweeps.specs.Descents.{IsNextPace, IsPace};
+ghost use Rattle.rate_sweeps.specs.Descents.{IsNextPace, IsPace, first_pace};
 
 /// How many turns a descent has at most.
 pub const TURNS: usize = 400;
@@ -35,7 +35,8 @@ pub struct Pace {
 
 /// The pace of a routing of this greatest utilisation.
 pub fn first_pace(most: u128) -> Pace
-    ensures { IsPace result }
+    ensures pace { IsPace result }
+    ensures first { result ≡ first_pace most }
 {
     Pace {
         parts: FIRST_PARTS,

@@ -2,8 +2,8 @@
 ghost use Rattle.std.specs.Prelude.{◌≡◌, ◌^◌, ◌<◌, ◌≤◌, All, IfOk, length, map};
 ghost use Rattle.te_model.specs.Network.{link_count};
 ghost use Rattle.te_model.specs.PathRouting.{IsPathRouting};
-ghost use Rattle.rate_sweeps.specs.Choices.{AreCheapest, IsFirstGreatest, IsFirstLeast, cost_at};
-ghost use Rattle.rate_sweeps.specs.Sweeps.{AreAmong, AreWays, HaveLinks, links_in};
+ghost use Rattle.rate_sweeps.specs.Choices.{AreCheapest, IsFirstGreatest, IsFirstLeastPlace, cost_at};
+ghost use Rattle.rate_sweeps.specs.Sweeps.{AreAmong, ArePathsOfPairs, HaveLinks, links_in};
 
 use routing::Routing;
 use shortest_path::length_along;
@@ -18,7 +18,7 @@ pub fn cheapest(lengths: &[u64], paths: &[PathShare]) -> usize
     requires limit { All (λ l. l ≤ 2 ^ 28) lengths.now }
     requires links { HaveLinks (length lengths.now) paths.now }
     ensures inside { result < length paths.now }
-    ensures least { IsFirstLeast (cost_at lengths.now paths.now) (length paths.now) result }
+    ensures least { IsFirstLeastPlace (cost_at lengths.now paths.now) (length paths.now) result }
 {
     let mut place = 0;
     let mut least = length_along(lengths, paths[0].links.as_slice());
@@ -66,7 +66,7 @@ pub fn cheapest_paths(
     requires routing { IsPathRouting net.now routing.now.routes }
     requires lengths { length lengths.now ≡ link_count net.now }
     requires limit { All (λ l. l ≤ 2 ^ 28) lengths.now }
-    ensures ways { IfOk result (λ p. AreWays net.now routing.now.routes (map links_in p.items)) }
+    ensures ways { IfOk result (λ p. ArePathsOfPairs net.now routing.now.routes (map links_in p.items)) }
     ensures among { IfOk result (λ p. AreAmong routing.now.routes (map links_in p.items)) }
     ensures cheapest { IfOk result (λ p. AreCheapest lengths.now routing.now.routes (map links_in p.items)) }
 {

@@ -2,11 +2,11 @@
 ghost use Rattle.std.specs.Prelude.{◌≡◌, ◌^◌, ◌<◌, ◌≤◌, All, IfOk, IsTrue, length, map};
 ghost use Rattle.te_model.specs.Network.{is_well_formed, link_count};
 ghost use Rattle.routing.specs.Routes.{AreDemands};
-ghost use Rattle.centred_steps.specs.Loads.{AreLoads, AreSmall, IsCentre};
+ghost use Rattle.centred_steps.specs.Loads.{AreLoadsWithin, AreSmall, IsCentre};
 ghost use Rattle.centred_steps.specs.Weights.{AreWeightsUpTo};
 ghost use Rattle.rate_sweeps.specs.Sweeps.{AreOnLinks, AreRates, IsWeight, KeepsBetter, links_in};
 
-use centred_steps::{Centre, FIRST_WEIGHT, add_load, centre_of, clear_loads, step};
+use centred_steps::{Centre, FIRST_WEIGHT, add_load, centre_of, clear_loads, step_weights};
 use std::alloc::Global;
 use te_model::{Matrix, Memory, Network, Path};
 
@@ -67,7 +67,7 @@ fn load_on(net: &Network, matrix: &Matrix, paths: &[Path], loads: &mut [u128])
     requires demands { AreDemands (length paths.now) matrix.now.demand }
     requires paths { AreOnLinks net.now (map links_in paths.now) }
     requires count { length loads.old ≡ link_count net.now }
-    ensures { AreLoads net.now loads.new }
+    ensures { AreLoadsWithin net.now loads.new }
 {
     clear_loads(loads);
     let demand = matrix.demand.as_slice();
@@ -102,7 +102,7 @@ fn centre_under(
     requires lengths { AreWeightsUpTo (2 ^ 27) lengths.now }
     requires loads { length loads.old ≡ link_count net.now }
     ensures centre { IsCentre result }
-    ensures loads { AreLoads net.now loads.new }
+    ensures loads { AreLoadsWithin net.now loads.new }
 {
     load_on(net, matrix, paths, loads);
     centre_of(net, lengths, loads)
@@ -163,6 +163,6 @@ pub fn take_sweep(
         rates.lengths = Vec::from_slice(alloc, &rates.weights)?;
         rates.low = centre.mean;
     }
-    step(net, &mut rates.weights, &rates.loads, parts);
+    step_weights(net, &mut rates.weights, &rates.loads, parts);
     Ok(weight_of(centre))
 }

@@ -8,7 +8,7 @@ ghost use Rattle.routing.specs.Split.{total_weight};
 ghost use Rattle.te_model.specs.Validity.{paths_ascend};
 ghost use Rattle.te_model.specs.declared.units.TheConstants.{SHARE_UNIT};
 ghost use Rattle.rate_sweeps.specs.Shifts.{AreShifts, IsDearer, IsDearestShift, IsShifted, IsTarget, UsesOnlyWays};
-ghost use Rattle.rate_sweeps.specs.Sweeps.{AreWays, HaveLinks, links_in};
+ghost use Rattle.rate_sweeps.specs.Sweeps.{ArePathsOfPairs, HaveLinks, links_in};
 
 use crate::paths::{cheapest, dearest};
 use local_search::paths_after;
@@ -102,7 +102,7 @@ pub fn shift_dearest(
 ) -> Result<Routing, Memory>
     requires routing { IsPathRouting net.now routing.routes }
     requires demands { AreDemands (length routing.routes) matrix.now.demand }
-    requires offered { AreWays net.now routing.routes (map links_in offered.now) }
+    requires offered { ArePathsOfPairs net.now routing.routes (map links_in offered.now) }
     requires count { length lengths.now ≡ link_count net.now }
     requires lengths { All (λ l. l ≤ 2 ^ 28) lengths.now }
     requires parts { (1 ≤ parts) × (parts ≤ 4096) }

@@ -4,3 +4,4 @@ pub mod Fixed
 pub mod Toward
 pub mod Least
 pub mod Low
+pub mod Laws

@@ -7,12 +7,14 @@
 
 mod fault;
 mod fixed;
+mod law;
 mod low;
 mod spf;
 mod traits;
 
 pub use fault::SchemeFault;
 pub use fixed::{PairSplit, fixed_routing};
+pub use law::{least_splits_exist, routings_by_rules_exist};
 pub use low::LowNote;
 pub use spf::{Spf, SpfPlan};
 pub use traits::{Oblivious, Scheme};

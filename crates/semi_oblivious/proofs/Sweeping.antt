@@ -19,26 +19,17 @@ use Rattle.rate_sweeps.specs.declared.descent.Descent.{Descent}
 use Rattle.rate_sweeps.specs.declared.mix.Sweep.{Sweep}
 use Rattle.rate_sweeps.specs.Descents.{BothKeep, IsTurn}
 use Rattle.rate_sweeps.specs.Shifts.{UsesOnlyWays}
-use Rattle.rate_sweeps.specs.Sweeps.{paths_in, AreAmong, AreWays, IsOfSweeps, IsWeight}
+use Rattle.rate_sweeps.specs.Sweeps.{paths_in, AreAmong, ArePathsOfPairs, IsOfSweeps, IsWeight}
 use Rattle.semi_oblivious.specs.Semi.{KeepsTo}
 use Rattle.semi_oblivious.specs.Sweeps.{AreFixedSweeps, IsCheapestSweep, IsOverFixed}
 
-pub sweeps_none : (net : Network) (fixed : List PairRoutes) → AreFixedSweeps 0 net fixed []
-sweeps_none net fixed = record {
-  count = refl;
-  weights = All-nil (λ (s : Sweep). IsWeight s.weight);
-  ways = All-nil (λ (s : Sweep). AreWays net fixed (paths_in s));
-  among = All-nil (λ (s : Sweep). AreAmong fixed (paths_in s));
-  cheapest = All-nil (IsCheapestSweep net fixed);
-}
-
 -- one sweep more
 pub sweeps_more : (n m : ℕ) (net : Network) (fixed : List PairRoutes) (sweeps : List Sweep) (s : Sweep) → AreFixedSweeps n net fixed sweeps → m ≡ n + 1 → IsWeight s.weight →
-    AreWays net fixed (paths_in s) → AreAmong fixed (paths_in s) → IsCheapestSweep net fixed s → AreFixedSweeps m net fixed (sweeps ++ s ∷ [])
+    ArePathsOfPairs net fixed (paths_in s) → AreAmong fixed (paths_in s) → IsCheapestSweep net fixed s → AreFixedSweeps m net fixed (sweeps ++ s ∷ [])
 sweeps_more n m net fixed sweeps s are next weight ways among cheapest = record {
   count = omega (arith, are.count, next, length-append sweeps (s ∷ []));
   weights = All-push (λ (s : Sweep). IsWeight s.weight) sweeps s are.weights weight;
-  ways = All-push (λ (s : Sweep). AreWays net fixed (paths_in s)) sweeps s are.ways ways;
+  ways = All-push (λ (s : Sweep). ArePathsOfPairs net fixed (paths_in s)) sweeps s are.ways ways;
   among = All-push (λ (s : Sweep). AreAmong fixed (paths_in s)) sweeps s are.among among;
   cheapest = All-push (IsCheapestSweep net fixed) sweeps s are.cheapest cheapest;
 }
@@ -77,8 +68,8 @@ taken_over net demand fixed best mixed taken sweeps over of among only either le
 ]
 
 -- paths of the pairs of one routing are paths of those of another of the same pairs
-pub ways_same : (net : Network) (fixed routes : List PairRoutes) (paths : List (List ℕ)) → map (λ r. r.pair) routes ≡ map (λ r. r.pair) fixed → AreWays net fixed paths →
-    AreWays net routes paths
+pub ways_same : (net : Network) (fixed routes : List PairRoutes) (paths : List (List ℕ)) → map (λ r. r.pair) routes ≡ map (λ r. r.pair) fixed → ArePathsOfPairs net fixed paths →
+    ArePathsOfPairs net routes paths
 ways_same net fixed routes paths same ways = record {
   count = ways.count ∙ sym (same_count routes fixed same);
   each = λ p below. subst (λ (q : Pair). IsTrue (is_path net q.src q.dst (slice_index_or paths p []))) (sym (same_pair routes fixed p same))

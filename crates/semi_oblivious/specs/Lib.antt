@@ -1,2 +1,3 @@
 pub mod Semi
 pub mod Sweeps
+pub mod Laws

@@ -9,15 +9,15 @@ use Rattle.te_model.specs.Path.{routes_at}
 use Rattle.routing.specs.Merge.{HasLinks}
 use Rattle.routing.specs.Routes.{IsRoutingOf, HasFewPaths}
 use Rattle.routing.specs.Utilisation.{parts}
-use Rattle.path_budget.specs.Budget.{trimmed}
+use Rattle.path_budget.specs.Budget.{trimmed_routes}
 use Rattle.scheme.specs.Reach.{ArePairsOf}
 use Rattle.local_search.specs.Moves.{IsStable}
-use Rattle.dual_bounds.specs.GivenPaths.{IsBracketOnPaths, paths_of}
+use Rattle.dual_bounds.specs.GivenPaths.{IsBracketOnPaths, link_lists}
 
 -- a routing of the network and the pairs over the fixed paths: the heaviest ones of the base's routing
 pub record AreFixed (budget : ℕ) (net : Network) (pairs : List Pair) (base fixed : List PairRoutes) : Type 0 where
   pub ends : ArePairsOf net pairs
-  pub heaviest : fixed ≡ trimmed budget base
+  pub heaviest : fixed ≡ trimmed_routes budget base
   pub routing : IsRoutingOf net pairs fixed
   pub few : HasFewPaths budget fixed
 
@@ -33,4 +33,4 @@ pub record IsAdapted (net : Network) (fixed : List PairRoutes) (demand : List �
   pub stable : IsStable net demand fixed routes
   pub no_greater : parts net routes demand ≤ parts net fixed demand
   pub bracket : IsBracketOnPaths net fixed routes demand note
-  pub lower : IsLowerBoundOnPaths net (length fixed) (paths_of fixed) (slice_index demand) note.low_num note.low_den
+  pub lower : IsLowerBoundOnPaths net (length fixed) (link_lists fixed) (slice_index demand) note.low_num note.low_den

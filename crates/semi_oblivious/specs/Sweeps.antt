@@ -7,7 +7,7 @@ use Rattle.te_model.specs.PathRouting.{IsPathRouting}
 use Rattle.routing.specs.Utilisation.{parts}
 use Rattle.rate_sweeps.specs.declared.mix.Sweep.{Sweep}
 use Rattle.rate_sweeps.specs.Choices.{AreCheapest}
-use Rattle.rate_sweeps.specs.Sweeps.{paths_in, AreAmong, AreWays, IsWeight}
+use Rattle.rate_sweeps.specs.Sweeps.{paths_in, AreAmong, ArePathsOfPairs, IsWeight}
 use Rattle.semi_oblivious.specs.Semi.{KeepsTo}
 
 -- by some lengths of the links, none of which is 0, no fixed path of a pair is cheaper than the one that it takes in the sweep
@@ -21,7 +21,7 @@ pub record IsCheapestSweep (net : Network) (fixed : List PairRoutes) (s : Sweep)
 pub record AreFixedSweeps (n : ℕ) (net : Network) (fixed : List PairRoutes) (sweeps : List Sweep) : Type 0 where
   pub count : length sweeps ≡ n
   pub weights : All (λ s. IsWeight s.weight) sweeps
-  pub ways : All (λ s. AreWays net fixed (paths_in s)) sweeps
+  pub ways : All (λ s. ArePathsOfPairs net fixed (paths_in s)) sweeps
   pub among : All (λ s. AreAmong fixed (paths_in s)) sweeps
   pub cheapest : All (IsCheapestSweep net fixed) sweeps
 

@@ -4,8 +4,10 @@
 //! - `Semi`: the scheme, over any oblivious scheme. Its plan keeps the fixed paths.
 #![tactic(auto)]
 
+mod law;
 mod semi;
-mod stress;
 mod sweeps;
+mod usage;
 
+pub use law::{adapted_routings_exist, fixed_routings_exist};
 pub use semi::{Semi, SemiPlan};

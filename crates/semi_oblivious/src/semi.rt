@@ -1,8 +1,8 @@
 //! The scheme.
 ghost use Rattle.std.specs.Prelude.{◌≡◌, ◌≤◌};
 
-use crate::stress::stress_lengths;
 use crate::sweeps::sweep;
+use crate::usage::usage_lengths;
 use dual_bounds::bracket_on_paths;
 use local_search::settle;
 use path_budget::trim;
@@ -64,7 +64,7 @@ impl<S: Oblivious + Drop> Scheme for Semi<S> {
     ) -> Result<(Routing, Bracket), Memory> {
         let (start, swept) = sweep(alloc, net, &plan.fixed, matrix)?;
         let routing = settle(alloc, net, matrix, start, &plan.fixed)?;
-        let mut lengths = stress_lengths(alloc, net, &routing, matrix)?;
+        let mut lengths = usage_lengths(alloc, net, &routing, matrix)?;
         lengths.push(swept)?;
         let note = bracket_on_paths(alloc, net, &plan.fixed, &routing, matrix, &lengths)?;
         Ok((routing, note))

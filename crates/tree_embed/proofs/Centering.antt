@@ -1,16 +1,16 @@
 -- The table of centers has the center of each node at each level.
-use Rattle.std.proofs.Common.{◌≡◌, ℕ, ◌+◌, ◌<◌, ◌≤◌, Bool, true, false, cond, List, [], Option, Some, None, length, map, find, unwrap_or, slice_index, slice_index_or, nat_lt, All, arith, refl, ap, sym, ◌∙◌, subst, zero-add, ◌∷◌, ◌++◌}
+use Rattle.std.proofs.Common.{◌≡◌, ℕ, ◌+◌, ◌<◌, ◌≤◌, Bool, true, false, cond, List, [], Option, Some, None, length, map, find, unwrap_or, slice_index, slice_index_or, nat_lt, All, arith, refl, ap, sym, ◌∙◌, subst, zero-add}
 use Rattle.std.specs.Prelude.{MatchBool}
 use Rattle.std.specs.List.{Contains, range_with_len}
 use Rattle.std.proofs.lemmas.List.Elements.{All-from_get_or, All-get_or}
-use Rattle.std.proofs.lemmas.List.FromFn.{get_or-range_with_len, get_or-map-range_with_len, length-range_with_len, length-map-range_with_len, map-range_with_len_more}
+use Rattle.std.proofs.lemmas.List.FromFn.{get_or-range_with_len, get_or-map-range_with_len, length-range_with_len, length-map-range_with_len}
 use Rattle.std.proofs.lemmas.List.Sorted.{All-permutation, Contains-permutation, length_permutation}
 use Rattle.te_model.specs.declared.network.Network.{Network}
 use Rattle.te_model.specs.Network.{node_count}
 use Rattle.te_model.proofs.WellFormed.{well_formed_parts}
 use Rattle.tree_embed.specs.declared.centers.TheConstants.{TOP_LEVEL}
 use Rattle.tree_embed.specs.Embedding.{Embedding, IsEmbedding, IsOrder}
-use Rattle.tree_embed.specs.Centers.{AreCenters, IsCenter, IsFirst, IsWithin, radius}
+use Rattle.tree_embed.specs.Centers.{AreCenters, IsCenter, IsFirst, IsInRadius, radius}
 use Rattle.tree_embed.specs.Tables.{AreSums, AreTables, IsSquare, center_in, center_of, is_within}
 use Rattle.tree_embed.proofs.Distances.{within_true, within_is, within_itself}
 use Rattle.tree_embed.proofs.Firsts.{found_at, found_none}
@@ -36,20 +36,20 @@ order_has net order is v below =
 -- the first node of the order within the radius
 first_is : (e : Embedding) (sums : List (List (Option ℕ))) → IsOrder e.network e.order → AreSums e.network e.lengths sums →
     (reach v : ℕ) → v < node_count e.network →
-    IsFirst (λ u. IsWithin e.network e.lengths reach u v) e.order (unwrap_or (find (λ u. is_within sums reach u v) e.order) v)
+    IsFirst (λ u. IsInRadius e.network e.lengths reach u v) e.order (unwrap_or (find (λ u. is_within sums reach u v) e.order) v)
 first_is e sums order are reach v below = go (find (λ u. is_within sums reach u v) e.order) refl
   where
     inside : (k : ℕ) → k < length e.order → slice_index e.order k < node_count e.network
     inside k few = All-get_or (λ u. u < node_count e.network) e.order k 0 few (order_inside e.network e.order order)
 
     go : (o : Option ℕ) → find (λ u. is_within sums reach u v) e.order ≡ o →
-        IsFirst (λ u. IsWithin e.network e.lengths reach u v) e.order (unwrap_or o v)
+        IsFirst (λ u. IsInRadius e.network e.lengths reach u v) e.order (unwrap_or o v)
     go None is = absurd (found_none (λ u. is_within sums reach u v) e.order v is (order_has e.network e.order order v below)
         (within_itself e.network e.lengths sums are reach v below))
     go (Some c) is =
         let f = found_at (λ u. is_within sums reach u v) e.order c is in
         let c_below : c < node_count e.network = subst (λ u. u < node_count e.network) f.is (inside f.place f.inside) in
-        let no : (j : ℕ) → j < f.place → IsWithin e.network e.lengths reach (slice_index e.order j) v → ⊥ = λ j lt near.
+        let no : (j : ℕ) → j < f.place → IsInRadius e.network e.lengths reach (slice_index e.order j) v → ⊥ = λ j lt near.
         let yes = within_is e.network e.lengths sums are reach (slice_index e.order j) v (inside j (omega (arith, lt, f.inside))) below near in
         let not = f.before j lt in
         absurd (cc)
@@ -61,7 +61,7 @@ center_is : (e : Embedding) (sums : List (List (Option ℕ))) → IsOrder e.netw
 center_is e sums order are level v below = go (nat_lt level TOP_LEVEL)
   where
     go : (b : Bool) →
-        MatchBool b (IsFirst (λ u. IsWithin e.network e.lengths (radius e.scale level) u v) e.order
+        MatchBool b (IsFirst (λ u. IsInRadius e.network e.lengths (radius e.scale level) u v) e.order
         (cond b (unwrap_or (find (λ u. is_within sums (radius e.scale level) u v) e.order) v) (slice_index e.order 0)))
         (cond b (unwrap_or (find (λ u. is_within sums (radius e.scale level) u v) e.order) v) (slice_index e.order 0) ≡ slice_index e.order 0)
     go true = first_is e sums order are (radius e.scale level) v below
@@ -140,9 +140,3 @@ tables_made net n lengths l order o scale sums s rows r is are rows_are same_n s
 pub top_agrees : (e : Embedding) (center : ℕ → ℕ → ℕ) → AreCenters e center → (v w : ℕ) → v < node_count e.network → w < node_count e.network →
     center TOP_LEVEL v ≡ center TOP_LEVEL w
 top_agrees e center are v w below_v below_w = are TOP_LEVEL v (omega arith) below_v ∙ sym (are TOP_LEVEL w (omega arith) below_w)
-
--- one entry more in a row
-pub row_more : {A : Type 0} (f : ℕ → A) (n : ℕ) (now new : List A) (x : A) → now ≡ map f (range_with_len 0 n) → x ≡ f n → new ≡ now ++ x ∷ [] →
-    new ≡ map f (range_with_len 0 (n + 1))
-row_more f n now new x is at pushed =
-    pushed ∙ ap (λ l. l ++ x ∷ []) is ∙ ap (λ y. map f (range_with_len 0 n) ++ y ∷ []) at ∙ sym (map-range_with_len_more f 0 n n (zero-add n))

@@ -13,7 +13,7 @@ use Rattle.tree_embed.specs.TreePaths.{AreJoined, IsJoin, IsTreePath}
 use Rattle.tree_embed.proofs.Joining.{joined_chains}
 use Rattle.tree_embed.proofs.Ends.{chain_leads, chain_inside}
 
-walk_chains : (net : Network) (lengths : List ℕ) (center : ℕ → ℕ → ℕ) (s t : ℕ) (chain walk : List ℕ) → IsChainOf center s t chain →
+pub walk_chains : (net : Network) (lengths : List ℕ) (center : ℕ → ℕ → ℕ) (s t : ℕ) (chain walk : List ℕ) → IsChainOf center s t chain →
     AreJoined net lengths chain walk → chains net s t walk ≡ true
 walk_chains net lengths center s t chain walk is joined =
     let r = chain_leads center s t chain is in

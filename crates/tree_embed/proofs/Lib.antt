@@ -6,3 +6,5 @@ pub mod Joining
 pub mod Ends
 pub mod Leading
 pub mod Only
+pub mod SumsExist
+pub mod Existence

@@ -1,15 +1,16 @@
 -- An embedding and two nodes have one tree path.
-use Rattle.std.proofs.Common.{inl, inr, ◌≡◌, ℕ, zero, suc, ◌+◌, ◌<◌, ◌≤◌, Bool, true, false, List, [], ◌∷◌, ◌++◌, Option, Some, None, map, reverse, nat_eq, nat_lt, slice_index, arith, refl, ap, sym, ◌∙◌, subst}
+use Rattle.std.proofs.Common.{inl, inr, ◌≡◌, ℕ, zero, suc, ◌<◌, ◌≤◌, Bool, true, false, List, [], ◌∷◌, ◌++◌, Option, Some, None, reverse, nat_eq, nat_lt, slice_index, arith, refl, ap, sym, ◌∙◌, subst}
 use Rattle.std.specs.Prelude.{MatchBool}
-use Rattle.std.specs.List.{dedup, range_with_len}
+use Rattle.std.specs.List.{dedup}
 use Rattle.std.proofs.lemmas.Bool.{cases_order}
 use Rattle.te_model.specs.declared.network.Network.{Network}
 use Rattle.te_model.specs.Network.{node_count}
+use Rattle.te_model.proofs.Choices.{made_same}
 use Rattle.shortest_path.proofs.Unique.{least_path_only}
 use Rattle.routing.proofs.Cutting.{cut_only}
 use Rattle.tree_embed.specs.declared.centers.TheConstants.{TOP_LEVEL}
 use Rattle.tree_embed.specs.Embedding.{Embedding}
-use Rattle.tree_embed.specs.Centers.{AreCenters, IsCenter, IsFirst, IsWithin, radius}
+use Rattle.tree_embed.specs.Centers.{AreCenters, IsCenter, IsFirst, IsInRadius, radius}
 use Rattle.tree_embed.specs.Chains.{IsChain, IsLowestShared, Share, centers_between, centers_down, centers_up}
 use Rattle.tree_embed.specs.TreePaths.{AreJoined, IsJoin, IsPathFor, IsTreePath}
 
@@ -25,9 +26,9 @@ first_only P order c d (has_c, (k, in_k, is_k, before_k)) (has_d, (j, in_j, is_j
 center_only : (e : Embedding) (level v c d : ℕ) → IsCenter e level v c → IsCenter e level v d → c ≡ d
 center_only e level v c d one two = go (nat_lt level TOP_LEVEL) one two
   where
-    go : (b : Bool) → MatchBool b (IsFirst (λ u. IsWithin e.network e.lengths (radius e.scale level) u v) e.order c) (c ≡ slice_index e.order 0) →
-        MatchBool b (IsFirst (λ u. IsWithin e.network e.lengths (radius e.scale level) u v) e.order d) (d ≡ slice_index e.order 0) → c ≡ d
-    go true one' two' = first_only (λ u. IsWithin e.network e.lengths (radius e.scale level) u v) e.order c d one' two'
+    go : (b : Bool) → MatchBool b (IsFirst (λ u. IsInRadius e.network e.lengths (radius e.scale level) u v) e.order c) (c ≡ slice_index e.order 0) →
+        MatchBool b (IsFirst (λ u. IsInRadius e.network e.lengths (radius e.scale level) u v) e.order d) (d ≡ slice_index e.order 0) → c ≡ d
+    go true one' two' = first_only (λ u. IsInRadius e.network e.lengths (radius e.scale level) u v) e.order c d one' two'
     go false one' two' = one' ∙ sym two'
 
 -- two choices of centers agree at node v
@@ -54,14 +55,8 @@ lowest_only center other v w a b at_v at_w one two = elim (cases_order a b) [
   ]
 ]
 
-map_agree : (f g : ℕ → ℕ) (start n : ℕ) → ((i : ℕ) → i < start + n → f i ≡ g i) → map f (range_with_len start n) ≡ map g (range_with_len start n)
-map_agree f g start zero same = refl
-map_agree f g start (suc n) same =
-    ap (λ x. x ∷ map f (range_with_len (start + 1) n)) (same start (omega arith))
-    ∙ ap (λ l. g start ∷ l) (map_agree f g (start + 1) n (λ i below. same i (omega arith)))
-
 up_agree : (center other : ℕ → ℕ → ℕ) (v a : ℕ) → AgreeAt center other v → a ≤ TOP_LEVEL → centers_up center v a ≡ centers_up other v a
-up_agree center other v a at few = map_agree (λ l. center l v) (λ l. other l v) 1 a (λ i below. at i (omega arith))
+up_agree center other v a at few = made_same 1 a (λ l. center l v) (λ l. other l v) (λ i below. at i (omega arith))
 
 between_agree : (center other : ℕ → ℕ → ℕ) (v w a : ℕ) → AgreeAt center other v → AgreeAt center other w → a ≤ TOP_LEVEL →
     centers_between center v w a ≡ centers_between other v w a

@@ -18,8 +18,8 @@ IsSymmetrised net lengths u v d =
     (there : Option ℕ) × (back : Option ℕ) × IsDistance net lengths u v there × IsDistance net lengths v u back × (d ≡ greater_of there back)
 
 -- their symmetrised distance is at most the radius
-abbrev pub IsWithin : Network → List ℕ → ℕ → ℕ → ℕ → Type 0
-IsWithin net lengths radius u v = (d : ℕ) × IsSymmetrised net lengths u v (Some d) × (d ≤ radius)
+abbrev pub IsInRadius : Network → List ℕ → ℕ → ℕ → ℕ → Type 0
+IsInRadius net lengths radius u v = (d : ℕ) × IsSymmetrised net lengths u v (Some d) × (d ≤ radius)
 
 -- the radius of a level: the scale in sixteenths, doubled at each level and rounded down
 abbrev pub radius : ℕ → ℕ → ℕ
@@ -32,7 +32,7 @@ IsFirst P order c = P c × ((k : ℕ) × (k < length order) × (slice_index orde
 -- the center of node v at a level: the first in the order within the level's radius of v, and at the top level the first in the order
 abbrev pub IsCenter : Embedding → ℕ → ℕ → ℕ → Type 0
 IsCenter e level v c =
-    MatchBool (nat_lt level TOP_LEVEL) (IsFirst (λ u. IsWithin e.network e.lengths (radius e.scale level) u v) e.order c)
+    MatchBool (nat_lt level TOP_LEVEL) (IsFirst (λ u. IsInRadius e.network e.lengths (radius e.scale level) u v) e.order c)
     (c ≡ slice_index e.order 0)
 
 -- the centers of all nodes at all levels

@@ -3,3 +3,4 @@ pub mod Centers
 pub mod Chains
 pub mod TreePaths
 pub mod Tables
+pub mod Laws

@@ -14,4 +14,4 @@ mod sums;
 
 pub use centers::TOP_LEVEL;
 pub use embedding::{Tree, embed};
-pub use law::{levels_end_at_36, tree_paths_are_unique};
+pub use law::{levels_end_at_36, tree_paths_are_unique, tree_paths_exist};

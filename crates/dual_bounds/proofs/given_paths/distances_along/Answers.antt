@@ -6,7 +6,7 @@ use Rattle.te_model.specs.declared.route.PathShare.{PathShare}
 use Rattle.te_model.specs.declared.route.PairRoutes.{PairRoutes}
 use Rattle.te_model.specs.Path.{routes_at, no_routes}
 use Rattle.te_model.specs.PathRouting.{IsPathSplit}
-use Rattle.shortest_path.proofs.Values.{pushed_count, pushed_each}
+use Rattle.te_model.proofs.Choices.{pushed_count, pushed_each}
 use Rattle.dual_bounds.specs.GivenPaths.{AreFewLinks, IsShortest}
 use Rattle.dual_bounds.proofs.PathBounds.{split_few}
 use Rattle.dual_bounds.proofs.given_paths.distances_along.Goals as goal

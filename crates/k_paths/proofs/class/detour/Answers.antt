@@ -20,7 +20,7 @@ returns-in-None c =
     (subst (λ m. IsLeastWalk net c.as_slice-costs.result.now m node ways.dst None) c.deref-2.ensures.value
     (subst (λ (o : Option Path). IsLeastWalk net c.as_slice-costs.result.now c.deref-2.result.now node ways.dst (links_of o)) c.in-None.is c.in_ok-follow.ensures))
     in
-    deviation_none net marks c.args.src ways.dst node ways.costs c.args.prefix.now c.args.barred.now c.requires.ways.costs c.requires.prefix c.in_ok-marks.ensures.marks least
+    deviation_none net marks c.args.src ways.dst node ways.costs c.args.prefix.now c.args.excluded.now c.requires.ways.costs c.requires.prefix c.in_ok-marks.ensures.marks least
 
 pub returns : goal.returns
 returns c =
@@ -36,5 +36,5 @@ returns c =
     (subst (λ (o : Option Path). IsLeastWalk net c.as_slice-costs.result.now c.deref-2.result.now node ways.dst (links_of o)) c.in-Some.is c.in_ok-follow.ensures))
     in
     let found : c.extend_from_slice.new.self.items ≡ prefix ++ r = search rules in
-    subst (λ l. IsLeastOfClass net c.args.src ways.dst l (length prefix) c.args.barred.now × (take (length prefix) l ≡ prefix)) (sym found)
-    (deviation_some net marks c.args.src ways.dst node ways.costs prefix c.args.barred.now r c.requires.ways.costs c.requires.prefix c.in_ok-marks.ensures.marks least)
+    subst (λ l. IsLeastOfClass net c.args.src ways.dst l (length prefix) c.args.excluded.now × (take (length prefix) l ≡ prefix)) (sym found)
+    (deviation_some net marks c.args.src ways.dst node ways.costs prefix c.args.excluded.now r c.requires.ways.costs c.requires.prefix c.in_ok-marks.ensures.marks least)

@@ -9,7 +9,7 @@ use Rattle.shortest_path.proofs.Sound.{sound}
 use Rattle.k_paths.specs.declared.candidate.Candidate.{Candidate}
 use Rattle.te_model.specs.declared.network.Network.{Network}
 use Rattle.shortest_path.specs.Costs.{HasCosts}
-use Rattle.k_paths.specs.Search.{AreFirst, IsSearch, links_at, no_candidate}
+use Rattle.k_paths.specs.Search.{AreFirst, IsPathSearch, candidate_links, no_candidate}
 use Rattle.k_paths.proofs.Rounds.{FoundSoFar, links_inside, are_first, found_more, found_end}
 use Rattle.k_paths.proofs.least.k_least_by.Goals as goal
 use Rattle.k_paths.proofs.least.k_least_by.Goals.{then-len-k+in_ok-candidates-2, else-len-k, then-loop-candidates-test+else-not-is_empty, else-loop-candidates-test}
@@ -27,20 +27,20 @@ first_of-best-requires-clause-links c =
     let cs = c.loop-candidates.candidates.items in
     let found = map (λ (p : Path). p.links) c.loop-candidates.found.items in
     let room : length found < c.args.k = omega (arith, length-map c.loop-candidates.found.items (λ (p : Path). p.links), c.len.ensures, c.loop-candidates-test.true, c.loop-candidates.found.ok.0) in
-    subst (λ l. (k : ℕ) → k < length l → All (λ h. h < length c.as_slice.result.now) (links_at l k)) (sym c.deref.ensures.value)
-    (subst (λ costs. (k : ℕ) → k < length cs → All (λ h. h < length costs) (links_at cs k)) (sym c.as_slice.ensures)
+    subst (λ l. (k : ℕ) → k < length l → All (λ h. h < length c.as_slice.result.now) (candidate_links l k)) (sym c.deref.ensures.value)
+    (subst (λ costs. (k : ℕ) → k < length cs → All (λ h. h < length costs) (candidate_links cs k)) (sym c.as_slice.ensures)
     (links_inside net c.args.src ways.dst ways.costs found cs c.requires.ways.costs (c.loop-candidates.invariant.search' room)))
 
-read_links : (cs : List Candidate) (i : ℕ) (c : Candidate) → i < length cs → c ≡ get_or cs i c → c.links ≡ links_at cs i
+read_links : (cs : List Candidate) (i : ℕ) (c : Candidate) → i < length cs → c ≡ get_or cs i c → c.links ≡ candidate_links cs i
 read_links cs i c below is = ap (λ (d : Candidate). d.links) (get_or_read cs i c below is no_candidate)
 
 -- what the choice of the first candidate says of the candidates and the costs themselves
 first_is : (net : Network) (cs cs' : List Candidate) (costs costs' : List ℕ) (i : ℕ) → cs' ≡ cs → costs' ≡ costs → HasCosts net costs →
-    ((k : ℕ) → k < length cs' → (links_at cs' k ≡ links_at cs' i) ⊎ IsBelow costs' (links_at cs' i) (links_at cs' k)) → AreFirst net (links_at cs i) cs
+    ((k : ℕ) → k < length cs' → (candidate_links cs' k ≡ candidate_links cs' i) ⊎ IsBelow costs' (candidate_links cs' i) (candidate_links cs' k)) → AreFirst net (candidate_links cs i) cs
 first_is net cs cs' costs costs' i same same_costs has first =
     are_first net costs cs i has
-    (subst (λ (l : List Candidate). (k : ℕ) → k < length l → (links_at l k ≡ links_at l i) ⊎ IsBelow costs (links_at l i) (links_at l k)) same
-    (subst (λ x. (k : ℕ) → k < length cs' → (links_at cs' k ≡ links_at cs' i) ⊎ IsBelow x (links_at cs' i) (links_at cs' k)) same_costs first))
+    (subst (λ (l : List Candidate). (k : ℕ) → k < length l → (candidate_links l k ≡ candidate_links l i) ⊎ IsBelow costs (candidate_links l i) (candidate_links l k)) same
+    (subst (λ x. (k : ℕ) → k < length cs' → (candidate_links cs' k ≡ candidate_links cs' i) ⊎ IsBelow x (candidate_links cs' i) (candidate_links cs' k)) same_costs first))
 
 pub advance-requires-clause-first : goal.advance-requires-clause-first
 advance-requires-clause-first c =
@@ -48,7 +48,7 @@ advance-requires-clause-first c =
     let cs = c.loop-candidates.candidates.items in
     let i = c.first_of-best.result in
     let inside : i < length cs = subst (λ (l : List Candidate). i < length l) c.deref.ensures.value c.first_of-best.ensures.inside in
-    let best : c.deref-then-len-k.result.now ≡ links_at cs i =
+    let best : c.deref-then-len-k.result.now ≡ candidate_links cs i =
     c.deref-then-len-k.ensures.value ∙ (c.in_ok-links.ensures.items ∙ (c.as_slice-in-loop-candidates.ensures ∙ read_links cs i c.index.result.now inside c.index.ensures))
     in
     subst (λ b. AreFirst net b cs) (sym best)
@@ -71,25 +71,25 @@ loop-candidates-preserved c =
     let found = map (λ (p : Path). p.links) had in
     let i = c.first_of-best.result in
     let inside : i < length cs = subst (λ (l : List Candidate). i < length l) c.deref.ensures.value c.first_of-best.ensures.inside in
-    let links : c.in_ok-links.links.items ≡ links_at cs i =
+    let links : c.in_ok-links.links.items ≡ candidate_links cs i =
     c.in_ok-links.ensures.items ∙ (c.as_slice-in-loop-candidates.ensures ∙ read_links cs i c.index.result.now inside c.index.ensures)
     in
     let first = first_is net cs c.deref.result.now c.args.ways.now.costs c.as_slice.result.now i c.deref.ensures.value c.as_slice.ensures c.requires.ways.costs c.first_of-best.ensures.first in
     let pushed : c.push.new.self.items ≡ had ++ (record { links = c.new.result }) ∷ [] = search rules in
     let path : Path = record { links = c.new.result } in
-    let now : map (λ (p : Path). p.links) c.push.new.self.items ≡ found ++ links_at cs i ∷ [] =
+    let now : map (λ (p : Path). p.links) c.push.new.self.items ≡ found ++ candidate_links cs i ∷ [] =
     ap (λ l. map (λ (p : Path). p.links) l) pushed ∙ (map_push (λ (p : Path). p.links) had path ∙ ap (λ l. found ++ l ∷ []) (c.new.ensures ∙ links))
     in
     let room : length found < c.args.k = omega (arith, length-map had (λ (p : Path). p.links), c.len.ensures, c.loop-candidates-test.true, c.loop-candidates.found.ok.0) in
     let next = c.if-len-k.candidates.items in
-    let then_search : length found + 1 < c.args.k → IsSearch net s t (found ++ links_at cs i ∷ []) next =
+    let then_search : length found + 1 < c.args.k → IsPathSearch net s t (found ++ candidate_links cs i ∷ []) next =
     elim c.if-len-k.branch [
       | then-len-k+in_ok-candidates-2 w ↦ λ more.
           let new = w.in_ok-candidates-2.candidates in
-          let search' : IsSearch net s t (found ++ links_at cs i ∷ []) new.items =
-          subst (λ b. IsSearch net s t (found ++ b ∷ []) new.items) (w.deref-then-len-k.ensures.value ∙ links) (w.in_ok-candidates-2.ensures found (c.loop-candidates.invariant.search' room))
+          let search' : IsPathSearch net s t (found ++ candidate_links cs i ∷ []) new.items =
+          subst (λ b. IsPathSearch net s t (found ++ b ∷ []) new.items) (w.deref-then-len-k.ensures.value ∙ links) (w.in_ok-candidates-2.ensures found (c.loop-candidates.invariant.search' room))
           in
-          subst (λ (v : Vec Candidate Global). IsSearch net s t (found ++ links_at cs i ∷ []) v.items) (sym w.candidates-is) search'
+          subst (λ (v : Vec Candidate Global). IsPathSearch net s t (found ++ candidate_links cs i ∷ []) v.items) (sym w.candidates-is) search'
       | else-len-k w ↦ λ more.
           absurd (omega (arith, more, w.if-len-k.false, c.len-in-loop-candidates.ensures, length-map had (λ (p : Path). p.links), c.loop-candidates.found.ok.0))
     ]

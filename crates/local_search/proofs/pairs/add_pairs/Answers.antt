@@ -4,7 +4,7 @@ use Rattle.std.proofs.lemmas.List.Elements.{All-get_or}
 use Rattle.te_model.specs.declared.route.PathShare.{PathShare}
 use Rattle.te_model.specs.declared.route.PairRoutes.{PairRoutes}
 use Rattle.te_model.specs.Path.{no_routes, routes_at}
-use Rattle.local_search.specs.Pairs.{IsEntry, IsPairList, pairs_on, some_holds}
+use Rattle.local_search.specs.Pairs.{IsPairEntered, IsPairList, pairs_on, some_holds}
 use Rattle.local_search.proofs.Entering.{all_entered, lists_weaker, pair_entered}
 use Rattle.local_search.proofs.pairs.add_pairs.Goals as goal
 
@@ -26,8 +26,8 @@ loop-p-preserved c =
     c.as_slice-in-loop-p.ensures
     ∙ ap (λ (r : PairRoutes). r.paths) (get_or_default others p c.index-others-p.result no_routes (omega (arith, c.loop-p-test.true, c.requires.pairs)))
     in
-    let first = subst (λ (l : List PathShare). IsEntry old middle p (some_holds l)) own c.in_ok-add_pair.ensures.entered in
-    let second = subst (λ (l : List PathShare). IsEntry middle new p (some_holds l)) theirs c.in_ok-add_pair-2.ensures.entered in
+    let first = subst (λ (l : List PathShare). IsPairEntered old middle p (some_holds l)) own c.in_ok-add_pair.ensures.entered in
+    let second = subst (λ (l : List PathShare). IsPairEntered middle new p (some_holds l)) theirs c.in_ok-add_pair-2.ensures.entered in
     record {
       order = c.in_ok-add_pair-2.ensures.order;
       exact = λ e q inside below.

@@ -9,7 +9,7 @@ use Rattle.routing.specs.Utilisation.{parts}
 use Rattle.routing.proofs.InOrder.{same_count}
 use Rattle.routing.proofs.Splits.{splits_of}
 use Rattle.local_search.specs.declared.step.Move.{Move}
-use Rattle.local_search.specs.Moves.{CanMove, Improves, IsMoved}
+use Rattle.local_search.specs.Moves.{CanMove, ImprovesBy1024th, IsMoved}
 use Rattle.local_search.proofs.Holders.{holders_stay}
 use Rattle.local_search.proofs.MovedLoads.{loads_small}
 use Rattle.local_search.proofs.Settled.{settled_more}
@@ -66,7 +66,7 @@ moves-preserved c =
     in
     let improves =
     subst (λ (o : Option Move). IfSome o (λ m. (moved : List PairRoutes) → IsMoved routes m.pair m.from
-    (links_at (routes_at candidates m.pair).paths m.target.candidate) m.target.size moved → Improves (parts net routes demand) (parts net moved demand)))
+    (links_at (routes_at candidates m.pair).paths m.target.candidate) m.target.size moved → ImprovesBy1024th (parts net routes demand) (parts net moved demand)))
     c.in-Some.is c.in_ok-step.ensures.improves
     in
     settled_more net demand before candidates routes new c.moves.loads c.carry_move.new.loads step.pair step.from to step.target.size

@@ -2,7 +2,7 @@ use Rattle.std.proofs.Common.{slice_index, arith, sym, subst}
 use Rattle.std.proofs.lemmas.Option.{IfSome_then}
 use Rattle.routing.specs.Utilisation.{parts}
 use Rattle.local_search.specs.Loads.{HasAbove}
-use Rattle.local_search.specs.Moves.{Improves}
+use Rattle.local_search.specs.Moves.{ImprovesBy1024th}
 use Rattle.local_search.specs.Pairs.{HasHolders}
 use Rattle.local_search.proofs.MovedLoads.{loads_small}
 use Rattle.local_search.proofs.Settled.{aim_above, fits_can, fits_lower, none_then, parts_of_loads, peak_small, stable_from_none}
@@ -84,7 +84,7 @@ returns-clause-improves c =
     fits_lower c.args.net.now c.args.matrix.now.demand c.args.routes.now c.args.candidates.now moved c.args.loads.now times
     m.pair m.from m.target.candidate m.target.size c.requires.network c.requires.loads fits is
     in
-    subst (λ x. Improves x y) (sym are) ((c.greatest_improvement-times.ensures y).1 le))
+    subst (λ x. ImprovesBy1024th x y) (sym are) ((c.greatest_improvement-times.ensures y).1 le))
 
 pub returns-clause-none : goal.returns-clause-none
 returns-clause-none c =

@@ -2,7 +2,7 @@ use Rattle.std.proofs.Common.{◌≡◌, ℕ, ◌+◌, ◌*◌, ◌<◌, ◌≤�
 use Rattle.te_model.specs.declared.route.Path.{Path}
 use Rattle.te_model.specs.Network.{link_count}
 use Rattle.te_model.specs.Path.{is_distinct}
-use Rattle.multiplicative_lengths.specs.Growth.{greatest_usage, grown}
+use Rattle.multiplicative_lengths.specs.Growth.{greatest_usage, grown_multipliers}
 use Rattle.multiplicative_lengths.specs.Loads.{loads_of}
 use Rattle.multiplicative_lengths.proofs.Loading.{length-loads_of}
 use Rattle.multiplicative_lengths.proofs.Multiplying.{grown_small}
@@ -59,10 +59,10 @@ loop-round-preserved c =
     c.greatest_usage.ensures.usage ∙ ap (λ (l : List ℕ). greatest_usage net l) (c.deref-in-loop-round-2.ensures.value ∙ loads)
     in
     let greater : c.max-most.result ≡ max c.loop-round.most c.greatest_usage.result = grind (arith, c.max-most.ensures) in
-    let grows : next ≡ grown net (loads_in net demand round) (4 * c.max-most.result) multipliers =
+    let grows : next ≡ grown_multipliers net (loads_in net demand round) (4 * c.max-most.result) multipliers =
     c.in_ok-multipliers-2.ensures
-    ∙ (ap (λ (l : List ℕ). grown net l (4 * c.max-most.result) c.deref-in-loop-round-4.result.now) (c.deref-in-loop-round-3.ensures.value ∙ loads)
-    ∙ ap (λ (m : List ℕ). grown net (loads_in net demand round) (4 * c.max-most.result) m) c.deref-in-loop-round-4.ensures.value)
+    ∙ (ap (λ (l : List ℕ). grown_multipliers net l (4 * c.max-most.result) c.deref-in-loop-round-4.result.now) (c.deref-in-loop-round-3.ensures.value ∙ loads)
+    ∙ ap (λ (m : List ℕ). grown_multipliers net (loads_in net demand round) (4 * c.max-most.result) m) c.deref-in-loop-round-4.ensures.value)
     in
     let pushed : c.push.new.self.items ≡ rounds ++ round ∷ [] = search rules in
     subst (λ (rs : List FlowRound). FlowSoFar net pairs demand (j + 1) c.max-most.result next rs) (sym pushed)

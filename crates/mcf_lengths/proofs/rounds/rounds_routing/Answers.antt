@@ -1,6 +1,6 @@
 use Rattle.std.proofs.Common.{List, All, length, ap, sym, ◌∙◌, subst}
 use Rattle.mcf_lengths.specs.declared.round.FlowRound.{FlowRound}
-use Rattle.mcf_lengths.specs.Rounds.{AreLeastPaths, paths_in}
+use Rattle.mcf_lengths.specs.Rounds.{AreLeastPaths, paths_of_round}
 use Rattle.mcf_lengths.proofs.Lengthening.{round_paths, taken_lengths}
 use Rattle.mcf_lengths.proofs.rounds.rounds_routing.Goals as goal
 
@@ -11,7 +11,7 @@ pub routing_over-requires-clause-paths : goal.routing_over-requires-clause-paths
 routing_over-requires-clause-paths c =
     let net = c.args.net.now in
     let pairs = c.args.pairs.now.list in
-    subst (All (λ (r : FlowRound). AreLeastPaths net r.lengths pairs (paths_in r))) (sym c.deref.ensures.value)
+    subst (All (λ (r : FlowRound). AreLeastPaths net r.lengths pairs (paths_of_round r))) (sym c.deref.ensures.value)
     (round_paths net pairs c.args.matrix.now.demand c.in_ok-rounds.rounds.items c.in_ok-rounds.ensures)
 
 pub returns-clause-limits : goal.returns-clause-limits

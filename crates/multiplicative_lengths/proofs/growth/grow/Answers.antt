@@ -4,8 +4,8 @@ use Rattle.te_model.specs.declared.units.TheConstants.{RATIO_UNIT}
 use Rattle.te_model.specs.Network.{link_count, no_link}
 use Rattle.te_model.specs.Division.{quotient_up}
 use Rattle.multiplicative_lengths.specs.Growth.{grown_multiplier, usage_of}
+use Rattle.te_model.proofs.Choices.{made_more}
 use Rattle.te_model.proofs.WellFormed.{capacities_positive}
-use Rattle.multiplicative_lengths.proofs.EachLink.{each_more}
 use Rattle.te_model.proofs.Quotients.{below_greatest}
 use Rattle.multiplicative_lengths.proofs.growth.grow.Goals as goal
 
@@ -40,4 +40,4 @@ loop-h-preserved c =
     let made : c.grown_multiplier.result ≡ grown_multiplier net loads divisor ms h =
     c.grown_multiplier.ensures ∙ ap (λ x. get_or ms h 0 + quotient_up (get_or ms h 0 * x) divisor) usage
     in
-    each_more (grown_multiplier net loads divisor ms) h c.grown_multiplier.result c.loop-h.next.items c.push.new.self.items c.in_ok-push.ensures.items c.loop-h.invariant made
+    made_more (grown_multiplier net loads divisor ms) h c.grown_multiplier.result c.loop-h.next.items c.push.new.self.items c.loop-h.invariant c.in_ok-push.ensures.items made

@@ -3,7 +3,7 @@ use Rattle.te_model.specs.declared.network.Link.{Link}
 use Rattle.te_model.specs.Network.{link_count, no_link}
 use Rattle.te_model.specs.Division.{quotient_up}
 use Rattle.multiplicative_lengths.specs.Growth.{greatest_capacity, length_of}
-use Rattle.multiplicative_lengths.proofs.EachLink.{each_more}
+use Rattle.te_model.proofs.Choices.{made_more}
 use Rattle.te_model.proofs.WellFormed.{capacities_positive}
 use Rattle.multiplicative_lengths.proofs.lengths.lengths_of.Goals as goal
 
@@ -24,4 +24,4 @@ loop-h-preserved c =
     ∙ (ap (λ x. min (2 ^ 28) (quotient_up (get_or ms h 0 * x) (get_or c.as_slice-links.result.now h no_link).capacity)) c.greatest_capacity-most.ensures
     ∙ ap (λ (ls : List Link). min (2 ^ 28) (quotient_up (get_or ms h 0 * greatest_capacity net) (get_or ls h no_link).capacity)) c.as_slice-links.ensures)
     in
-    each_more (length_of net ms) h c.length_of.result c.loop-h.lengths.items c.push.new.self.items c.in_ok-push.ensures.items c.loop-h.invariant made
+    made_more (length_of net ms) h c.length_of.result c.loop-h.lengths.items c.push.new.self.items c.loop-h.invariant c.in_ok-push.ensures.items made

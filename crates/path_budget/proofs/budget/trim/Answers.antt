@@ -3,7 +3,7 @@ use Rattle.std.proofs.lemmas.List.{take_all}
 use Rattle.te_model.specs.declared.route.PairRoutes.{PairRoutes}
 use Rattle.routing.specs.Routes.{IsRoutingOf, HasFewPaths}
 use Rattle.routing.specs.Split.{are_splits}
-use Rattle.path_budget.specs.Budget.{trimmed}
+use Rattle.path_budget.specs.Budget.{trimmed_routes}
 use Rattle.path_budget.proofs.Trimming.{trimmed_routing, trimmed_splits, trimmed_has_few}
 use Rattle.path_budget.proofs.budget.trim.Goals as goal
 
@@ -11,13 +11,13 @@ pub returns-clause-trimmed : goal.returns-clause-trimmed
 returns-clause-trimmed c =
     let routes = c.args.routing.now.routes in
     let every = take_all c.loop-route.route-index routes (omega (arith, c.loop-route-test.false, ap (λ (l : List PairRoutes). length l) c.as_slice-route-items.ensures)) in
-    c.new.ensures ∙ (c.loop-route.invariant ∙ ap (trimmed c.args.budget) every)
+    c.new.ensures ∙ (c.loop-route.invariant ∙ ap (trimmed_routes c.args.budget) every)
 
 pub invariant_of-result : goal.invariant_of-result
 invariant_of-result c =
     let routes = c.args.routing.now.routes in
     let every = take_all c.loop-route.route-index routes (omega (arith, c.loop-route-test.false, ap (λ (l : List PairRoutes). length l) c.as_slice-route-items.ensures)) in
-    let items : c.loop-route.routes.items ≡ trimmed c.args.budget routes = c.loop-route.invariant ∙ ap (trimmed c.args.budget) every in
+    let items : c.loop-route.routes.items ≡ trimmed_routes c.args.budget routes = c.loop-route.invariant ∙ ap (trimmed_routes c.args.budget) every in
     record { splits = subst (λ (l : List PairRoutes). are_splits l ≡ true) (sym (c.new.ensures ∙ items)) (trimmed_splits c.args.budget routes c.requires.some c.args.routing.now.splits) }
 
 pub returns-clause-few : goal.returns-clause-few

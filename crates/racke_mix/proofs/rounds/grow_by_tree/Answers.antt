@@ -1,5 +1,5 @@
 use Rattle.std.proofs.Common.{◌≡◌, ℕ, List, length, ap, ◌∙◌}
-use Rattle.multiplicative_lengths.specs.Growth.{greatest_usage, grown}
+use Rattle.multiplicative_lengths.specs.Growth.{greatest_usage, grown_multipliers}
 use Rattle.racke_mix.proofs.Loading.{loads_count}
 use Rattle.racke_mix.proofs.rounds.grow_by_tree.Goals as goal
 
@@ -21,5 +21,5 @@ returns c =
     in (
       loads,
       c.in_ok-loads.ensures,
-      c.in_ok-next.ensures ∙ (ap (λ (l : List ℕ). grown net l c.greatest_usage-most.result multipliers) c.deref-2.ensures.value ∙ ap (λ (x : ℕ). grown net loads x multipliers) most),
+      c.in_ok-next.ensures ∙ (ap (λ (l : List ℕ). grown_multipliers net l c.greatest_usage-most.result multipliers) c.deref-2.ensures.value ∙ ap (λ (x : ℕ). grown_multipliers net loads x multipliers) most),
     )

@@ -1,5 +1,5 @@
 use Rattle.std.proofs.Common.{◌≡◌, ℕ, ◌+◌, ◌++◌, ◌∷◌, [], List, arith, ap, sym, ◌∙◌, subst, rules}
-use Rattle.multiplicative_lengths.specs.Growth.{greatest_usage, grown}
+use Rattle.multiplicative_lengths.specs.Growth.{greatest_usage, grown_multipliers}
 use Rattle.racke_mix.specs.declared.round.Round.{Round}
 use Rattle.racke_mix.specs.Mix.{IsTreeRound}
 use Rattle.racke_mix.proofs.Mixing.{MixSoFar, mix_done, mix_more, mix_none}
@@ -15,8 +15,8 @@ loop-tree-preserved c =
     let rounds = c.loop-tree.rounds.items in
     let round = c.in_ok-round.round in
     let (loads, put, grows) = c.in_ok-multipliers-2.ensures in
-    let grows : next ≡ grown net loads (greatest_usage net loads) multipliers =
-    grows ∙ ap (λ (m : List ℕ). grown net loads (greatest_usage net loads) m) c.deref-in-loop-tree.ensures.value
+    let grows : next ≡ grown_multipliers net loads (greatest_usage net loads) multipliers =
+    grows ∙ ap (λ (m : List ℕ). grown_multipliers net loads (greatest_usage net loads) m) c.deref-in-loop-tree.ensures.value
     in
     let is = subst (λ (m : List ℕ). IsTreeRound net c.loop-tree.rng m round) c.deref.ensures.value c.in_ok-round.ensures.round in
     let pushed : c.push.new.self.items ≡ rounds ++ round ∷ [] = search rules in

@@ -5,7 +5,7 @@ use Rattle.te_model.specs.declared.route.PairRoutes.{PairRoutes}
 use Rattle.te_model.specs.declared.route.PathShare.{PathShare}
 use Rattle.te_model.specs.Path.{is_path, no_routes, routes_at}
 use Rattle.routing.specs.Merge.{HasLinks, IsMerge}
-use Rattle.routing.specs.Normal.{normalized}
+use Rattle.routing.specs.Normal.{with_whole_weight}
 use Rattle.routing.specs.Split.{total_weight}
 use Rattle.routing.proofs.Splits.{splits_of}
 use Rattle.scheme.specs.Fixed.{IsRoutingBy}
@@ -39,8 +39,8 @@ loop-p-preserved c =
     ∙ ap (λ (l : List PairRoutes). (routes_at l p).pair) c.as_slice-list.ensures
     in
     let at : pair ≡ get_or pairs p no_routes.pair = own ∙ sym (get_or-map (λ (r : PairRoutes). r.pair) like p no_routes no_routes.pair below) in
-    let so : IsMerge (normalized parts) merged =
-    subst (λ (l : List PathShare). IsMerge l merged) (c.in_ok-shares.ensures.parts ∙ ap normalized c.deref.ensures.value) c.in_ok-merged.ensures
+    let so : IsMerge (with_whole_weight parts) merged =
+    subst (λ (l : List PathShare). IsMerge l merged) (c.in_ok-shares.ensures.parts ∙ ap with_whole_weight c.deref.ensures.value) c.in_ok-merged.ensures
     in
     let count : length parts ≡ length sweeps = parts_count sweeps p parts c.in_ok-parts.ensures.paths in
     let split = mixed_split net pair parts merged (omega (arith, count, c.requires.some)) (omega (arith, count, c.requires.few)) c.in_ok-parts.ensures.weights

@@ -4,7 +4,7 @@ use Rattle.te_model.specs.declared.route.Path.{Path}
 use Rattle.rate_sweeps.specs.declared.mix.Sweep.{Sweep}
 use Rattle.rate_sweeps.specs.Choices.{AreCheapest}
 use Rattle.rate_sweeps.specs.Sweeps.{AreOnLinks, links_in, paths_in}
-use Rattle.rate_sweeps.proofs.Lengths.{lengths_positive}
+use Rattle.centred_steps.proofs.Weights.{weights_positive}
 use Rattle.rate_sweeps.proofs.PathLinks.{ways_on_links}
 use Rattle.semi_oblivious.specs.Sweeps.{AreFixedSweeps, IsCheapestSweep}
 use Rattle.semi_oblivious.proofs.Sweeping.{sweeps_more}
@@ -30,7 +30,7 @@ loop-i-preserved c =
     record {
       lengths = c.loop-i.rates.weights.items;
       count = rates.count;
-      positive = lengths_positive c.loop-i.rates.weights.items rates.weights;
+      positive = weights_positive c.loop-i.rates.weights.items rates.weights;
       cheapest = subst (λ (l : List ℕ). AreCheapest l fixed (paths_in s)) c.deref.ensures.value taken.cheapest;
     }
     in (

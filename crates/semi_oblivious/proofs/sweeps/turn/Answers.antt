@@ -2,8 +2,8 @@ use Rattle.std.proofs.Common.{ℕ, ◌^◌, ◌≤◌, List, All, map, sym, subs
 use Rattle.std.proofs.lemmas.Result.{IfOk-weaker}
 use Rattle.te_model.specs.declared.route.Path.{Path}
 use Rattle.rate_sweeps.specs.Descents.{BothKeep, IsTurn}
-use Rattle.rate_sweeps.specs.Sweeps.{AreAmong, AreOnLinks, AreWays, links_in}
-use Rattle.rate_sweeps.proofs.Lengths.{lengths_small}
+use Rattle.rate_sweeps.specs.Sweeps.{AreAmong, AreOnLinks, ArePathsOfPairs, links_in}
+use Rattle.centred_steps.proofs.Weights.{weights_small}
 use Rattle.rate_sweeps.proofs.PathLinks.{ways_on_links}
 use Rattle.semi_oblivious.specs.Semi.{KeepsTo}
 use Rattle.semi_oblivious.proofs.Sweeping.{turn_keeps, ways_same}
@@ -19,12 +19,12 @@ pub take_turn-requires-clause-offered : goal.take_turn-requires-clause-offered
 take_turn-requires-clause-offered c =
     let net = c.args.net.now in
     let routes = c.args.descent.routing.routes in
-    subst (λ (l : List Path). AreWays net routes (map links_in l)) (sym c.deref-4.ensures.value)
+    subst (λ (l : List Path). ArePathsOfPairs net routes (map links_in l)) (sym c.deref-4.ensures.value)
     (ways_same net c.args.fixed.now.routes routes (map links_in c.in_ok-paths.paths.items) c.requires.descent.routing_pairs c.in_ok-paths.ensures.ways)
 
 pub take_turn-requires-clause-lengths : goal.take_turn-requires-clause-lengths
 take_turn-requires-clause-lengths c =
-    subst (All (λ (l : ℕ). l ≤ 2 ^ 28)) (sym c.deref-5.ensures.value) (lengths_small c.in_ok-lengths.lengths.items c.in_ok-lengths.ensures.lengths)
+    subst (All (λ (l : ℕ). l ≤ 2 ^ 28)) (sym c.deref-5.ensures.value) (weights_small c.in_ok-lengths.lengths.items c.in_ok-lengths.ensures.lengths)
 
 pub returns-clause-keeps : goal.returns-clause-keeps
 returns-clause-keeps c =

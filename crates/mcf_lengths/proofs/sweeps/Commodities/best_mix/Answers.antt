@@ -2,7 +2,7 @@ use Rattle.std.proofs.Common.{List, All, arith, sym, ◌∙◌, subst}
 use Rattle.routing.specs.Routes.{HasFewPaths, IsRoutingOf}
 use Rattle.routing.proofs.InOrder.{routes_count}
 use Rattle.rate_sweeps.specs.declared.mix.Sweep.{Sweep}
-use Rattle.rate_sweeps.specs.Sweeps.{AreWays, paths_in}
+use Rattle.rate_sweeps.specs.Sweeps.{ArePathsOfPairs, paths_in}
 use Rattle.mcf_lengths.proofs.Sweeping.{sweeps_ways, taken_keeps}
 use Rattle.mcf_lengths.proofs.sweeps.Commodities.best_mix.Goals as goal
 
@@ -10,7 +10,7 @@ pub routing_by-requires-clause-paths : goal.routing_by-requires-clause-paths
 routing_by-requires-clause-paths c =
     let net = c.args.self.now.net.now in
     let best = c.loop.best.routes in
-    subst (λ (l : List Sweep). All (λ (s : Sweep). AreWays net best (paths_in s)) l) (sym c.deref.ensures.value)
+    subst (λ (l : List Sweep). All (λ (s : Sweep). ArePathsOfPairs net best (paths_in s)) l) (sym c.deref.ensures.value)
     (sweeps_ways net c.args.self.now.pairs.now.list best c.in_ok-sweeps.sweeps.items c.loop.invariant.0.routing c.in_ok-sweeps.ensures.sweeps.least)
 
 pub lesser-requires-clause-count : goal.lesser-requires-clause-count

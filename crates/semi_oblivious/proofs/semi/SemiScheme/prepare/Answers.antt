@@ -1,7 +1,7 @@
 use Rattle.std.proofs.Common.{List, ap, sym, subst, ◌∙◌}
 use Rattle.te_model.specs.declared.route.PairRoutes.{PairRoutes}
 use Rattle.routing.specs.Routes.{IsRoutingOf}
-use Rattle.path_budget.specs.Budget.{trimmed}
+use Rattle.path_budget.specs.Budget.{trimmed_routes}
 use Rattle.semi_oblivious.proofs.semi.SemiScheme.prepare.Goals as goal
 
 pub returns-clause-plan : goal.returns-clause-plan
@@ -13,7 +13,7 @@ returns-clause-plan g c =
       c.in_ok-base.ensures.plan,
       record {
         ends = c.requires.pairs;
-        heaviest = c.in_ok-fixed.ensures.trimmed ∙ ap (trimmed c.args.self.now.budget) c.fixed.ensures;
+        heaviest = c.in_ok-fixed.ensures.trimmed ∙ ap (trimmed_routes c.args.self.now.budget) c.fixed.ensures;
         routing = c.in_ok-fixed.ensures.routing net pairs lent;
         few = c.in_ok-fixed.ensures.few;
       },

@@ -23,8 +23,8 @@ settle-requires-clause-routings g c =
     let fixed = c.requires.plan.1.1.routing in
     (c.requires.plan.0, over_routing c.args.net.now c.requires.plan.0 _ c.args.plan.now.fixed.routes c.in_ok-start.start.routes fixed c.in_ok-start.ensures.routing, fixed)
 
-pub stress_lengths-requires-clause-pairs : goal.stress_lengths-requires-clause-pairs
-stress_lengths-requires-clause-pairs g c =
+pub usage_lengths-requires-clause-pairs : goal.usage_lengths-requires-clause-pairs
+usage_lengths-requires-clause-pairs g c =
     let net = c.args.net.now in
     let pairs = c.requires.plan.0 in
     let fixed = c.requires.plan.1.1 in
@@ -32,8 +32,8 @@ stress_lengths-requires-clause-pairs g c =
     let count = routes_count pairs c.in_ok-routing.routing.routes (c.in_ok-routing.ensures.routing pairs start).in_order in
     omega (arith, count, fixed.ends.few)
 
-pub stress_lengths-requires-clause-demands : goal.stress_lengths-requires-clause-demands
-stress_lengths-requires-clause-demands g c =
+pub usage_lengths-requires-clause-demands : goal.usage_lengths-requires-clause-demands
+usage_lengths-requires-clause-demands g c =
     let net = c.args.net.now in
     let pairs = c.requires.plan.0 in
     let fixed = c.requires.plan.1.1 in

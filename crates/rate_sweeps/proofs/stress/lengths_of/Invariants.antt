@@ -1,6 +1,0 @@
-use Rattle.std.proofs.Common.{◌≡◌, ◌^◌, length}
-use Rattle.centred_steps.specs.Weights.{AreWeightsUpTo}
-use Rattle.rate_sweeps.proofs.stress.lengths_of.Given as goal
-
-abbrev pub invariant-loop-price : goal.invariant-loop-price
-invariant-loop-price l = (length l.lengths.items ≡ l.price-index) × AreWeightsUpTo (2 ^ 27) l.lengths.items

@@ -1,5 +1,0 @@
-use Rattle.std.proofs.Common.{◌^◌, ◌≤◌}
-use Rattle.rate_sweeps.proofs.stress.squared.Given as goal
-
-abbrev pub invariant-loop : goal.invariant-loop
-invariant-loop l = l.part ≤ 2 ^ 30

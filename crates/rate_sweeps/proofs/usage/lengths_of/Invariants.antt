@@ -1,0 +1,6 @@
+use Rattle.std.proofs.Common.{◌≡◌, ◌^◌, length}
+use Rattle.centred_steps.specs.Weights.{AreWeightsUpTo}
+use Rattle.rate_sweeps.proofs.usage.lengths_of.Given as goal
+
+abbrev pub invariant-loop-price : goal.invariant-loop-price
+invariant-loop-price l = (length l.lengths.items ≡ l.price-index) × AreWeightsUpTo (2 ^ 27) l.lengths.items

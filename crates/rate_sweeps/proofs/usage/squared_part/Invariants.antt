@@ -1,0 +1,5 @@
+use Rattle.std.proofs.Common.{◌^◌, ◌≤◌}
+use Rattle.rate_sweeps.proofs.usage.squared_part.Given as goal
+
+abbrev pub invariant-loop : goal.invariant-loop
+invariant-loop l = l.part ≤ 2 ^ 30

@@ -1,0 +1,13 @@
+use Rattle.std.proofs.Common.{◌≡◌, ◌<◌, List, length, get_or, arith, ap, ◌∙◌}
+use Rattle.te_model.specs.declared.network.Link.{Link}
+use Rattle.te_model.specs.Network.{capacity_of, link_count, no_link}
+use Rattle.te_model.proofs.WellFormed.{capacities_positive}
+use Rattle.rate_sweeps.proofs.usage.usage_of.Goals as goal
+
+pub nonzero_div-loads : goal.nonzero_div-loads
+nonzero_div-loads c =
+    let net = c.args.net.now in
+    let h = c.loop-h.h in
+    let inside : h < link_count net = omega (arith, c.loop-h-test.true, ap (λ (ls : List Link). length ls) c.as_slice-links.ensures) in
+    let is : c.from.result ≡ capacity_of net h = c.from.ensures ∙ ap (λ (ls : List Link). (get_or ls h no_link).capacity) c.as_slice-links.ensures in
+    omega (arith, is, capacities_positive net c.requires.network h inside)

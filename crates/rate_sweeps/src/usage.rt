@@ -1,0 +1,127 @@
+//! Lengths that are great on the most used links.
+ghost use Rattle.std.specs.Prelude.{◌≡◌, ◌^◌, ◌<◌, ◌≤◌, ℕ, All, IfOk, IsTrue, length, slice_index};
+ghost use Rattle.te_model.specs.Network.{capacity_of, is_well_formed, link_count};
+ghost use Rattle.centred_steps.specs.Weights.{AreWeightsUpTo};
+
+use std::alloc::Global;
+use te_model::{Memory, Network};
+
+/// The usage of the most used links, to which all are scaled.
+const WHOLE: u128 = 1 << 30;
+
+/// The greatest length.
+const MAX_LENGTH: u128 = 1 << 27;
+
+/// The greatest capacity of a link.
+const MAX_CAPACITY: u128 = 1 << 32;
+
+/// The greatest of the numbers, and 1 at least.
+fn greatest(numbers: &[u128]) -> u128
+    ensures { 1 ≤ result }
+{
+    let mut most = 1;
+    for number in numbers {
+        most = most.max(*number);
+    }
+    most
+}
+
+/// The load of each link over its capacity.
+fn usage_of(alloc: Global, net: &Network, loads: &[u128]) -> Result<Vec<u128>, Memory>
+    requires network { IsTrue (is_well_formed net.now) }
+    requires count { length loads.now ≡ link_count net.now }
+    requires small { All (λ x. x < 2 ^ 84) loads.now }
+    ensures count { IfOk result (λ u. length u.items ≡ link_count net.now) }
+    ensures small { IfOk result (λ u. All (λ x. x < 2 ^ 84) u.items) }
+{
+    let links = net.links.as_slice();
+    let mut usage = Vec::with_capacity(alloc, links.len())?;
+    for h in 0..links.len() {
+        usage.push(loads[h] / u128::from(links[h].capacity))?;
+    }
+    Ok(usage)
+}
+
+/// The part of the greatest usage, squared so many times: the same for the most used links, and less for all others.
+#[tactic(auto, using(crate::proofs::Squares::square_fits))]
+fn squared_part(usage: u128, most: u128, times: u32) -> u128
+    requires usage { usage < 2 ^ 84 }
+    requires most { 1 ≤ most }
+    ensures { result ≤ 2 ^ 30 }
+{
+    let mut part = (usage * WHOLE / most).min(WHOLE);
+    for _ in 0..times {
+        part = part * part / WHOLE;
+    }
+    part
+}
+
+/// The part of the greatest usage over the capacity of the link.
+fn price_of(part: u128, capacity: u64) -> u128
+    requires part { part ≤ 2 ^ 30 }
+    requires capacity { 1 ≤ capacity }
+    ensures { result ≤ 2 ^ 62 }
+{
+    part.max(1) * MAX_CAPACITY / u128::from(capacity)
+}
+
+/// The squared usage of each link over its capacity.
+fn prices_of(alloc: Global, net: &Network, usage: &[u128], times: u32) -> Result<Vec<u128>, Memory>
+    requires network { IsTrue (is_well_formed net.now) }
+    requires count { length usage.now ≡ link_count net.now }
+    requires small { All (λ x. x < 2 ^ 84) usage.now }
+    ensures count { IfOk result (λ p. length p.items ≡ link_count net.now) }
+    ensures small { IfOk result (λ p. All (λ x. x ≤ 2 ^ 62) p.items) }
+{
+    let most = greatest(usage);
+    let links = net.links.as_slice();
+    let mut prices = Vec::with_capacity(alloc, links.len())?;
+    for h in 0..links.len() {
+        let part = squared_part(usage[h], most, times);
+        prices.push(price_of(part, links[h].capacity))?;
+    }
+    Ok(prices)
+}
+
+/// The length of this price: 1 at least, and 2^27 for the greatest price.
+fn length_of(price: u128, most: u128) -> u64
+    requires price { price ≤ 2 ^ 62 }
+    requires most { 1 ≤ most }
+    ensures { (1 ≤ result) × (result ≤ 2 ^ 27) }
+{
+    (price * MAX_LENGTH / most).max(1).min(MAX_LENGTH) as u64
+}
+
+/// The lengths of links by their prices.
+fn lengths_of(alloc: Global, prices: &[u128]) -> Result<Vec<u64>, Memory>
+    requires small { All (λ x. x ≤ 2 ^ 62) prices.now }
+    ensures count { IfOk result (λ l. length l.items ≡ length prices.now) }
+    ensures lengths { IfOk result (λ l. AreWeightsUpTo (2 ^ 27) l.items) }
+{
+    let most = greatest(prices);
+    let mut lengths = Vec::with_capacity(alloc, prices.len())?;
+    for price in prices {
+        lengths.push(length_of(*price, most))?;
+    }
+    Ok(lengths)
+}
+
+/// Lengths that are great on the most used links, and the greater the more so the more often usages are squared.
+///
+/// `loads` has one number for each link. The lengths lie from 1 to 2^27. `Memory` comes where memory is wanting.
+pub fn lengths_under(
+    alloc: Global,
+    net: &Network,
+    loads: &[u128],
+    times: u32,
+) -> Result<Vec<u64>, Memory>
+    requires network { IsTrue (is_well_formed net.now) }
+    requires count { length loads.now ≡ link_count net.now }
+    requires small { All (λ x. x < 2 ^ 84) loads.now }
+    ensures count { IfOk result (λ l. length l.items ≡ link_count net.now) }
+    ensures lengths { IfOk result (λ l. AreWeightsUpTo (2 ^ 27) l.items) }
+{
+    let usage = usage_of(alloc, net, loads)?;
+    let prices = prices_of(alloc, net, &usage, times)?;
+    lengths_of(alloc, &prices)
+}

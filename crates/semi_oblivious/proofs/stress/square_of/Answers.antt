@@ -1,8 +1,0 @@
-use Rattle.std.proofs.Common.{arith}
-use Rattle.std.proofs.lemmas.Nat.{mul-le}
-use Rattle.semi_oblivious.proofs.stress.square_of.Goals as goal
-
-pub returns : goal.returns
-returns c =
-    let square = mul-le c.args.length c.args.length 16384 16384 c.requires c.requires in
-    omega (arith, square)

@@ -1,8 +1,0 @@
-use Rattle.std.proofs.Common.{◌≡◌, ◌^◌, ◌≤◌, All, length}
-use Rattle.te_model.specs.Network.{link_count}
-use Rattle.semi_oblivious.proofs.stress.stress_lengths.Given as goal
-
-abbrev pub invariant-loop : goal.invariant-loop
-invariant-loop l =
-    (length l.lengths.items ≡ link_count l.net) × All (λ x. x ≤ 2 ^ 14) l.lengths.items
-    × All (λ x. length x ≡ link_count l.net) l.lists.items × All (λ x. All (λ y. y ≤ 2 ^ 28) x) l.lists.items
