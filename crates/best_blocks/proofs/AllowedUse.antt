@@ -13,16 +13,16 @@ use Rattle.te_model.proofs.Sums.{sum_below-add, sum_below-bound, sum_below-same}
 use Rattle.routing.proofs.Shared.{sum_over_shares}
 use Rattle.routing.specs.declared.shares.PairShare.{PairShare}
 use Rattle.best_blocks.specs.declared.sharing.SharedLink.{SharedLink}
-use Rattle.best_blocks.specs.Best.{added, asked, balances, taken_back}
+use Rattle.best_blocks.specs.Best.{plus_amount, weighed_share, balances, minus_amount}
 use Rattle.best_blocks.specs.Scale.{AreScalable}
-use Rattle.best_blocks.specs.Used.{used, used_by, AreSharesListed}
+use Rattle.best_blocks.specs.Used.{used_by_shares, used_by, AreSharesListed}
 use Rattle.te_model.proofs.Sizes.{bound_term}
 use Rattle.best_blocks.proofs.Balances.{asked-small}
 
 -- what pair p uses
 abbrev pub used_at : DemandSet → List ℕ → List ℕ → ℕ → ℕ → ℕ
 used_at wanted shares distances b p =
-    used_by (lower_of wanted p) (upper_of wanted p) (slice_index distances p) (asked b (slice_index shares p))
+    used_by (lower_of wanted p) (upper_of wanted p) (slice_index distances p) (weighed_share b (slice_index shares p))
 
 pub used_by-small : (lower upper distance wanted : ℕ) → lower ≤ 2 ^ 52 → upper ≤ 2 ^ 52 → distance ≤ 2 ^ 35 → wanted ≤ 2 ^ 36 →
     used_by lower upper distance wanted ≤ 2 ^ 89
@@ -38,26 +38,26 @@ used_by-nothing lower upper distance wanted none =
     omega (arith, ap (λ t. upper * t) more, ap (λ t. lower * t) within)
 
 -- a pair without a share asks for nothing
-asked-none : (b s : ℕ) → s ≡ 0 → asked b s ≡ 0
+asked-none : (b s : ℕ) → s ≡ 0 → weighed_share b s ≡ 0
 asked-none b s none = omega (arith, quotient_up-least (b * s) SHARE_UNIT 0 (omega arith) (omega (arith, ap (λ t. b * t) none)))
 
 -- the pairs of the list use what all pairs use
 pub used_listed : (wanted : DemandSet) (l : SharedLink) (distances : List ℕ) (b : ℕ) → AreSharesListed l →
     sum_by (λ s. used_at wanted l.shares distances b s.pair) l.list
-    ≡ used (lower_of wanted) (upper_of wanted) (length l.shares) (slice_index l.shares) (slice_index distances) b
+    ≡ used_by_shares (lower_of wanted) (upper_of wanted) (length l.shares) (slice_index l.shares) (slice_index distances) b
 used_listed wanted l distances b are =
     subst (λ n. sum_by (λ s. used_at wanted l.shares distances b s.pair) l.list
-    ≡ used (lower_of wanted) (upper_of wanted) n (slice_index l.shares) (slice_index distances) b) (sym are.shares_are.count)
+    ≡ used_by_shares (lower_of wanted) (upper_of wanted) n (slice_index l.shares) (slice_index distances) b) (sym are.shares_are.count)
     (sym (sum_over_shares are.routes l.link l.list (used_at wanted l.shares distances b) are.listed (λ p below none.
-    used_by-nothing (lower_of wanted p) (upper_of wanted p) (slice_index distances p) (asked b (slice_index l.shares p))
+    used_by-nothing (lower_of wanted p) (upper_of wanted p) (slice_index distances p) (weighed_share b (slice_index l.shares p))
     (asked-none b (slice_index l.shares p) (are.shares_are.each p below ∙ none)))))
 
 -- the sum of what they use fits 128 bits
 pub used_small : (wanted : DemandSet) (shares distances : List ℕ) (b : ℕ) → AreScalable wanted shares distances → b ≤ 2 ^ 36 →
-    used (lower_of wanted) (upper_of wanted) (length shares) (slice_index shares) (slice_index distances) b ≤ length shares * 2 ^ 89
+    used_by_shares (lower_of wanted) (upper_of wanted) (length shares) (slice_index shares) (slice_index distances) b ≤ length shares * 2 ^ 89
 used_small wanted shares distances b small few =
     sum_below-bound (length shares) (2 ^ 89) (used_at wanted shares distances b) (λ p below.
-    used_by-small (lower_of wanted p) (upper_of wanted p) (slice_index distances p) (asked b (slice_index shares p)) (small.lower_small p) (small.upper_small p)
+    used_by-small (lower_of wanted p) (upper_of wanted p) (slice_index distances p) (weighed_share b (slice_index shares p)) (small.lower_small p) (small.upper_small p)
     (small.distances_small p) (omega (arith, asked-small b (slice_index shares p) (small.shares_small p), few)))
 
 -- so does the sum of what the first i of the list use
@@ -69,7 +69,7 @@ sum_small wanted l distances b i sum small are few is =
 
 pub sum_whole : (wanted : DemandSet) (l : SharedLink) (distances : List ℕ) (b i sum : ℕ) → AreSharesListed l → length l.list ≤ i →
     sum ≡ sum_by (λ s. used_at wanted l.shares distances b s.pair) (take i l.list) →
-    sum ≡ used (lower_of wanted) (upper_of wanted) (length l.shares) (slice_index l.shares) (slice_index distances) b
+    sum ≡ used_by_shares (lower_of wanted) (upper_of wanted) (length l.shares) (slice_index l.shares) (slice_index distances) b
 sum_whole wanted l distances b i sum are all is =
     is ∙ ap (λ (xs : List PairShare). sum_by (λ s. used_at wanted l.shares distances b s.pair) xs) (take_all i l.list all) ∙ used_listed wanted l distances b are
 
@@ -87,20 +87,20 @@ parted lower distance wanted =
     omega (arith, ap (λ d. lower * d) whole)
 
 pub balances_by_use : (lower upper : ℕ → ℕ) (n : ℕ) (shares distance : ℕ → ℕ) (b : ℕ) →
-    nat_le (used lower upper n shares distance b) (weigh n lower distance) ≡ balances lower upper n shares distance b
+    nat_le (used_by_shares lower upper n shares distance b) (weigh n lower distance) ≡ balances lower upper n shares distance b
 balances_by_use lower upper n shares distance b =
-    same_order (weigh n upper (added shares distance b)) (weigh n lower (taken_back shares distance b)) (weigh n lower within) _ _
-    (sym (sum_below-add n (λ p. upper p * added shares distance b p) (λ p. lower p * within p)))
-    (sym (sum_below-add n (λ p. lower p * taken_back shares distance b p) (λ p. lower p * within p))
-    ∙ sum_below-same n (λ p. lower p * taken_back shares distance b p + lower p * within p) (λ p. lower p * distance p)
-    (λ p below. parted (lower p) (distance p) (asked b (shares p))))
+    same_order (weigh n upper (plus_amount shares distance b)) (weigh n lower (minus_amount shares distance b)) (weigh n lower within) _ _
+    (sym (sum_below-add n (λ p. upper p * plus_amount shares distance b p) (λ p. lower p * within p)))
+    (sym (sum_below-add n (λ p. lower p * minus_amount shares distance b p) (λ p. lower p * within p))
+    ∙ sum_below-same n (λ p. lower p * minus_amount shares distance b p + lower p * within p) (λ p. lower p * distance p)
+    (λ p below. parted (lower p) (distance p) (weighed_share b (shares p))))
   where
     within : ℕ → ℕ
-    within p = min (asked b (shares p)) (distance p)
+    within p = min (weighed_share b (shares p)) (distance p)
 
-pub balances_is : (lower upper : ℕ → ℕ) (n m : ℕ) (shares distance : ℕ → ℕ) (b more most : ℕ) → more ≡ used lower upper n shares distance b →
+pub balances_is : (lower upper : ℕ → ℕ) (n m : ℕ) (shares distance : ℕ → ℕ) (b more most : ℕ) → more ≡ used_by_shares lower upper n shares distance b →
     m ≡ n → most ≡ weigh m lower distance → nat_le more most ≡ balances lower upper n shares distance b
 balances_is lower upper n m shares distance b more most is_more same is_most =
     ap (λ x. nat_le x most) is_more
-    ∙ ap (λ y. nat_le (used lower upper n shares distance b) y) (is_most ∙ ap (λ k. weigh k lower distance) same)
+    ∙ ap (λ y. nat_le (used_by_shares lower upper n shares distance b) y) (is_most ∙ ap (λ k. weigh k lower distance) same)
     ∙ balances_by_use lower upper n shares distance b

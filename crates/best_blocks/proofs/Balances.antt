@@ -6,33 +6,33 @@ use Rattle.std.proofs.lemmas.Nat.{mul-le}
 use Rattle.te_model.specs.declared.units.TheConstants.{SHARE_UNIT}
 use Rattle.te_model.proofs.Sums.{sum_below-le, sum_below-same}
 use Rattle.te_model.proofs.Quotients.{quotient_up-enough, quotient_up-least}
-use Rattle.best_blocks.specs.Best.{asked, added, taken_back, balances}
+use Rattle.best_blocks.specs.Best.{weighed_share, plus_amount, minus_amount, balances}
 
-pub asked-le : (b c s : ℕ) → b ≤ c → asked b s ≤ asked c s
+pub asked-le : (b c s : ℕ) → b ≤ c → weighed_share b s ≤ weighed_share c s
 asked-le b c s less =
     let product : b * s ≤ c * s = mul-le b s c s less (omega arith) in
     let enough = quotient_up-enough (c * s) SHARE_UNIT (omega arith) in
-    quotient_up-least (b * s) SHARE_UNIT (asked c s) (omega arith) (omega (arith, product, enough))
+    quotient_up-least (b * s) SHARE_UNIT (weighed_share c s) (omega arith) (omega (arith, product, enough))
 
 -- a share of at most one million asks for no more than b
-pub asked-small : (b s : ℕ) → s ≤ SHARE_UNIT → asked b s ≤ b
+pub asked-small : (b s : ℕ) → s ≤ SHARE_UNIT → weighed_share b s ≤ b
 asked-small b s small = quotient_up-least (b * s) SHARE_UNIT b (omega arith) (mul-le-mul_left b small)
 
-added-le : (shares distance : ℕ → ℕ) (b c p : ℕ) → b ≤ c → added shares distance b p ≤ added shares distance c p
+added-le : (shares distance : ℕ → ℕ) (b c p : ℕ) → b ≤ c → plus_amount shares distance b p ≤ plus_amount shares distance c p
 added-le shares distance b c p less = omega (arith, asked-le b c (shares p) less)
 
-taken_back-le : (shares distance : ℕ → ℕ) (b c p : ℕ) → b ≤ c → taken_back shares distance c p ≤ taken_back shares distance b p
+taken_back-le : (shares distance : ℕ → ℕ) (b c p : ℕ) → b ≤ c → minus_amount shares distance c p ≤ minus_amount shares distance b p
 taken_back-le shares distance b c p less = omega (arith, asked-le b c (shares p) less)
 
 pub balances_fewer : (lower upper : ℕ → ℕ) (n : ℕ) (shares distance : ℕ → ℕ) (b c : ℕ) → b ≤ c →
     balances lower upper n shares distance c ≡ true → balances lower upper n shares distance b ≡ true
 balances_fewer lower upper n shares distance b c less is =
     let gain =
-    sum_below-le n (λ p. upper p * added shares distance b p) (λ p. upper p * added shares distance c p)
+    sum_below-le n (λ p. upper p * plus_amount shares distance b p) (λ p. upper p * plus_amount shares distance c p)
     (λ p below. mul-le-mul_left (upper p) (added-le shares distance b c p less))
     in
     let loss =
-    sum_below-le n (λ p. lower p * taken_back shares distance c p) (λ p. lower p * taken_back shares distance b p)
+    sum_below-le n (λ p. lower p * minus_amount shares distance c p) (λ p. lower p * minus_amount shares distance b p)
     (λ p below. mul-le-mul_left (lower p) (taken_back-le shares distance b c p less))
     in
     let between = leb-true _ _ is in
@@ -53,15 +53,11 @@ pub balances-same : (lower upper : ℕ → ℕ) (n : ℕ) (shares distance share
     balances lower upper n shares distance b ≡ balances lower upper n shares' distance' b
 balances-same lower upper n shares distance shares' distance' b same_share same_distance =
     let gain =
-    sum_below-same n (λ p. upper p * added shares distance b p) (λ p. upper p * added shares' distance' b p)
+    sum_below-same n (λ p. upper p * plus_amount shares distance b p) (λ p. upper p * plus_amount shares' distance' b p)
     (λ p below. rw (same_share p below, same_distance p below) refl)
     in
     let loss =
-    sum_below-same n (λ p. lower p * taken_back shares distance b p) (λ p. lower p * taken_back shares' distance' b p)
+    sum_below-same n (λ p. lower p * minus_amount shares distance b p) (λ p. lower p * minus_amount shares' distance' b p)
     (λ p below. rw (same_share p below, same_distance p below) refl)
     in
     rw (gain, loss) refl
-
--- a number of at most 2^36 times a share
-pub asked_fits : (b s : ℕ) → b ≤ 2 ^ 36 → s ≤ 1000000 → b * s ≤ 2 ^ 36 * 1000000
-asked_fits b s hb hs = mul-le b s (2 ^ 36) 1000000 hb hs

@@ -17,7 +17,7 @@ use Rattle.shortest_path.proofs.PathLengths.{distance_small}
 use Rattle.shortest_path.proofs.Values.{listed_small}
 use Rattle.best_blocks.specs.declared.metric.Metric.{Metric}
 use Rattle.best_blocks.specs.Metric.{distance_in, IsMetric}
-use Rattle.best_blocks.specs.Rows.{is_marked, row_at, AreRowsFrom}
+use Rattle.best_blocks.specs.Rows.{is_marked, distances_from, AreRowsFrom}
 
 -- where links lead from a node with a row to another, the row has the distance
 pub distance_known : (net : Network) (weights : List ℕ) (i v : ℕ) (row : List (Option ℕ)) (links : List ℕ) → AreDistances net weights i row →
@@ -30,14 +30,14 @@ distance_known net weights i v row links are inside chain = go (distance_at row 
 
 -- the distance of a pair whose source has a row
 pair_distance_by : (net : Network) (routes : List PairRoutes) (marks : List Bool) (m : Metric) (p : ℕ) → IsPathRouting net routes → PairsJoinNodes net routes →
-    IsMetric net routes marks m → p < length routes → AreDistances net m.weights (source_of routes p) (row_at m.rows (source_of routes p)) →
+    IsMetric net routes marks m → p < length routes → AreDistances net m.weights (source_of routes p) (distances_from m.rows (source_of routes p)) →
     IsDistance net m.weights (source_of routes p) (destination_of routes p) (Some (slice_index m.distances p))
 pair_distance_by net routes marks m p routing nodes is below row =
     let s = source_of routes p in
     let t = destination_of routes p in
     let (links, chain) = path_of_pair net (routes_at routes p) (All-get_or (IsPathSplit net) routes p no_routes below routing) in
     subst (λ x. IsDistance net m.weights s t (Some x)) (sym (is.distances_are.each p below))
-    (distance_known net m.weights s t (row_at m.rows s) links row (nodes p below).1 chain)
+    (distance_known net m.weights s t (distances_from m.rows s) links row (nodes p below).1 chain)
 
 -- the distance of a pair whose source is marked
 pub pair_distance : (net : Network) (routes : List PairRoutes) (marks : List Bool) (m : Metric) (p : ℕ) → IsPathRouting net routes → PairsJoinNodes net routes →
@@ -54,7 +54,7 @@ metric_near net routes marks m formed routing nodes is =
     let inside : p < length routes = omega (arith, below, is.distances_are.count) in
     go p inside (is_marked marks (source_of routes p)) refl)
   where
-    by_row : (p : ℕ) → p < length routes → AreDistances net m.weights (source_of routes p) (row_at m.rows (source_of routes p)) → slice_index m.distances p ≤ 2 ^ 35
+    by_row : (p : ℕ) → p < length routes → AreDistances net m.weights (source_of routes p) (distances_from m.rows (source_of routes p)) → slice_index m.distances p ≤ 2 ^ 35
     by_row p inside row =
         let known = pair_distance_by net routes marks m p routing nodes is inside row in
         let near =
@@ -71,20 +71,6 @@ metric_near net routes marks m formed routing nodes is =
           omega (arith, is.distances_are.each p inside, zero)
       | inr row ↦ by_row p inside row
     ]
-
--- a metric with a row for each node serves for any marks
-pub metric_for : (net : Network) (routes : List PairRoutes) (every marks : List Bool) (m : Metric) →
-    ((i : ℕ) → i < node_count net → is_marked every i ≡ true) → IsMetric net routes every m → IsMetric net routes marks m
-metric_for net routes every marks m all is = record {
-  count = is.count;
-  small = is.small;
-  rows_are = record {
-    count = is.rows_are.count;
-    each = λ i below marked. is.rows_are.each i below (all i below);
-    others = λ i below unmarked. inr (is.rows_are.each i below (all i below));
-  };
-  distances_are = is.distances_are;
-}
 
 -- the weights, the rows and the distances that were made, as one metric
 pub metric_is : (net : Network) (routes : List PairRoutes) (marks : List Bool) (weights distances : List ℕ) (rows : List (List (Option ℕ)))

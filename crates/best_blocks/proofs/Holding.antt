@@ -20,7 +20,7 @@ use Rattle.te_model.specs.Inequalities.{covers_share, keeps_bounds, pays_weights
 use Rattle.te_model.proofs.Sums.{sum_below-same}
 use Rattle.shortest_path.specs.Paths.{ArePotentials}
 use Rattle.te_model.proofs.Quotients.{quotient_up-enough}
-use Rattle.best_blocks.specs.Best.{asked, added, taken_back, needs_row, AreBalanced, IsBestBlock, IsScaleBetween}
+use Rattle.best_blocks.specs.Best.{weighed_share, plus_amount, minus_amount, needs_row, AreBalanced, IsBestBlock, IsScaleBetween}
 use Rattle.best_blocks.specs.Conditions.{IsRoutingWithin}
 use Rattle.shortest_path.proofs.PairDistances.{distance_known, path_of_pair}
 use Rattle.shortest_path.proofs.Unique.{distance_unique}
@@ -98,7 +98,7 @@ covers_between : (net : Network) (routes : List PairRoutes) (wanted : DemandSet)
 covers_between net routes wanted e weights block routing best p below needs unit balance =
     let same : best.shares p ≡ share routes p block.link = best.shares_are p below ∙ ap (share routes p) (sym best.link_is) in
     let is = potential_is net routes wanted e weights block routing best p below needs in
-    let x = asked block.b (best.shares p) in
+    let x = weighed_share block.b (best.shares p) in
     let enough : block.b * share routes p block.link ≤ x * 1000000 =
     subst (λ s. block.b * s ≤ x * 1000000) same (quotient_up-enough (block.b * best.shares p) SHARE_UNIT (omega arith))
     in
@@ -133,11 +133,11 @@ keeps_between : (lower upper : ℕ → ℕ) (n : ℕ) (shares distance : ℕ →
     AreBalanced n shares distance block.b block.plus block.minus → nat_le (weigh n upper (plus_of block)) (weigh n lower (minus_of block)) ≡ true
 keeps_between lower upper n shares distance block scale balance =
     let gain =
-    sum_below-same n (λ p. upper p * plus_of block p) (λ p. upper p * added shares distance block.b p)
+    sum_below-same n (λ p. upper p * plus_of block p) (λ p. upper p * plus_amount shares distance block.b p)
     (λ p below. ap (λ x. upper p * x) (balance.added_is.each p below))
     in
     let loss =
-    sum_below-same n (λ p. lower p * minus_of block p) (λ p. lower p * taken_back shares distance block.b p)
+    sum_below-same n (λ p. lower p * minus_of block p) (λ p. lower p * minus_amount shares distance block.b p)
     (λ p below. ap (λ x. lower p * x) (balance.taken_is.each p below))
     in
     let between = leb-true _ _ scale.balance.balanced in

@@ -1,8 +1,10 @@
+pub mod Growing
 pub mod Sizes
 pub mod Pushed
 pub mod Quotients
 pub mod Needs
 pub mod Balances
+pub mod Positive
 pub mod AllowedUse
 pub mod RowsFrom
 pub mod Marking
@@ -17,3 +19,7 @@ pub mod Scaled
 pub mod Holding
 pub mod BlockMade
 pub mod BlockValid
+pub mod SharedExist
+pub mod MetricsExist
+pub mod ScalesExist
+pub mod BlocksExist

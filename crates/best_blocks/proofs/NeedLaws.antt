@@ -17,7 +17,7 @@ use Rattle.te_model.proofs.Quotients.{quotient_up-enough, quotient_up-least}
 use Rattle.te_model.proofs.Sums.{sum_below-le, sum_below-mul, sum_below-same}
 use Rattle.shortest_path.proofs.Double.{distance_doubles}
 use Rattle.shortest_path.proofs.Unique.{distance_unique}
-use Rattle.best_blocks.specs.Best.{asked, added, taken_back, balances, needs_row, IsBestBlock, IsBestScale, IsScaleBetween, IsScaleForAll}
+use Rattle.best_blocks.specs.Best.{weighed_share, plus_amount, minus_amount, balances, needs_row, IsBestBlock, IsBestScale, IsScaleBetween, IsScaleForAll}
 use Rattle.best_blocks.specs.Need.{need_by, need_of}
 use Rattle.best_blocks.specs.Under.{IsNeedUnder, IsScaleUnder}
 use Rattle.best_blocks.proofs.Balances.{balances-same}
@@ -67,29 +67,29 @@ between_times k lower upper n shares distance shares' distance' a b a' b' there 
     (best.balance.some, best'.balance.some, omega (arith, bound, left))
 
 -- twice the number asks for at most twice as much
-asked_doubles : (b s : ℕ) → asked (2 * b) s ≤ 2 * asked b s
+asked_doubles : (b s : ℕ) → weighed_share (2 * b) s ≤ 2 * weighed_share b s
 asked_doubles b s =
     let enough = quotient_up-enough (b * s) SHARE_UNIT (omega arith) in
-    quotient_up-least (2 * b * s) SHARE_UNIT (2 * asked b s) (omega arith) (omega (arith, enough))
+    quotient_up-least (2 * b * s) SHARE_UNIT (2 * weighed_share b s) (omega arith) (omega (arith, enough))
 
 -- what balances the distances, doubled balances twice the distances
 balance_doubles : (lower upper : ℕ → ℕ) (n : ℕ) (shares distance : ℕ → ℕ) (b : ℕ) →
     balances lower upper n shares distance b ≡ true → balances lower upper n shares (λ p. 2 * distance p) (2 * b) ≡ true
 balance_doubles lower upper n shares distance b is =
     let gain =
-    sum_below-le n (λ p. upper p * added shares (λ p. 2 * distance p) (2 * b) p) (λ p. 2 * (upper p * added shares distance b p))
+    sum_below-le n (λ p. upper p * plus_amount shares (λ p. 2 * distance p) (2 * b) p) (λ p. 2 * (upper p * plus_amount shares distance b p))
     (λ p below. let asks = asked_doubles b (shares p) in
-    let less : added shares (λ p. 2 * distance p) (2 * b) p ≤ 2 * added shares distance b p = omega (arith, asks) in
+    let less : plus_amount shares (λ p. 2 * distance p) (2 * b) p ≤ 2 * plus_amount shares distance b p = omega (arith, asks) in
     omega (arith, mul-le-mul_left (upper p) less))
     in
     let loss =
-    sum_below-le n (λ p. 2 * (lower p * taken_back shares distance b p)) (λ p. lower p * taken_back shares (λ p. 2 * distance p) (2 * b) p)
+    sum_below-le n (λ p. 2 * (lower p * minus_amount shares distance b p)) (λ p. lower p * minus_amount shares (λ p. 2 * distance p) (2 * b) p)
     (λ p below. let asks = asked_doubles b (shares p) in
-    let more : 2 * taken_back shares distance b p ≤ taken_back shares (λ p. 2 * distance p) (2 * b) p = omega (arith, asks) in
+    let more : 2 * minus_amount shares distance b p ≤ minus_amount shares (λ p. 2 * distance p) (2 * b) p = omega (arith, asks) in
     omega (arith, mul-le-mul_left (lower p) more))
     in
-    let twice_gain = sum_below-mul n 2 (λ p. upper p * added shares distance b p) in
-    let twice_loss = sum_below-mul n 2 (λ p. lower p * taken_back shares distance b p) in
+    let twice_gain = sum_below-mul n 2 (λ p. upper p * plus_amount shares distance b p) in
+    let twice_loss = sum_below-mul n 2 (λ p. lower p * minus_amount shares distance b p) in
     let between = leb-true _ _ is in
     le-leb _ _ (omega (arith, gain, loss, twice_gain, twice_loss, between))
 

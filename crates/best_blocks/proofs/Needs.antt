@@ -2,7 +2,7 @@
 use Rattle.std.proofs.Common.{◌≡◌, ℕ, ◌*◌, ◌≤◌, List, [], ◌∷◌, ◌++◌, max, arith, subst, sym}
 use Rattle.std.specs.Prelude.{IsTrue}
 use Rattle.std.proofs.lemmas.Bool.{leb-true, le-leb}
-use Rattle.std.proofs.lemmas.List.Elements.{All-nil}
+use Rattle.std.proofs.lemmas.List.Elements.{All-nil, All-push, All-weaker}
 use Rattle.std.proofs.Math.Nat.{mul-le-mul_left}
 use Rattle.te_model.specs.declared.network.Network.{Network}
 use Rattle.te_model.specs.declared.certificate.Block.{Block}
@@ -12,7 +12,7 @@ use Rattle.te_model.specs.Inequalities.{weighted_capacity, pays_weights}
 use Rattle.best_blocks.specs.Need.{need_of, IsNeed, IsGreatestNeed}
 use Rattle.te_model.proofs.Quotients.{quotient_up-enough, quotient_up-least}
 use Rattle.te_model.proofs.Sizes.{unit_positive}
-use Rattle.best_blocks.proofs.Pushed.{all_append, all_weaker, all_front, all_last}
+use Rattle.best_blocks.proofs.Pushed.{all_front, all_last}
 
 -- what the numbers of a block need is its need
 pub is_need : (net : Network) (block : Block) (q : ℕ) → 1 ≤ block.b → 1 ≤ capacity_of net block.link → q ≡ need_of net block → IsNeed net block q
@@ -51,8 +51,8 @@ no_need net = record { enough = All-nil (λ b. IsTrue (pays_weights net b 0)); l
 pub greater_need : (net : Network) (blocks : List Block) (block : Block) (most need : ℕ) → IsGreatestNeed net blocks most → IsNeed net block need →
     IsGreatestNeed net (blocks ++ block ∷ []) (max most need)
 greater_need net blocks block most need greatest is = record {
-  enough = all_append (λ b. IsTrue (pays_weights net b (max most need))) blocks block
-      (all_weaker (λ b. IsTrue (pays_weights net b most)) (λ b. IsTrue (pays_weights net b (max most need)))
+  enough = All-push (λ b. IsTrue (pays_weights net b (max most need))) blocks block
+      (All-weaker (λ b. IsTrue (pays_weights net b most)) (λ b. IsTrue (pays_weights net b (max most need)))
       (λ b pays. pays_more net b most (max most need) (omega arith) pays) blocks greatest.enough)
       (pays_more net block need (max most need) (omega arith) is.enough);
   least = λ ratio pays.

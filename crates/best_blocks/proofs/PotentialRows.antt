@@ -2,7 +2,7 @@
 use Rattle.std.proofs.Common.{◌≡◌, ℕ, ◌+◌, ◌<◌, Bool, true, false, List, [], ◌∷◌, ◌++◌, Option, length, arith, refl, ap, sym, subst, ◌∙◌, inl, inr, nat_lt, ◌==◌}
 use Rattle.std.specs.Prelude.{All}
 use Rattle.std.proofs.lemmas.Bool.{cases_lt, lt-ltb, eq-eqb, and_from, and_parts}
-use Rattle.std.proofs.lemmas.List.Elements.{All-nil, All-head, All-tail}
+use Rattle.std.proofs.lemmas.List.Elements.{All-nil, All-head, All-tail, All-push, All-weaker}
 use Rattle.te_model.specs.declared.network.Network.{Network}
 use Rattle.te_model.specs.declared.route.PairRoutes.{PairRoutes}
 use Rattle.te_model.specs.declared.certificate.Row.{Row}
@@ -13,11 +13,11 @@ use Rattle.te_model.specs.Validity.{rows_ascend}
 use Rattle.shortest_path.specs.Paths.{ArePotentials}
 use Rattle.shortest_path.proofs.Filling.{potentials_of_distances}
 use Rattle.shortest_path.proofs.Sound.{sound}
-use Rattle.best_blocks.specs.Best.{IsSource, AreRows}
+use Rattle.best_blocks.specs.Best.{IsSource, AreNeededRows}
 use Rattle.best_blocks.specs.Marks.{AreSourceMarks}
 use Rattle.best_blocks.specs.Potentials.{potentials_of, ArePotentialRows}
-use Rattle.best_blocks.specs.Rows.{is_marked, row_at, AreRowsFrom}
-use Rattle.best_blocks.proofs.Pushed.{all_append, all_weaker, any_append, any_last}
+use Rattle.best_blocks.specs.Rows.{is_marked, distances_from, AreRowsFrom}
+use Rattle.best_blocks.proofs.Pushed.{any_append, any_last}
 
 rows_ascend-append : (rows : List Row) (r : Row) → rows_ascend rows ≡ true → All (λ s. s.source < r.source) rows → rows_ascend (rows ++ r ∷ []) ≡ true
 rows_ascend-append [] r ascend below = refl
@@ -38,11 +38,11 @@ pub potential_row_added : (i : ℕ) (net : Network) (weights : List ℕ) (marks 
     r.source ≡ i → is_marked marks i ≡ true → ArePotentials net weights i r.potential → ArePotentialRows (i + 1) net weights marks (rows ++ r ∷ [])
 potential_row_added i net weights marks rows r are is marked potentials = record {
   ascending = rows_ascend-append rows r are.ascending
-      (all_weaker (λ s. (s.source < i) × (is_marked marks s.source ≡ true)) (λ s. s.source < r.source) (λ s has. omega (arith, has.0, is)) rows are.marked);
-  potentials = all_append (λ r. ArePotentials net weights r.source r.potential) rows r are.potentials
+      (All-weaker (λ s. (s.source < i) × (is_marked marks s.source ≡ true)) (λ s. s.source < r.source) (λ s has. omega (arith, has.0, is)) rows are.marked);
+  potentials = All-push (λ r. ArePotentials net weights r.source r.potential) rows r are.potentials
       (subst (λ j. ArePotentials net weights j r.potential) (sym is) potentials);
-  marked = all_append (λ (s : Row). (s.source < i + 1) × (is_marked marks s.source ≡ true)) rows r
-      (all_weaker (λ s. (s.source < i) × (is_marked marks s.source ≡ true)) (λ s. (s.source < i + 1) × (is_marked marks s.source ≡ true))
+  marked = All-push (λ (s : Row). (s.source < i + 1) × (is_marked marks s.source ≡ true)) rows r
+      (All-weaker (λ s. (s.source < i) × (is_marked marks s.source ≡ true)) (λ s. (s.source < i + 1) × (is_marked marks s.source ≡ true))
       (λ s has. (omega (arith, has.0), has.1)) rows are.marked)
       (omega (arith, is), subst (λ j. is_marked marks j ≡ true) (sym is) marked);
   complete = λ j below marked_j. elim (cases_lt j i) [
@@ -54,9 +54,9 @@ potential_row_added i net weights marks rows r are is marked potentials = record
 -- the row of a marked node, by the distances from it
 pub row_of_distances : (i : ℕ) (net : Network) (weights : List ℕ) (marks : List Bool) (rows : List (List (Option ℕ))) (made : List Row) (r : Row) →
     is_well_formed net ≡ true → AreRowsFrom (node_count net) net weights marks rows → i < node_count net → ArePotentialRows i net weights marks made →
-    r ≡ record { source = i; potential = potentials_of (row_at rows i) } → is_marked marks i ≡ true → ArePotentialRows (i + 1) net weights marks (made ++ r ∷ [])
+    r ≡ record { source = i; potential = potentials_of (distances_from rows i) } → is_marked marks i ≡ true → ArePotentialRows (i + 1) net weights marks (made ++ r ∷ [])
 row_of_distances i net weights marks rows made r formed are inside so_far is marked =
-    let row = row_at rows i in
+    let row = distances_from rows i in
     let potentials : ArePotentials net weights i r.potential =
     subst (ArePotentials net weights i) (sym (ap (λ (x : Row). x.potential) is))
     (potentials_of_distances net weights i row (sound net formed) inside (are.each i inside marked))
@@ -68,7 +68,7 @@ pub potential_row_left_out : (i : ℕ) (net : Network) (weights : List ℕ) (mar
 potential_row_left_out i net weights marks rows are unmarked = record {
   ascending = are.ascending;
   potentials = are.potentials;
-  marked = all_weaker (λ s. (s.source < i) × (is_marked marks s.source ≡ true)) (λ s. (s.source < i + 1) × (is_marked marks s.source ≡ true))
+  marked = All-weaker (λ s. (s.source < i) × (is_marked marks s.source ≡ true)) (λ s. (s.source < i + 1) × (is_marked marks s.source ≡ true))
       (λ s has. (omega (arith, has.0), has.1)) rows are.marked;
   complete = λ j below marked_j. elim (cases_lt j i) [
     | inl lt ↦ are.complete j lt marked_j
@@ -82,11 +82,11 @@ potential_row_left_out i net weights marks rows are unmarked = record {
 -- rows of the marked nodes are the rows of the sources
 pub rows_of_sources : (n : ℕ) (net : Network) (weights : List ℕ) (routes : List PairRoutes) (set : DemandSet) (shares : ℕ → ℕ) (marks : List Bool) (rows : List Row) →
     AreSourceMarks n (length routes) routes set shares marks → ((p : ℕ) → p < length routes → source_of routes p < n) →
-    ArePotentialRows n net weights marks rows → AreRows net weights routes set shares rows
+    ArePotentialRows n net weights marks rows → AreNeededRows net weights routes set shares rows
 rows_of_sources n net weights routes set shares marks rows are inside rows_are = record {
   ascending = rows_are.ascending;
   potentials = rows_are.potentials;
-  needed = all_weaker (λ r. (r.source < n) × (is_marked marks r.source ≡ true)) (λ r. IsSource routes set shares r.source)
+  needed = All-weaker (λ r. (r.source < n) × (is_marked marks r.source ≡ true)) (λ r. IsSource routes set shares r.source)
       (λ r has. are.marked r.source has.1) rows rows_are.marked;
   complete = λ i source. rows_are.complete i (within i source) (marked i source);
 }

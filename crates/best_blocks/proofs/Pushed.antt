@@ -5,14 +5,6 @@ use Rattle.std.specs.List.{list_all, list_any}
 use Rattle.std.proofs.lemmas.List.Elements.{All-nil, All-cons, All-head, All-tail, All-from_get_or}
 use Rattle.te_model.proofs.Tests.{all_to_tests}
 
-pub all_append : {X : Type 0} (P : X → Type 0) (xs : List X) (y : X) → All P xs → P y → All P (xs ++ y ∷ [])
-all_append P [] y all last = All-cons P y [] last (All-nil P)
-all_append P (x ∷ xs) y all last = All-cons P x (xs ++ y ∷ []) (All-head P x xs all) (all_append P xs y (All-tail P x xs all) last)
-
-pub all_weaker : {X : Type 0} (P Q : X → Type 0) → ((x : X) → P x → Q x) → (xs : List X) → All P xs → All Q xs
-all_weaker P Q each [] all = All-nil Q
-all_weaker P Q each (x ∷ xs) all = All-cons Q x xs (each x (All-head P x xs all)) (all_weaker P Q each xs (All-tail P x xs all))
-
 pub any_append : {X : Type 0} (test : X → Bool) (xs : List X) (y : X) → list_any test xs ≡ true → list_any test (xs ++ y ∷ []) ≡ true
 any_append test [] y any = cc
 any_append test (x ∷ xs) y any = go (test x) any (any_append test xs y)

@@ -6,12 +6,12 @@ use Rattle.te_model.specs.declared.network.Network.{Network}
 use Rattle.te_model.specs.Network.{is_well_formed, node_count, link_count, tail_of, head_of}
 use Rattle.te_model.specs.Path.{has_number}
 use Rattle.te_model.proofs.Amounts.{has_at}
+use Rattle.te_model.proofs.Choices.{pushed_count, pushed_each}
 use Rattle.te_model.proofs.WellFormed.{links_join}
 use Rattle.shortest_path.specs.Graph.{distance_at}
 use Rattle.shortest_path.specs.Laws.{IsSlack}
 use Rattle.shortest_path.specs.Paths.{AreDistances}
 use Rattle.shortest_path.proofs.Stay.{distances_stay}
-use Rattle.shortest_path.proofs.Values.{pushed_count, pushed_each}
 use Rattle.std.proofs.lemmas.List.Elements.{All-get_or}
 use Rattle.best_blocks.specs.Rows.{is_loose, is_slack_for, is_marked, AreRowsFrom, IsSameElsewhere}
 

@@ -28,7 +28,7 @@ abbrev pub IsSource : List PairRoutes → DemandSet → (ℕ → ℕ) → ℕ �
 IsSource routes set shares i = (p : ℕ) × (p < length routes) × (source_of routes p ≡ i) × IsTrue (needs_row set (shares p))
 
 -- the potentials of exactly those sources that need a row, ascending
-pub record AreRows (net : Network) (weights : List ℕ) (routes : List PairRoutes) (set : DemandSet) (shares : ℕ → ℕ) (rows : List Row) : Type 0 where
+pub record AreNeededRows (net : Network) (weights : List ℕ) (routes : List PairRoutes) (set : DemandSet) (shares : ℕ → ℕ) (rows : List Row) : Type 0 where
   pub ascending : IsTrue (rows_ascend rows)
   pub potentials : All (λ r. ArePotentials net weights r.source r.potential) rows
   pub needed : All (λ r. IsSource routes set shares r.source) rows
@@ -50,20 +50,20 @@ pub record IsScaleForAll (n : ℕ) (shares distance : ℕ → ℕ) (a b : ℕ) :
   pub quotient : IsGreatestQuotient n shares distance a b
 
 -- b times a share, in whole units, rounded up
-abbrev pub asked : ℕ → ℕ → ℕ
-asked b s = quotient_up (b * s) SHARE_UNIT
+abbrev pub weighed_share : ℕ → ℕ → ℕ
+weighed_share b s = quotient_up (b * s) SHARE_UNIT
 
 -- by how much the shares ask for more than the distances, and for less
-abbrev pub added : (ℕ → ℕ) → (ℕ → ℕ) → ℕ → ℕ → ℕ
-added shares distance b p = asked b (shares p) - distance p
+abbrev pub plus_amount : (ℕ → ℕ) → (ℕ → ℕ) → ℕ → ℕ → ℕ
+plus_amount shares distance b p = weighed_share b (shares p) - distance p
 
-abbrev pub taken_back : (ℕ → ℕ) → (ℕ → ℕ) → ℕ → ℕ → ℕ
-taken_back shares distance b p = distance p - asked b (shares p)
+abbrev pub minus_amount : (ℕ → ℕ) → (ℕ → ℕ) → ℕ → ℕ → ℕ
+minus_amount shares distance b p = distance p - weighed_share b (shares p)
 
 -- whether what is added is taken back between the bounds of n pairs
 abbrev pub balances : (ℕ → ℕ) → (ℕ → ℕ) → ℕ → (ℕ → ℕ) → (ℕ → ℕ) → ℕ → Bool
 balances lower upper n shares distance b =
-    nat_le (weigh n upper (added shares distance b)) (weigh n lower (taken_back shares distance b))
+    nat_le (weigh n upper (plus_amount shares distance b)) (weigh n lower (minus_amount shares distance b))
 
 -- b is the greatest number up to 2^36 that balances
 pub record IsGreatestBalance (lower upper : ℕ → ℕ) (n : ℕ) (shares distance : ℕ → ℕ) (b : ℕ) : Type 0 where
@@ -87,8 +87,8 @@ IsBestScale (Box lower upper) n shares distance a b =
 
 -- what is added and what is taken back, a number for each pair
 pub record AreBalanced (n : ℕ) (shares distance : ℕ → ℕ) (b : ℕ) (plus minus : List ℕ) : Type 0 where
-  pub added_is : AreValues n (added shares distance b) plus
-  pub taken_is : AreValues n (taken_back shares distance b) minus
+  pub added_is : AreValues n (plus_amount shares distance b) plus
+  pub taken_is : AreValues n (minus_amount shares distance b) minus
 
 -- what is added and taken back where the weights are scaled by b: nothing for every matrix
 abbrev pub IsBalance : DemandSet → ℕ → (ℕ → ℕ) → (ℕ → ℕ) → ℕ → List ℕ → List ℕ → Type 0
@@ -110,6 +110,6 @@ pub record IsBestBlock (net : Network) (routes : List PairRoutes) (set : DemandS
   pub distances_are : AreNeededDistances net weights routes set shares distance
   pub link_is : block.link ≡ e
   pub weights_are : block.weights ≡ weights
-  pub rows_are : AreRows net weights routes set shares block.rows
+  pub rows_are : AreNeededRows net weights routes set shares block.rows
   pub scale : IsBestScale set (length routes) shares distance block.a block.b
   pub balance : IsBalance set (length routes) shares distance block.b block.plus block.minus

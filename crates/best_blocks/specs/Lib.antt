@@ -1,5 +1,6 @@
 pub mod Best
 pub mod Conditions
+pub mod Laws
 pub mod Marks
 pub mod Metric
 pub mod Need

@@ -7,11 +7,11 @@ use Rattle.te_model.specs.Path.{source_of, destination_of}
 use Rattle.shortest_path.specs.Graph.{distance_at}
 use Rattle.shortest_path.specs.Pairs.{AreValues}
 use Rattle.best_blocks.specs.declared.metric.Metric.{Metric}
-use Rattle.best_blocks.specs.Rows.{row_at, AreRowsFrom}
+use Rattle.best_blocks.specs.Rows.{distances_from, AreRowsFrom}
 
 -- what the rows say of the distance of pair p
 abbrev pub distance_in : List (List (Option ℕ)) → List PairRoutes → ℕ → ℕ
-distance_in rows routes p = unwrap_or (distance_at (row_at rows (source_of routes p)) (destination_of routes p)) 0
+distance_in rows routes p = unwrap_or (distance_at (distances_from rows (source_of routes p)) (destination_of routes p)) 0
 
 -- a weight of at most 2^28 for each link, the distances from the marked nodes, and what these say of each pair
 pub record IsMetric (net : Network) (routes : List PairRoutes) (marks : List Bool) (m : Metric) : Type 0 where

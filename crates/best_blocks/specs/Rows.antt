@@ -3,22 +3,19 @@ use Rattle.std.specs.Prelude.{◌≡◌, ◌⊎◌, ℕ, ◌+◌, ◌<◌, Bool,
 use Rattle.te_model.specs.declared.network.Network.{Network}
 use Rattle.te_model.specs.Network.{tail_of, head_of}
 use Rattle.te_model.specs.Path.{has_number}
+pub use Rattle.te_model.specs.Marks.{is_marked}
 use Rattle.shortest_path.specs.Graph.{distance_at}
 use Rattle.shortest_path.specs.Paths.{AreDistances}
 
--- whether node i is marked
-abbrev pub is_marked : List Bool → ℕ → Bool
-is_marked marks i = slice_index_or marks i false
-
 -- the row of node i
-abbrev pub row_at : List (List (Option ℕ)) → ℕ → List (Option ℕ)
-row_at rows i = slice_index_or rows i []
+abbrev pub distances_from : List (List (Option ℕ)) → ℕ → List (Option ℕ)
+distances_from rows i = slice_index_or rows i []
 
 -- a row for each of n nodes: the distances from those that are marked, and the distances or nothing for the others
 pub record AreRowsFrom (n : ℕ) (net : Network) (weights : List ℕ) (marks : List Bool) (rows : List (List (Option ℕ))) : Type 0 where
   pub count : length rows ≡ n
-  pub each : (i : ℕ) → i < n → is_marked marks i ≡ true → AreDistances net weights i (row_at rows i)
-  pub others : (i : ℕ) → i < n → is_marked marks i ≡ false → (row_at rows i ≡ []) ⊎ AreDistances net weights i (row_at rows i)
+  pub each : (i : ℕ) → i < n → is_marked marks i ≡ true → AreDistances net weights i (distances_from rows i)
+  pub others : (i : ℕ) → i < n → is_marked marks i ≡ false → (distances_from rows i ≡ []) ⊎ AreDistances net weights i (distances_from rows i)
 
 -- the weights of n links are the same but on the changed ones
 abbrev pub IsSameElsewhere : ℕ → List ℕ → List ℕ → List ℕ → Type 0

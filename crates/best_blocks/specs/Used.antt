@@ -6,7 +6,7 @@ use Rattle.te_model.specs.Path.{share}
 use Rattle.routing.specs.Shares.{AreSharesOn}
 use Rattle.shortest_path.specs.Pairs.{AreValues}
 use Rattle.best_blocks.specs.declared.sharing.SharedLink.{SharedLink}
-use Rattle.best_blocks.specs.Best.{asked}
+use Rattle.best_blocks.specs.Best.{weighed_share}
 
 -- the pairs with a share are listed: both lists tell the shares of some routing on the link
 pub record AreSharesListed (l : SharedLink) : Type 0 where
@@ -19,5 +19,5 @@ abbrev pub used_by : ℕ → ℕ → ℕ → ℕ → ℕ
 used_by lower upper distance wanted = upper * (wanted - distance) + lower * min wanted distance
 
 -- what n pairs use
-abbrev pub used : (ℕ → ℕ) → (ℕ → ℕ) → ℕ → (ℕ → ℕ) → (ℕ → ℕ) → ℕ → ℕ
-used lower upper n shares distance b = sum_below n (λ p. used_by (lower p) (upper p) (distance p) (asked b (shares p)))
+abbrev pub used_by_shares : (ℕ → ℕ) → (ℕ → ℕ) → ℕ → (ℕ → ℕ) → (ℕ → ℕ) → ℕ → ℕ
+used_by_shares lower upper n shares distance b = sum_below n (λ p. used_by (lower p) (upper p) (distance p) (weighed_share b (shares p)))

@@ -4,9 +4,9 @@ ghost use Rattle.te_model.specs.declared.units.TheConstants.{SHARE_UNIT};
 ghost use Rattle.te_model.specs.declared.limits.TheConstants.{FORMAT_2};
 ghost use Rattle.te_model.specs.Demand.{lower_of, upper_of};
 ghost use Rattle.te_model.specs.Inequalities.{weigh};
-ghost use Rattle.best_blocks.specs.Best.{added, asked, balances, taken_back, IsGreatestBalance};
+ghost use Rattle.best_blocks.specs.Best.{plus_amount, weighed_share, balances, minus_amount, IsGreatestBalance};
 ghost use Rattle.best_blocks.specs.Scale.{AreScalable};
-ghost use Rattle.best_blocks.specs.Used.{used, used_by, AreSharesListed};
+ghost use Rattle.best_blocks.specs.Used.{used_by_shares, used_by, AreSharesListed};
 ghost use Rattle.shortest_path.specs.Pairs.{AreValues};
 
 use crate::sharing::SharedLink;
@@ -18,10 +18,10 @@ use te_model::{DemandSet, Memory, SHARE_UNIT};
 const MAX_B: u64 = 1 << 36;
 
 /// `b` times the share, in whole units, rounded up.
-fn asked(share: u64, b: u64) -> u64
+fn weighed_share(share: u64, b: u64) -> u64
     requires share { share ≤ SHARE_UNIT }
     requires b { b ≤ 2 ^ 36 }
-    ensures value { result ≡ asked b share }
+    ensures value { result ≡ weighed_share b share }
     ensures small { result ≤ 2 ^ 36 }
 {
     (b * share + (SHARE_UNIT - 1)) / SHARE_UNIT
@@ -35,22 +35,22 @@ fn used_by(set: &DemandSet, entry: PairShare, distance: u64, b: u64) -> u128
     requires share { entry.share ≤ SHARE_UNIT }
     requires distance { distance ≤ 2 ^ 35 }
     requires b { b ≤ 2 ^ 36 }
-    ensures value { result ≡ used_by (lower_of set.now entry.pair) (upper_of set.now entry.pair) distance (asked b entry.share) }
+    ensures value { result ≡ used_by (lower_of set.now entry.pair) (upper_of set.now entry.pair) distance (weighed_share b entry.share) }
     ensures small { result ≤ 2 ^ 89 }
 {
     let pair = entry.pair as usize;
-    let wanted = asked(entry.share, b);
+    let wanted = weighed_share(entry.share, b);
     let more = wanted.saturating_sub(distance);
     let within = wanted.min(distance);
     set.upper(pair) as u128 * more as u128 + set.lower(pair) as u128 * within as u128
 }
 
 /// What the pairs with a share use of what the distances allow. The other pairs use nothing.
-fn used(set: &DemandSet, shared: &SharedLink, distances: &[u64], b: u64) -> u128
+fn used_by_shares(set: &DemandSet, shared: &SharedLink, distances: &[u64], b: u64) -> u128
     requires numbers { AreScalable set.now shared.now.shares distances.now }
     requires listed { AreSharesListed shared.now }
     requires b { b ≤ 2 ^ 36 }
-    ensures { result ≡ used (lower_of set.now) (upper_of set.now) (length shared.now.shares) (slice_index shared.now.shares) (slice_index distances.now) b }
+    ensures { result ≡ used_by_shares (lower_of set.now) (upper_of set.now) (length shared.now.shares) (slice_index shared.now.shares) (slice_index distances.now) b }
 {
     let mut sum: u128 = 0;
     for entry in shared.list.as_slice() {
@@ -61,7 +61,7 @@ fn used(set: &DemandSet, shared: &SharedLink, distances: &[u64], b: u64) -> u128
 
 /// What the distances allow at the lower bounds.
 #[tactic(auto, using(te_model::proofs::Sizes::bound_term))]
-fn allowed(set: &DemandSet, distances: &[u64]) -> u128
+fn allowance(set: &DemandSet, distances: &[u64]) -> u128
     requires few { length distances.now ≤ FORMAT_2.pairs }
     requires lower { (p : ℕ) → lower_of set.now p ≤ 2 ^ 52 }
     requires near { (p : ℕ) → slice_index distances.now p ≤ 2 ^ 35 }
@@ -83,7 +83,7 @@ fn balances(set: &DemandSet, shared: &SharedLink, distances: &[u64], allowed: u1
     requires b { b ≤ 2 ^ 36 }
     ensures { result ≡ balances (lower_of set.now) (upper_of set.now) (length shared.now.shares) (slice_index shared.now.shares) (slice_index distances.now) b }
 {
-    used(set, shared, distances, b) <= allowed
+    used_by_shares(set, shared, distances, b) <= allowed
 }
 
 /// The greatest number up to 2^36 that balances, or `None` where 1 does not. A greater number never
@@ -94,7 +94,7 @@ pub fn greatest_balance(set: &DemandSet, shared: &SharedLink, distances: &[u64])
     ensures some { IfSome result (λ b. IsGreatestBalance (lower_of set.now) (upper_of set.now) (length shared.now.shares) (slice_index shared.now.shares) (slice_index distances.now) b) }
     ensures none { IfNone result (balances (lower_of set.now) (upper_of set.now) (length shared.now.shares) (slice_index shared.now.shares) (slice_index distances.now) 1 ≡ false) }
 {
-    let allowed = allowed(set, distances);
+    let allowed = allowance(set, distances);
     if !balances(set, shared, distances, allowed, 1) {
         return None;
     }
@@ -112,21 +112,7 @@ pub fn greatest_balance(set: &DemandSet, shared: &SharedLink, distances: &[u64])
 }
 
 /// By how much each share asks for more than the distance of its pair.
-pub fn added(alloc: Global, shares: &[u64], distances: &[u64], b: u64) -> Result<Vec<u64>, Memory>
-    requires count { length distances.now ≡ length shares.now }
-    requires shares { (p : ℕ) → slice_index shares.now p ≤ SHARE_UNIT }
-    requires b { b ≤ 2 ^ 36 }
-    ensures { IfOk result (λ v. AreValues (length shares.now) (added (slice_index shares.now) (slice_index distances.now) b) v.items) }
-{
-    let mut more = Vec::with_capacity(alloc, shares.len())?;
-    for p in 0..shares.len() {
-        more.push(asked(shares[p], b).saturating_sub(distances[p]))?;
-    }
-    Ok(more)
-}
-
-/// By how much each share asks for less than the distance of its pair.
-pub fn taken_back(
+pub fn plus_amounts(
     alloc: Global,
     shares: &[u64],
     distances: &[u64],
@@ -135,11 +121,30 @@ pub fn taken_back(
     requires count { length distances.now ≡ length shares.now }
     requires shares { (p : ℕ) → slice_index shares.now p ≤ SHARE_UNIT }
     requires b { b ≤ 2 ^ 36 }
-    ensures { IfOk result (λ v. AreValues (length shares.now) (taken_back (slice_index shares.now) (slice_index distances.now) b) v.items) }
+    ensures { IfOk result (λ v. AreValues (length shares.now) (plus_amount (slice_index shares.now) (slice_index distances.now) b) v.items) }
+{
+    let mut more = Vec::with_capacity(alloc, shares.len())?;
+    for p in 0..shares.len() {
+        more.push(weighed_share(shares[p], b).saturating_sub(distances[p]))?;
+    }
+    Ok(more)
+}
+
+/// By how much each share asks for less than the distance of its pair.
+pub fn minus_amounts(
+    alloc: Global,
+    shares: &[u64],
+    distances: &[u64],
+    b: u64,
+) -> Result<Vec<u64>, Memory>
+    requires count { length distances.now ≡ length shares.now }
+    requires shares { (p : ℕ) → slice_index shares.now p ≤ SHARE_UNIT }
+    requires b { b ≤ 2 ^ 36 }
+    ensures { IfOk result (λ v. AreValues (length shares.now) (minus_amount (slice_index shares.now) (slice_index distances.now) b) v.items) }
 {
     let mut less = Vec::with_capacity(alloc, shares.len())?;
     for p in 0..shares.len() {
-        less.push(distances[p].saturating_sub(asked(shares[p], b)))?;
+        less.push(distances[p].saturating_sub(weighed_share(shares[p], b)))?;
     }
     Ok(less)
 }

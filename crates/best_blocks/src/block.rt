@@ -9,7 +9,7 @@ ghost use Rattle.best_blocks.specs.Metric.{IsMetric};
 ghost use Rattle.best_blocks.specs.Scale.{AreScalable, HasNoScale};
 ghost use Rattle.best_blocks.specs.Sharing.{HasShare, IsSharedLink};
 
-use crate::balance::{added, taken_back};
+use crate::balance::{minus_amounts, plus_amounts};
 use crate::metric::{Metric, metric_of};
 use crate::potentials::rows_of;
 use crate::scaling::{Scale, scale_under};
@@ -37,8 +37,8 @@ fn balance_between(
     requires b { b ≤ 2 ^ 36 }
     ensures { IfOk result (λ r. AreBalanced (length shares.now) (slice_index shares.now) (slice_index distances.now) b r.plus r.minus) }
 {
-    let plus = added(alloc, shares, distances, b)?;
-    let minus = taken_back(alloc, shares, distances, b)?;
+    let plus = plus_amounts(alloc, shares, distances, b)?;
+    let minus = minus_amounts(alloc, shares, distances, b)?;
     Ok(Balance {
         plus: Items::new(plus),
         minus: Items::new(minus),

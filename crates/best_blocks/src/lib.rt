@@ -9,6 +9,7 @@
 mod balance;
 mod block;
 mod capacity;
+mod law;
 mod metric;
 mod potentials;
 mod quotient;
@@ -18,6 +19,7 @@ mod sharing;
 
 pub use block::{best_block, scale};
 pub use capacity::{greatest_need, need, need_by};
+pub use law::best_blocks_exist;
 pub use metric::{Metric, metric_after, metric_of};
 pub use quotient::dearest_pair;
 pub use scaling::{Scale, scale_under};

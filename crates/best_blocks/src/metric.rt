@@ -4,7 +4,7 @@ ghost use Rattle.te_model.specs.Network.{is_well_formed, link_count, node_count}
 ghost use Rattle.shortest_path.specs.Graph.{distance_at};
 ghost use Rattle.shortest_path.specs.Pairs.{AreValues};
 ghost use Rattle.best_blocks.specs.Metric.{distance_in, IsMetric};
-ghost use Rattle.best_blocks.specs.Rows.{row_at, IsSameElsewhere};
+ghost use Rattle.best_blocks.specs.Rows.{distances_from, IsSameElsewhere};
 
 use crate::rows::{distance_at, rows_after, rows_under};
 use routing::Routing;
@@ -24,7 +24,7 @@ pub struct Metric {
 
 /// What the rows say of the distance between the nodes.
 fn distance_between(rows: &[Items<Option<u64>>], from: u32, to: u32) -> u64
-    ensures { result ≡ unwrap_or (distance_at (row_at rows.now from) to) 0 }
+    ensures { result ≡ unwrap_or (distance_at (distances_from rows.now from) to) 0 }
 {
     if (from as usize) < rows.len() {
         distance_at(rows[from as usize].as_slice(), to).unwrap_or(0)

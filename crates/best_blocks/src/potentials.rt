@@ -2,7 +2,7 @@
 ghost use Rattle.std.specs.Prelude.{◌≡◌, ◌<◌, ◌≤◌, IfOk, IfSome, IfNone, IsTrue, true, false, length};
 ghost use Rattle.te_model.specs.declared.limits.TheConstants.{FORMAT_2};
 ghost use Rattle.te_model.specs.Network.{is_well_formed, node_count};
-ghost use Rattle.best_blocks.specs.Rows.{is_marked, row_at, AreRowsFrom};
+ghost use Rattle.best_blocks.specs.Rows.{is_marked, distances_from, AreRowsFrom};
 ghost use Rattle.best_blocks.specs.Potentials.{potentials_of, ArePotentialRows};
 
 use shortest_path::potentials_by;
@@ -13,7 +13,7 @@ use te_model::{Items, Memory, Network, Row};
 fn row_of(alloc: Global, rows: &[Items<Option<u64>>], node: usize) -> Result<Row, Memory>
     requires inside { node < length rows.now }
     requires few { length rows.now ≤ FORMAT_2.nodes }
-    ensures { IfOk result (λ r. r ≡ record { source = node; potential = potentials_of (row_at rows.now node) }) }
+    ensures { IfOk result (λ r. r ≡ record { source = node; potential = potentials_of (distances_from rows.now node) }) }
 {
     let potential = potentials_by(alloc, rows[node].as_slice())?;
     Ok(Row {
@@ -32,7 +32,7 @@ fn row_if_marked(
     requires inside { node < length rows.now }
     requires few { length rows.now ≤ FORMAT_2.nodes }
     requires marks { length marks.now ≡ length rows.now }
-    ensures some { IfOk result (λ o. IfSome o (λ r. (r ≡ record { source = node; potential = potentials_of (row_at rows.now node) }) × (is_marked marks.now node ≡ true))) }
+    ensures some { IfOk result (λ o. IfSome o (λ r. (r ≡ record { source = node; potential = potentials_of (distances_from rows.now node) }) × (is_marked marks.now node ≡ true))) }
     ensures none { IfOk result (λ o. IfNone o (is_marked marks.now node ≡ false)) }
 {
     if marks[node] {

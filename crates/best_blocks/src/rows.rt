@@ -6,7 +6,7 @@ ghost use Rattle.shortest_path.specs.declared.rows.Direction.TheVariants.{Forwar
 ghost use Rattle.shortest_path.specs.Graph.{distance_at};
 ghost use Rattle.shortest_path.specs.Paths.{AreDistances};
 ghost use Rattle.shortest_path.specs.Rows.{IsSearchGraph};
-ghost use Rattle.best_blocks.specs.Rows.{is_loose, is_marked, is_slack_for, row_at, AreRowsFrom, IsSameElsewhere};
+ghost use Rattle.best_blocks.specs.Rows.{is_loose, is_marked, is_slack_for, distances_from, AreRowsFrom, IsSameElsewhere};
 
 use shortest_path::{Direction, Searches};
 use std::alloc::Global;
@@ -180,7 +180,7 @@ fn next_row(
     requires nodes { node_count net.now ≤ FORMAT_2.nodes }
     requires node { node < node_count net.now }
     requires inside { node < length rows.now }
-    requires row { AreDistances net.now old.now node (row_at rows.now node) }
+    requires row { AreDistances net.now old.now node (distances_from rows.now node) }
     requires changed { All (λ h. h < link_count net.now) changed.now }
     requires others { IsSameElsewhere (link_count net.now) changed.now old.now new.now }
     requires old { length old.now ≡ link_count net.now }

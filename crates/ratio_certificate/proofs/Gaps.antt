@@ -1,8 +1,8 @@
 -- How far the greatest weight is below 2^20, and what falls with each step of the polish.
 use Rattle.std.proofs.Common.{◌≡◌, ℕ, zero, suc, ◌*◌, ◌^◌, ◌<◌, ◌≤◌, List, [], ◌∷◌, length, arith, refl, slice_index}
 use Rattle.ratio_certificate.specs.declared.weighting.Weighting.{Weighting}
-use Rattle.ratio_certificate.specs.Polished.{Improves}
-use Rattle.ratio_certificate.specs.Weighting.{gap_of, greatest_of, left_of, AreDoubled}
+use Rattle.ratio_certificate.specs.Polished.{ImprovesBy64th}
+use Rattle.ratio_certificate.specs.Weighting.{gap_of, greatest_of, gap_of_weighting, AreDoubled}
 
 -- no number is above the greatest
 pub greatest_above : (xs : List ℕ) (k : ℕ) → k < length xs → slice_index xs k ≤ greatest_of xs
@@ -28,10 +28,10 @@ greatest_doubles (x ∷ xs) (y ∷ ys) count each =
 pub gap_less : (old new : List ℕ) → AreDoubled old new → 1 ≤ greatest_of old → greatest_of old < 2 ^ 20 → gap_of new < gap_of old
 gap_less old new twice some small = omega (arith, greatest_doubles old new twice.count twice.each, some, small)
 
-pub doubled_nearer : (old new : Weighting) → new.need ≤ old.need → gap_of new.weights < gap_of old.weights → left_of new < left_of old
+pub doubled_nearer : (old new : Weighting) → new.need ≤ old.need → gap_of new.weights < gap_of old.weights → gap_of_weighting new < gap_of_weighting old
 doubled_nearer old new less gap = omega (arith, less, gap)
 
-pub improved_nearer : (old new : Weighting) → Improves old.need new.need → left_of new < left_of old
+pub improved_nearer : (old new : Weighting) → ImprovesBy64th old.need new.need → gap_of_weighting new < gap_of_weighting old
 improved_nearer old new better =
     let near : gap_of new.weights ≤ 2 ^ 20 = omega arith in
     let less : new.need < old.need = better.0 in

@@ -34,7 +34,7 @@ use Rattle.te_model.proofs.PathRoutings.{path_routing}
 use Rattle.te_model.proofs.WellFormed.{links_join}
 use Rattle.best_blocks.proofs.Pushed.{all_tests}
 use Rattle.best_blocks.specs.Conditions.{IsRoutingWithin, IsSetWithin}
-use Rattle.ratio_certificate.specs.Form.{HasForm, IsFormatFor}
+use Rattle.ratio_certificate.specs.Form.{HasFormOfFormat, IsFormatFor}
 use Rattle.te_model.proofs.WellFormed.{few_links, few_nodes, well_formed_parts}
 use Rattle.shortest_path.proofs.PathLengths.{path_short}
 
@@ -120,7 +120,7 @@ shaped_bounds : (pairs : ℕ) (bounds : List ℕ) → length bounds ≡ pairs �
 shaped_bounds pairs bounds count small =
     and_from _ _ (eq-eqb _ _ count) (all_tests is_word bounds 0 (λ k below. lt-ltb _ _ (omega (arith, small k (omega (arith, below, count))))))
 
-shaped_set : (limits : Limits) (pairs : ℕ) (wanted : DemandSet) → IsSetWithin pairs wanted → HasForm limits.format wanted → is_shaped_set limits pairs wanted ≡ true
+shaped_set : (limits : Limits) (pairs : ℕ) (wanted : DemandSet) → IsSetWithin pairs wanted → HasFormOfFormat limits.format wanted → is_shaped_set limits pairs wanted ≡ true
 shaped_set limits pairs AllMatrices within form = refl
 shaped_set limits pairs (Box lower upper) within form =
     let low = shaped_bounds pairs lower.demand within.lower_count (λ p below. let each = within.each p below in omega (arith, each.0, each.1)) in
@@ -220,7 +220,7 @@ made_head h format formed some within wanted small =
     let shaped_pairs : list_all (is_shaped_pair limits) h.routes ≡ true =
     all_tests (is_shaped_pair limits) h.routes no_routes (shaped_pair limits net h.routes room format.nodes formed within)
     in
-    let set_is = shaped_set limits pairs h.set wanted (subst (λ f. HasForm f h.set) (sym number) format.form) in
+    let set_is = shaped_set limits pairs h.set wanted (subst (λ f. HasFormOfFormat f h.set) (sym number) format.form) in
     let ratio : is_word h.ratio ≡ true = lt-ltb _ _ (omega (arith, small)) in
     let paths = (path_routing h).1 within.splits in
     let new : (k : ℕ) → k < node_count net → is_new_name net k ≡ true = λ k below. all_below_at (node_count net) (is_new_name net) k (grind (arith, nat_tests)) below in

@@ -21,3 +21,9 @@ pub mod Certificates
 pub mod MadeForms
 pub mod MadeBlocks
 pub mod Changed
+pub mod WeightingsExist
+pub mod NextRoundExists
+pub mod RoundsExist
+pub mod Finding
+pub mod PolishExists
+pub mod CertificatesExist

@@ -1,23 +1,22 @@
 -- Lists that grow by one: the links with a share, their best rounds, and the blocks that are made of them.
-use Rattle.std.proofs.Common.{◌≡◌, ℕ, suc, ◌+◌, ◌*◌, ◌^◌, ◌<◌, ◌≤◌, List, [], ◌∷◌, ◌++◌, length, arith, refl, ap, sym, subst, ◌∙◌, inl, inr}
+use Rattle.std.proofs.Common.{◌≡◌, ℕ, suc, ◌+◌, ◌*◌, ◌^◌, ◌<◌, ◌≤◌, List, [], ◌∷◌, ◌++◌, length, arith, refl, ap, subst, ◌∙◌, inl, inr}
 use Rattle.std.specs.Prelude.{All}
 use Rattle.std.proofs.lemmas.Bool.{cases_lt}
 use Rattle.std.proofs.lemmas.List.{get_or_append_left, get_or_push, length-append}
-use Rattle.std.proofs.lemmas.List.Elements.{All-nil, All-get_or}
+use Rattle.std.proofs.lemmas.List.Elements.{All-nil, All-get_or, All-push, All-weaker}
 use Rattle.te_model.specs.declared.network.Network.{Network}
 use Rattle.te_model.specs.declared.route.PairRoutes.{PairRoutes}
 use Rattle.te_model.specs.declared.certificate.Block.{Block}
 use Rattle.te_model.specs.declared.demand.DemandSet.{DemandSet}
 use Rattle.te_model.specs.Certificate.{empty_block}
-use Rattle.te_model.specs.Validity.{block_at}
+use Rattle.te_model.proofs.Choices.{pushed_count, pushed_each}
 use Rattle.best_blocks.specs.declared.sharing.SharedLink.{SharedLink}
 use Rattle.best_blocks.specs.Best.{IsBestBlock}
 use Rattle.best_blocks.specs.Sharing.{HasShare, IsSharedLink}
-use Rattle.best_blocks.proofs.Pushed.{all_append, all_weaker}
 use Rattle.ratio_certificate.specs.declared.weighting.Weighting.{Weighting}
 use Rattle.ratio_certificate.specs.Making.{AreBlocksOf, AreSharedLinks}
 use Rattle.ratio_certificate.specs.Places.{no_shared, no_weighting, shared_at, weighting_at}
-use Rattle.ratio_certificate.specs.Rising.{AreRounds, NeedsNoMore}
+use Rattle.ratio_certificate.specs.Rising.{AreBestRounds, NeedsNoMore}
 use Rattle.ratio_certificate.specs.Steps.{AreWeightings}
 use Rattle.ratio_certificate.specs.Weighting.{IsWeighting}
 
@@ -52,10 +51,10 @@ ascend_append links l ascend below k inside =
 pub link_added : (m : ℕ) (net : Network) (routes : List PairRoutes) (set : DemandSet) (links : List SharedLink) (l : SharedLink) →
     AreSharedLinks m net routes set links → l.link ≡ m → IsSharedLink net routes set l → AreSharedLinks (m + 1) net routes set (links ++ l ∷ [])
 link_added m net routes set links l are is shared = record {
-  each = all_append (IsSharedLink net routes set) links l are.each shared;
-  below = all_append (λ (x : SharedLink). x.link < m + 1) links l (all_weaker (λ x. x.link < m) (λ x. x.link < m + 1) (λ x lt. omega (arith, lt)) links are.below)
+  each = All-push (IsSharedLink net routes set) links l are.each shared;
+  below = All-push (λ (x : SharedLink). x.link < m + 1) links l (All-weaker (λ x. x.link < m) (λ x. x.link < m + 1) (λ x lt. omega (arith, lt)) links are.below)
       (omega (arith, is));
-  ascending = ascend_append links l are.ascending (all_weaker (λ x. x.link < m) (λ x. x.link < l.link) (λ x lt. omega (arith, lt, is)) links are.below);
+  ascending = ascend_append links l are.ascending (All-weaker (λ x. x.link < m) (λ x. x.link < l.link) (λ x lt. omega (arith, lt, is)) links are.below);
   few = omega (arith, are.few, length-append links (l ∷ []));
   complete = λ e below share. elim (cases_lt e m) [
     | inl lt ↦
@@ -77,7 +76,7 @@ pub link_left_out : (m : ℕ) (net : Network) (routes : List PairRoutes) (set : 
     AreSharedLinks m net routes set links → (HasShare routes m → ⊥) → AreSharedLinks (m + 1) net routes set links
 link_left_out m net routes set links are none = record {
   each = are.each;
-  below = all_weaker (λ x. x.link < m) (λ x. x.link < m + 1) (λ x lt. omega (arith, lt)) links are.below;
+  below = All-weaker (λ x. x.link < m) (λ x. x.link < m + 1) (λ x lt. omega (arith, lt)) links are.below;
   ascending = are.ascending;
   few = omega (arith, are.few);
   complete = λ e below share. elim (cases_lt e m) [
@@ -86,17 +85,7 @@ link_left_out m net routes set links are none = record {
   ];
 }
 
--- what holds of the first n of a list of n and of the next one holds of n + 1
-weighting_pushed : (P : ℕ → Weighting → Type 0) (n : ℕ) (list : List Weighting) (w : Weighting) → length list ≡ n → ((k : ℕ) → k < n → P k (weighting_at list k)) → P n w →
-    (k : ℕ) → k < n + 1 → P k (weighting_at (list ++ w ∷ []) k)
-weighting_pushed P n list w count each last k below = elim (cases_lt k n) [
-  | inl lt ↦ subst (P k) (sym (get_or_append_left list (w ∷ []) no_weighting k (omega (arith, lt, count)))) (each k lt)
-  | inr ge ↦
-      let here : k ≡ n = omega (arith, ge, below) in
-      subst (λ i. P i (weighting_at (list ++ w ∷ []) i)) (sym here) (subst (P n) (sym (get_or_push list w no_weighting n count)) last)
-]
-
-pub no_rounds : (net : Network) (routes : List PairRoutes) (set : DemandSet) (links : List SharedLink) → AreRounds 0 net routes set links []
+pub no_rounds : (net : Network) (routes : List PairRoutes) (set : DemandSet) (links : List SharedLink) → AreBestRounds 0 net routes set links []
 no_rounds net routes set links = record {
   count = refl;
   links_are = λ k below. absurd (omega arith);
@@ -106,19 +95,19 @@ no_rounds net routes set links = record {
 }
 
 pub round_added : (n : ℕ) (net : Network) (routes : List PairRoutes) (set : DemandSet) (links : List SharedLink) (list : List Weighting) (w : Weighting) →
-    AreRounds n net routes set links list → w.link ≡ (shared_at links n).link → IsWeighting net routes set w → NeedsNoMore net routes set w.link 15 w →
-    w.need ≤ 1000000 * 2 ^ 42 → AreRounds (n + 1) net routes set links (list ++ w ∷ [])
+    AreBestRounds n net routes set links list → w.link ≡ (shared_at links n).link → IsWeighting net routes set w → NeedsNoMore net routes set w.link 15 w →
+    w.need ≤ 1000000 * 2 ^ 42 → AreBestRounds (n + 1) net routes set links (list ++ w ∷ [])
 round_added n net routes set links list w are is weighting least small = record {
-  count = length-append list (w ∷ []) ∙ ap (λ k. k + 1) are.count;
-  links_are = weighting_pushed (λ k x. x.link ≡ (shared_at links k).link) n list w are.count are.links_are is;
-  each = weighting_pushed (λ k x. IsWeighting net routes set x) n list w are.count are.each weighting;
-  least = weighting_pushed (λ k x. NeedsNoMore net routes set x.link 15 x) n list w are.count are.least least;
-  small = weighting_pushed (λ k x. x.need ≤ 1000000 * 2 ^ 42) n list w are.count are.small small;
+  count = pushed_count list w n are.count;
+  links_are = pushed_each (λ k x. x.link ≡ (shared_at links k).link) list w no_weighting n are.count are.links_are is;
+  each = pushed_each (λ k x. IsWeighting net routes set x) list w no_weighting n are.count are.each weighting;
+  least = pushed_each (λ k x. NeedsNoMore net routes set x.link 15 x) list w no_weighting n are.count are.least least;
+  small = pushed_each (λ k x. x.need ≤ 1000000 * 2 ^ 42) list w no_weighting n are.count are.small small;
 }
 
 -- the rounds are weights from which the polish starts
 pub rounds_start : (net : Network) (routes : List PairRoutes) (set : DemandSet) (links : List SharedLink) (list : List Weighting) →
-    AreRounds (length links) net routes set links list → AreWeightings net routes set links list list
+    AreBestRounds (length links) net routes set links list → AreWeightings net routes set links list list
 rounds_start net routes set links list are = record {
   count = are.count;
   links_are = are.links_are;
@@ -133,15 +122,7 @@ pub block_added : (n : ℕ) (net : Network) (routes : List PairRoutes) (set : De
     AreBlocksOf n net routes set list blocks → IsBestBlock net routes set (weighting_at list n).link (weighting_at list n).weights b →
     AreBlocksOf (n + 1) net routes set list (blocks ++ b ∷ [])
 block_added n net routes set list blocks b are best = record {
-  count = length-append blocks (b ∷ []) ∙ ap (λ k. k + 1) are.count;
-  each = λ k below. elim (cases_lt k n) [
-    | inl lt ↦
-        subst (IsBestBlock net routes set (weighting_at list k).link (weighting_at list k).weights)
-        (sym (get_or_append_left blocks (b ∷ []) (empty_block 0) k (omega (arith, lt, are.count)))) (are.each k lt)
-    | inr ge ↦
-        let here : k ≡ n = omega (arith, ge, below) in
-        subst (λ i. IsBestBlock net routes set (weighting_at list i).link (weighting_at list i).weights (block_at (blocks ++ b ∷ []) i)) (sym here)
-        (subst (IsBestBlock net routes set (weighting_at list n).link (weighting_at list n).weights)
-        (sym (get_or_push blocks b (empty_block 0) n are.count)) best)
-  ];
+  count = pushed_count blocks b n are.count;
+  each = pushed_each (λ k (x : Block). IsBestBlock net routes set (weighting_at list k).link (weighting_at list k).weights x) blocks b (empty_block 0) n
+      are.count are.each best;
 }

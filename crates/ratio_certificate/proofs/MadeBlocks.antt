@@ -26,7 +26,7 @@ use Rattle.ratio_certificate.specs.Made.{HasBlock, IsOwnBest, IsWithinStart}
 use Rattle.ratio_certificate.specs.Making.{AreBlocksOf, AreMadeBlocks, ArePaidBy, AreSharedLinks}
 use Rattle.ratio_certificate.specs.Places.{no_shared, shared_at, weighting_at}
 use Rattle.ratio_certificate.specs.Polished.{IsFine, IsPolished, IsWithinRounds, IsWorst, IsWorstBlock}
-use Rattle.ratio_certificate.specs.Rising.{AreRounds, NeedsNoMore}
+use Rattle.ratio_certificate.specs.Rising.{AreBestRounds, NeedsNoMore}
 use Rattle.ratio_certificate.specs.Steps.{AreWeightings, IsDone, IsSettledAt}
 use Rattle.ratio_certificate.specs.Weighting.{AreWeights}
 use Rattle.ratio_certificate.proofs.Certificates.{blocks_numbers}
@@ -36,7 +36,7 @@ use Rattle.ratio_certificate.proofs.Settling.{settled_block}
 -- all that is known once the blocks are made
 pub record AreMaking (net : Network) (routes : List PairRoutes) (set : DemandSet) (links : List SharedLink) (start list : List Weighting) (blocks : List Block) : Type 0 where
   pub links_are : AreSharedLinks (link_count net) net routes set links
-  pub rounds : AreRounds (length links) net routes set links start
+  pub rounds : AreBestRounds (length links) net routes set links start
   pub polished : AreWeightings net routes set links start list
   pub done : IsDone net routes set list
   pub blocks_are : AreBlocksOf (length list) net routes set list blocks
@@ -191,11 +191,11 @@ within_start net routes set blocks polished k d below best is_best = polished.ro
 -- the same from lists that are lent to each call
 pub making_read : (net : Network) (routes : List PairRoutes) (set : DemandSet) (links first second third : List SharedLink) (start list lent : List Weighting) (blocks : List Block) →
     first ≡ links → second ≡ links → third ≡ links → lent ≡ list → AreSharedLinks (link_count net) net routes set links →
-    AreRounds (length first) net routes set first start → AreWeightings net routes set second start list → IsDone net routes set list →
+    AreBestRounds (length first) net routes set first start → AreWeightings net routes set second start list → IsDone net routes set list →
     AreBlocksOf (length lent) net routes set lent blocks → AreMaking net routes set links start list blocks
 making_read net routes set links first second third start list lent blocks is_first is_second is_third is_lent are rounds polished done made = record {
   links_are = are;
-  rounds = subst (λ (x : List SharedLink). AreRounds (length x) net routes set x start) is_first rounds;
+  rounds = subst (λ (x : List SharedLink). AreBestRounds (length x) net routes set x start) is_first rounds;
   polished = subst (λ (x : List SharedLink). AreWeightings net routes set x start list) is_second polished;
   done = done;
   blocks_are = subst (λ (x : List Weighting). AreBlocksOf (length x) net routes set x blocks) is_lent made;

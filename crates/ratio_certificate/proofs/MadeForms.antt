@@ -15,7 +15,7 @@ use Rattle.te_model.proofs.Valid.{square_small}
 use Rattle.te_model.proofs.Upgrading.{scaled_at}
 use Rattle.te_model.proofs.WellFormed.{few_links, few_nodes}
 use Rattle.best_blocks.specs.Conditions.{IsSetWithin}
-use Rattle.ratio_certificate.specs.Form.{fits_first_format, is_box, made_format, made_set, set_in, HasForm, IsFormatFor}
+use Rattle.ratio_certificate.specs.Form.{fits_first_format, is_box, made_format, made_set, set_in, HasFormOfFormat, IsFormatFor}
 
 -- the numbers of a margin within the limits
 pub small_margin : (n : ℕ) (set : DemandSet) → IsSetWithin n set → HasSmallMargin set
@@ -53,12 +53,12 @@ set_within n format set within = go (format == 2)
     go false = within
     go true = box_within n set within
 
-no_box : (set : DemandSet) → is_box set ≡ false → HasForm 1 set
+no_box : (set : DemandSet) → is_box set ≡ false → HasFormOfFormat 1 set
 no_box All is = tt
 no_box (Margin num den base) is = refl
 no_box (Box lower upper) is = cc
 
-no_margin : (set : DemandSet) → HasForm 2 (box_of set)
+no_margin : (set : DemandSet) → HasFormOfFormat 2 (box_of set)
 no_margin All = tt
 no_margin (Margin num den base) = refl
 no_margin (Box lower upper) = refl

@@ -24,9 +24,9 @@ use Rattle.best_blocks.specs.Quotient.{IsGreatestAt}
 use Rattle.best_blocks.specs.Sharing.{IsSharedLink}
 use Rattle.best_blocks.proofs.Scaled.{needed_distances}
 use Rattle.ratio_certificate.specs.Rising.{IsRoundAfter}
-use Rattle.ratio_certificate.specs.Rounds.{raised, AreRaised, IsNarrowest, IsNextRound}
+use Rattle.ratio_certificate.specs.Rounds.{raised_weight, AreRaised, IsNarrowest, IsNextRound}
 use Rattle.ratio_certificate.specs.Weighting.{AreWeights}
-use Rattle.ratio_certificate.proofs.Positive.{least_far}
+use Rattle.best_blocks.proofs.Positive.{least_far}
 use Rattle.ratio_certificate.proofs.RoundLaws.{all_has, next_none, next_only, raised_more}
 
 -- a pair with a share needs a row, whatever the set
@@ -125,7 +125,7 @@ raised_each : (net : Network) (path old new : List ℕ) (least : ℕ) → is_wel
     (slice_index old h ≤ slice_index new h) × (slice_index new h ≤ (5 * slice_index old h + 3) / 4)
 raised_each net path old new least formed count narrow are h below = go (has_number path h) refl (are.each h below)
   where
-    go : (b : Bool) → has_number path h ≡ b → slice_index new h ≡ cond b (raised least (capacity_of net h) (slice_index old h)) (slice_index old h) →
+    go : (b : Bool) → has_number path h ≡ b → slice_index new h ≡ cond b (raised_weight least (capacity_of net h) (slice_index old h)) (slice_index old h) →
         (slice_index old h ≤ slice_index new h) × (slice_index new h ≤ (5 * slice_index old h + 3) / 4)
     go true has at =
         let some = capacities_positive net formed h (omega (arith, below, count)) in
@@ -146,7 +146,7 @@ round_after net routes set l m new path d formed within shared metric is (least,
   only = λ weights next. only weights next is.dearest;
 }
   where
-    go : (h : ℕ) (b : Bool) → b ≡ false → slice_index new h ≡ cond b (raised least (capacity_of net h) (slice_index m.weights h)) (slice_index m.weights h) →
+    go : (h : ℕ) (b : Bool) → b ≡ false → slice_index new h ≡ cond b (raised_weight least (capacity_of net h) (slice_index m.weights h)) (slice_index m.weights h) →
         slice_index new h ≡ slice_index m.weights h
     go h true none at = cc
     go h false none at = at

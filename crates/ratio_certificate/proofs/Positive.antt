@@ -1,36 +1,12 @@
 -- Weights of 1 and more have a best scale, whose numbers are small.
-use Rattle.std.proofs.Common.{◌≡◌, ℕ, ◌*◌, ◌^◌, ◌<◌, ◌≤◌, true, false, List, length, arith, refl, sym, ◌∙◌, inl, inr, slice_index}
-use Rattle.std.proofs.lemmas.Bool.{cases_lt, le-leb, lt-ltb}
-use Rattle.te_model.specs.declared.network.Network.{Network}
-use Rattle.te_model.specs.declared.route.PairRoutes.{PairRoutes}
+use Rattle.std.proofs.Common.{◌≡◌, ℕ, ◌^◌, ◌<◌, ◌≤◌, true, false, arith, refl, sym, ◌∙◌, inl, inr}
+use Rattle.std.proofs.lemmas.Bool.{cases_lt, lt-ltb}
 use Rattle.te_model.specs.declared.demand.DemandSet.{DemandSet}
 use Rattle.te_model.specs.declared.demand.DemandSet.TheVariants.{All as AllMatrices, Margin, Box}
 use Rattle.te_model.specs.declared.units.TheConstants.{SHARE_UNIT}
-use Rattle.te_model.specs.Network.{link_count}
-use Rattle.te_model.specs.Path.{source_of, destination_of}
-use Rattle.te_model.proofs.Sums.{sum_below-zero}
-use Rattle.shortest_path.proofs.PathLengths.{distance_large}
-use Rattle.best_blocks.specs.Best.{added, balances, needs_row, AreNeededDistances, IsBestScale, IsScaleBetween}
-use Rattle.best_blocks.specs.Conditions.{IsRoutingWithin}
+use Rattle.best_blocks.specs.Best.{needs_row, IsBestScale, IsScaleBetween}
 use Rattle.best_blocks.specs.Scale.{HasNoScale}
-use Rattle.best_blocks.proofs.Balances.{asked-small}
-
--- no distance is below the least weight
-pub least_far : (net : Network) (routes : List PairRoutes) (set : DemandSet) (weights : List ℕ) (least : ℕ) (shares distance : ℕ → ℕ) → IsRoutingWithin net routes →
-    ((h : ℕ) → h < link_count net → least ≤ slice_index weights h) → AreNeededDistances net weights routes set shares distance →
-    (p : ℕ) → p < length routes → needs_row set (shares p) ≡ true → least ≤ distance p
-least_far net routes set weights least shares distance within large are p below needs =
-    distance_large net weights least (source_of routes p) (destination_of routes p) (distance p) (within.apart p below) large (are p below needs)
-
--- a number that no distance is below balances
-balances_near : (lower upper : ℕ → ℕ) (n : ℕ) (shares distance : ℕ → ℕ) (b : ℕ) → ((p : ℕ) → p < n → shares p ≤ SHARE_UNIT) →
-    ((p : ℕ) → p < n → b ≤ distance p) → balances lower upper n shares distance b ≡ true
-balances_near lower upper n shares distance b light far =
-    let none = sum_below-zero n (λ p. upper p * added shares distance b p) (λ p below.
-    let no_more : added shares distance b p ≡ 0 = omega (arith, asked-small b (shares p) (light p below), far p below) in
-    rw no_more (omega arith))
-    in
-    le-leb _ _ (omega (arith, none))
+use Rattle.best_blocks.proofs.Positive.{balances_near}
 
 -- with distances of 1 and more there is a best scale
 pub some_scale : (n : ℕ) (wanted : DemandSet) (shares distance : ℕ → ℕ) → ((p : ℕ) → p < n → shares p ≤ SHARE_UNIT) →

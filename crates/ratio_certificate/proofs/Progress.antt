@@ -10,7 +10,7 @@ use Rattle.best_blocks.specs.declared.sharing.SharedLink.{SharedLink}
 use Rattle.ratio_certificate.specs.declared.weighting.Weighting.{Weighting}
 use Rattle.ratio_certificate.specs.Places.{no_weighting, weighting_at}
 use Rattle.ratio_certificate.specs.Steps.{AreWeightings, IsProgress}
-use Rattle.ratio_certificate.specs.Weighting.{left_in, left_of, IsWeighting}
+use Rattle.ratio_certificate.specs.Weighting.{gap_in, gap_of_weighting, IsWeighting}
 
 -- the weights at each place of the list with another at place i
 set_here : (list : List Weighting) (i : ℕ) (w : Weighting) → i < length list → weighting_at (set list i w) i ≡ w
@@ -49,7 +49,7 @@ progress_made net routes wanted links start list i w below are progress = record
 }
 
 pub left_falls : (net : Network) (routes : List PairRoutes) (wanted : DemandSet) (list : List Weighting) (i : ℕ) (w : Weighting) → i < length list →
-    IsProgress net routes wanted (weighting_at list i) w → left_in (set list i w) < left_in list
+    IsProgress net routes wanted (weighting_at list i) w → gap_in (set list i w) < gap_in list
 left_falls net routes wanted list i w below progress =
-    let changed = sum_by-set left_of list i w no_weighting below in
+    let changed = sum_by-set gap_of_weighting list i w no_weighting below in
     omega (arith, changed, progress.nearer)

@@ -15,11 +15,11 @@ use Rattle.te_model.proofs.Quotients.{quotient_up-least}
 use Rattle.shortest_path.specs.Paths.{IsDistance, IsLeastPath}
 use Rattle.shortest_path.proofs.Unique.{distance_unique, least_path_only}
 use Rattle.best_blocks.specs.Best.{IsGreatestQuotient}
-use Rattle.ratio_certificate.specs.Rounds.{raised, AreRaised, IsNarrowest, IsNextRound}
+use Rattle.ratio_certificate.specs.Rounds.{raised_weight, AreRaised, IsNarrowest, IsNextRound}
 
 -- a round adds a quarter of the weight at most, rounded up
 pub raised_more : (least capacity weight : ℕ) → 1 ≤ capacity → least ≤ capacity →
-    (weight ≤ raised least capacity weight) × (raised least capacity weight ≤ (5 * weight + 3) / 4)
+    (weight ≤ raised_weight least capacity weight) × (raised_weight least capacity weight ≤ (5 * weight + 3) / 4)
 raised_more least capacity weight some less =
     let product : weight * least ≤ weight * capacity = mul-le-mul_left weight less in
     let quarter : weight ≤ (weight + 3) / 4 * 4 = omega arith in

@@ -19,7 +19,7 @@ use Rattle.best_blocks.proofs.NeedLaws.{needs_are_one}
 use Rattle.ratio_certificate.specs.declared.raising.NextRound.{NextRound}
 use Rattle.ratio_certificate.specs.declared.weighting.Weighting.{Weighting}
 use Rattle.ratio_certificate.specs.Rising.{IsRoundAfter, IsRoundMetric, NeedsNoMore}
-use Rattle.ratio_certificate.specs.Rounds.{greatest_of_round, starting_weights, IsNextRound, IsRound}
+use Rattle.ratio_certificate.specs.Rounds.{greatest_of_round, starting_weights, IsNextRound, IsWeightRound}
 use Rattle.ratio_certificate.specs.Weighting.{AreWeights, IsWeighting}
 use Rattle.ratio_certificate.proofs.StartingNeed.{starting_need}
 use Rattle.ratio_certificate.proofs.Weighed.{all_small, scale_within}
@@ -43,7 +43,7 @@ round_weights net routes l k m few is = record {
   small = λ h below. omega (arith, is.high h below, rounds_small k few);
 }
 
-first_round : (net : Network) (routes : List PairRoutes) (l : SharedLink) (m : Metric) → IsMetric net routes l.marks m →
+pub first_round : (net : Network) (routes : List PairRoutes) (l : SharedLink) (m : Metric) → IsMetric net routes l.marks m →
     m.weights ≡ replicate (link_count net) (2 ^ 20) → IsRoundMetric net routes l 0 m
 first_round net routes l m metric are = record {
   metric = metric;
@@ -74,7 +74,7 @@ next_small net routes l k m next few is after =
     all_small next.weights (link_count net) (2 ^ 28) (after.count ∙ is.metric.count)
     (λ h below. omega (arith, next_high net routes l k m next is after h below, rounds_small (suc k) (omega arith)))
 
-round_after_round : (net : Network) (routes : List PairRoutes) (l : SharedLink) (k : ℕ) (m m' : Metric) (next : NextRound) → IsRoundMetric net routes l k m →
+pub round_after_round : (net : Network) (routes : List PairRoutes) (l : SharedLink) (k : ℕ) (m m' : Metric) (next : NextRound) → IsRoundMetric net routes l k m →
     IsRoundAfter net routes l.link m.weights next → IsMetric net routes l.marks m' → m'.weights ≡ next.weights → IsRoundMetric net routes l (k + 1) m'
 round_after_round net routes l k m m' next is after metric are =
     subst (λ j. IsRoundMetric net routes l j m') (sym (add-one k)) (record {
@@ -99,7 +99,7 @@ next_made net routes l k m next marks weights (Err e) is_marks are is after metr
 -- what the weights of a round need is one number
 pub round_need : (net : Network) (routes : List PairRoutes) (set : DemandSet) (l : SharedLink) (k : ℕ) (m : Metric) (w : Weighting) → is_well_formed net ≡ true →
     IsSharedLink net routes set l → IsRoundMetric net routes l k m → IsWeighting net routes set w → w.link ≡ l.link → w.weights ≡ m.weights →
-    (weights : List ℕ) → IsRound net routes l.link k weights → (need : ℕ) → IsNeedUnder net routes set l.link weights need → w.need ≡ need
+    (weights : List ℕ) → IsWeightRound net routes l.link k weights → (need : ℕ) → IsNeedUnder net routes set l.link weights need → w.need ≡ need
 round_need net routes set l k m w formed shared is weighting link_is weights_are weights round need under =
     needs_are_one net routes set l.link m.weights w.need need (capacities_positive net formed l.link shared.within)
     (subst (λ (ws : List ℕ). IsNeedUnder net routes set l.link ws w.need) weights_are
@@ -112,7 +112,7 @@ pub first_least : (net : Network) (routes : List PairRoutes) (set : DemandSet) (
 first_least net routes set l m w formed shared is weighting link_is weights_are j few weights round need under =
     let zero_is : j ≡ 0 = omega arith in
     let same = round_need net routes set l 0 m w formed shared is weighting link_is weights_are weights
-    (subst (λ i. IsRound net routes l.link i weights) zero_is round) need under
+    (subst (λ i. IsWeightRound net routes l.link i weights) zero_is round) need under
     in
     omega (arith, same)
 
@@ -146,7 +146,7 @@ next_least net routes set l k m best other w formed shared is weighting link_is 
       | inl lt ↦
           let last : j ≡ k + 1 = omega arith in
           let same = round_need net routes set l (k + 1) m other formed shared is weighting link_is weights_are weights
-          (subst (λ i. IsRound net routes l.link i weights) last round) need under
+          (subst (λ i. IsWeightRound net routes l.link i weights) last round) need under
           in
           omega (arith, bounds.2, same)
       | inr ge ↦ omega (arith, bounds.1, least j ge weights round need under)

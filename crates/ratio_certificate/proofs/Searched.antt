@@ -8,7 +8,7 @@ use Rattle.best_blocks.specs.declared.sharing.SharedLink.{SharedLink}
 use Rattle.ratio_certificate.specs.declared.weighting.Weighting.{Weighting}
 use Rattle.ratio_certificate.specs.Places.{weighting_at}
 use Rattle.ratio_certificate.specs.Steps.{AreWeightings}
-use Rattle.ratio_certificate.specs.Weighting.{gap_of, left_of, IsWeighting}
+use Rattle.ratio_certificate.specs.Weighting.{gap_of, gap_of_weighting, IsWeighting}
 use Rattle.ratio_certificate.proofs.Progress.{progress_made}
 
 -- weights that are no start themselves may be one
@@ -32,7 +32,7 @@ weightings_after net routes wanted links start middle list first second = record
 }
 
 -- weights that need less are nearer to the end of the polish
-less_nearer : (old new : Weighting) → new.need < old.need → left_of new < left_of old
+less_nearer : (old new : Weighting) → new.need < old.need → gap_of_weighting new < gap_of_weighting old
 less_nearer old new less =
     let near : gap_of new.weights ≤ 2 ^ 20 = omega arith in
     omega (arith, near, less)

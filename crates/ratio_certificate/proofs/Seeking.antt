@@ -1,7 +1,5 @@
 -- Where a search for weights of a link stands at its start and after a sweep.
 use Rattle.std.proofs.Common.{◌≡◌, ℕ, ◌^◌, ◌≤◌, true, List, length, arith}
-use Rattle.std.specs.Prelude.{All}
-use Rattle.std.proofs.lemmas.List.Elements.{All-from_get_or}
 use Rattle.te_model.specs.declared.network.Network.{Network}
 use Rattle.te_model.specs.declared.route.PairRoutes.{PairRoutes}
 use Rattle.te_model.specs.declared.demand.DemandSet.{DemandSet}
@@ -16,8 +14,8 @@ use Rattle.ratio_certificate.specs.Weighting.{AreWeights, IsWeighting}
 use Rattle.ratio_certificate.proofs.Weighed.{scale_within}
 
 -- weights that a step may move are weights of a link
-pub step_weights : (net : Network) (weights : List ℕ) → length weights ≡ link_count net → AreWeightsUpTo (2 ^ 27) weights → AreWeights net weights
-step_weights net weights count are = record {
+pub movable_weights : (net : Network) (weights : List ℕ) → length weights ≡ link_count net → AreWeightsUpTo (2 ^ 27) weights → AreWeights net weights
+movable_weights net weights count are = record {
   count = count;
   some = λ h below. are.some h (omega (arith, below, count));
   small = λ h below. let small = are.small h (omega (arith, below, count)) in omega (arith, small);
@@ -36,7 +34,3 @@ pub small_scale : (net : Network) (routes : List PairRoutes) (wanted : DemandSet
 small_scale net routes wanted w formed within is =
     let bounds = scale_within net routes wanted w.link 1 w.a w.b w.weights formed within (omega arith) is.weights_are is.weights_are.some is.scale_is in
     (omega (arith, bounds.a_small), bounds.b_small)
-
--- weights that a step has moved are small
-pub moved_small : (weights : List ℕ) → AreWeightsUpTo (2 ^ 27) weights → All (λ w. w ≤ 2 ^ 28) weights
-moved_small weights are = All-from_get_or (λ w. w ≤ 2 ^ 28) weights 0 (λ h below. let small = are.small h below in omega (arith, small))

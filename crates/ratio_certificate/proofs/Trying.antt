@@ -9,20 +9,20 @@ use Rattle.te_model.specs.Network.{capacity_of}
 use Rattle.best_blocks.specs.Under.{IsNeedUnder}
 use Rattle.best_blocks.proofs.NeedLaws.{needs_are_one}
 use Rattle.ratio_certificate.specs.declared.weighting.Weighting.{Weighting}
-use Rattle.ratio_certificate.specs.Polished.{Improves}
+use Rattle.ratio_certificate.specs.Polished.{ImprovesBy64th}
 use Rattle.ratio_certificate.specs.Steps.{HelpsNot, IsSettledAt}
 use Rattle.ratio_certificate.specs.Weighting.{IsWeighting}
 
 -- weights whose own need does not improve the need help not
 pub helps_not : (net : Network) (routes : List PairRoutes) (wanted : DemandSet) (e need : ℕ) (weights : List ℕ) (other : Weighting) → 1 ≤ capacity_of net e →
-    other.link ≡ e → other.weights ≡ weights → IsWeighting net routes wanted other → (Improves need other.need → ⊥) →
+    other.link ≡ e → other.weights ≡ weights → IsWeighting net routes wanted other → (ImprovesBy64th need other.need → ⊥) →
     HelpsNot net routes wanted e need weights
 helps_not net routes wanted e need weights other some link_is weights_are is worse x under better =
     let own : IsNeedUnder net routes wanted other.link other.weights other.need = record { a = other.a; b = other.b; scale = is.scale_is; need_is = is.need_is } in
     let here = subst (λ l. IsNeedUnder net routes wanted l other.weights other.need) link_is own in
     let there = subst (λ (ws : List ℕ). IsNeedUnder net routes wanted e ws other.need) weights_are here in
     let same : x ≡ other.need = needs_are_one net routes wanted e weights x other.need some under there in
-    worse (subst (Improves need) same better)
+    worse (subst (ImprovesBy64th need) same better)
 
 -- the weight of link h can be stepped in two ways
 pub settled_at : (net : Network) (routes : List PairRoutes) (wanted : DemandSet) (e need : ℕ) (weights : List ℕ) (h : ℕ) →

@@ -22,7 +22,8 @@ use Rattle.best_blocks.specs.Under.{IsScaleUnder}
 use Rattle.best_blocks.proofs.Scaled.{needed_distances}
 use Rattle.best_blocks.proofs.SmallNumbers.{shares_small}
 use Rattle.ratio_certificate.specs.Weighting.{AreWeights, IsWeighting}
-use Rattle.ratio_certificate.proofs.Positive.{least_far, scale_bounds, some_scale, AreScaleBounds}
+use Rattle.best_blocks.proofs.Positive.{least_far}
+use Rattle.ratio_certificate.proofs.Positive.{scale_bounds, some_scale, AreScaleBounds}
 
 pub has_scale : (net : Network) (routes : List PairRoutes) (set : DemandSet) (l : SharedLink) (m : Metric) → IsRoutingWithin net routes → IsSharedLink net routes set l →
     IsMetric net routes l.marks m → AreWeights net m.weights → HasNoScale set (length routes) (slice_index l.shares) (slice_index m.distances) → ⊥

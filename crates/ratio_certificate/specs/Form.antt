@@ -31,14 +31,14 @@ abbrev pub made_set : Network → DemandSet → DemandSet
 made_set net set = set_in (made_format net set) set
 
 -- a format has no boxes or no margins
-abbrev pub HasForm : ℕ → DemandSet → Type 0
-HasForm format All = ⊤
-HasForm format (Margin num den base) = format ≡ 1
-HasForm format (Box lower upper) = format ≡ 2
+abbrev pub HasFormOfFormat : ℕ → DemandSet → Type 0
+HasFormOfFormat format All = ⊤
+HasFormOfFormat format (Margin num den base) = format ≡ 1
+HasFormOfFormat format (Box lower upper) = format ≡ 2
 
 -- one of the two formats, which has room for the network, and sets of this form
 pub record IsFormatFor (net : Network) (set : DemandSet) (format : ℕ) : Type 0 where
   pub known : (format ≡ 1) ⊎ (format ≡ 2)
   pub nodes : node_count net ≤ (limits_of format).nodes
   pub links : link_count net ≤ (limits_of format).links
-  pub form : HasForm format set
+  pub form : HasFormOfFormat format set

@@ -1,6 +1,7 @@
 pub mod Changing
 pub mod Conditions
 pub mod Form
+pub mod Laws
 pub mod Made
 pub mod Making
 pub mod Places

@@ -8,29 +8,29 @@ use Rattle.te_model.specs.declared.demand.DemandSet.{DemandSet}
 use Rattle.te_model.specs.Validity.{block_at}
 use Rattle.best_blocks.specs.Best.{IsBestBlock}
 use Rattle.best_blocks.specs.Need.{need_of}
-use Rattle.ratio_certificate.specs.Rounds.{IsRound}
+use Rattle.ratio_certificate.specs.Rounds.{IsWeightRound}
 
 -- a weight of 1 to 2^27 doubled, or one of 2 or more halved and rounded up
-abbrev pub IsStep : ℕ → ℕ → Type 0
-IsStep old new = ((1 ≤ old) × (old ≤ 2 ^ 27) × (new ≡ 2 * old)) ⊎ ((2 ≤ old) × (new ≡ (old + 1) / 2))
+abbrev pub IsDoublingOrHalving : ℕ → ℕ → Type 0
+IsDoublingOrHalving old new = ((1 ≤ old) × (old ≤ 2 ^ 27) × (new ≡ 2 * old)) ⊎ ((2 ≤ old) × (new ≡ (old + 1) / 2))
 
 -- the same weights but for one, which is doubled or halved
 pub record IsChange (old new : List ℕ) : Type 0 where
   pub link : ℕ
   pub within : link < length old
   pub weight : ℕ
-  pub step : IsStep (slice_index old link) weight
+  pub step : IsDoublingOrHalving (slice_index old link) weight
   pub new_is : new ≡ slice_set old link weight
 
 -- y is below x by a 64th of x at least
-abbrev pub Improves : ℕ → ℕ → Type 0
-Improves x y = (y < x) × (64 * y ≤ 63 * x)
+abbrev pub ImprovesBy64th : ℕ → ℕ → Type 0
+ImprovesBy64th x y = (y < x) × (64 * y ≤ 63 * x)
 
 -- no change of one weight has a best block which improves the need
-abbrev pub IsSettled : Network → List PairRoutes → DemandSet → Block → Type 0
-IsSettled net routes set block =
+abbrev pub HasNoBetterChange : Network → List PairRoutes → DemandSet → Block → Type 0
+HasNoBetterChange net routes set block =
     (weights : List ℕ) → IsChange block.weights weights → (changed : Block) → IsBestBlock net routes set block.link weights changed →
-    Improves (need_of net block) (need_of net changed) → ⊥
+    ImprovesBy64th (need_of net block) (need_of net changed) → ⊥
 
 -- the weights are fine enough: one of them is at least 2^20, or b is at least 2^35
 abbrev pub IsFine : List ℕ → ℕ → Type 0
@@ -49,11 +49,11 @@ IsWorstBlock net blocks k = IsWorst (length blocks) (λ j. need_of net (block_at
 -- the block needs no more than the best block of each of the 16 rounds of its link
 abbrev pub IsWithinRounds : Network → List PairRoutes → DemandSet → Block → Type 0
 IsWithinRounds net routes set block =
-    (k : ℕ) → k < 16 → (weights : List ℕ) → IsRound net routes block.link k weights →
+    (k : ℕ) → k < 16 → (weights : List ℕ) → IsWeightRound net routes block.link k weights →
     (best : Block) → IsBestBlock net routes set block.link weights best → need_of net block ≤ need_of net best
 
 -- the blocks of a certificate that is polished
 pub record IsPolished (net : Network) (routes : List PairRoutes) (set : DemandSet) (blocks : List Block) : Type 0 where
   pub rounds : All (IsWithinRounds net routes set) blocks
   pub fine : (k : ℕ) → IsWorstBlock net blocks k → IsFine (block_at blocks k).weights (block_at blocks k).b
-  pub settled : (k : ℕ) → IsWorstBlock net blocks k → IsSettled net routes set (block_at blocks k)
+  pub settled : (k : ℕ) → IsWorstBlock net blocks k → HasNoBetterChange net routes set (block_at blocks k)

@@ -6,11 +6,11 @@ use Rattle.te_model.specs.declared.demand.DemandSet.TheVariants.{All as AllMatri
 use Rattle.te_model.specs.Network.{node_count}
 use Rattle.best_blocks.specs.declared.metric.Metric.{Metric}
 use Rattle.best_blocks.specs.declared.scaling.Scale.{Scale}
-use Rattle.best_blocks.specs.Rows.{row_at}
+use Rattle.best_blocks.specs.Rows.{distances_from}
 
 -- the metric has a row from node v to every node
 abbrev pub HasRow : Network → Metric → ℕ → Type 0
-HasRow net m v = (v < length m.rows) × (length (row_at m.rows v) ≡ node_count net)
+HasRow net m v = (v < length m.rows) × (length (distances_from m.rows v) ≡ node_count net)
 
 -- the numbers of a scale are within those of blocks
 abbrev pub IsSmallScale : Scale → Type 0

@@ -12,7 +12,7 @@ use Rattle.best_blocks.specs.Under.{IsNeedUnder}
 use Rattle.ratio_certificate.specs.declared.raising.NextRound.{NextRound}
 use Rattle.ratio_certificate.specs.declared.rounds.Rounds.{Rounds}
 use Rattle.ratio_certificate.specs.declared.weighting.Weighting.{Weighting}
-use Rattle.ratio_certificate.specs.Rounds.{greatest_of_round, IsNextRound, IsRound}
+use Rattle.ratio_certificate.specs.Rounds.{greatest_of_round, IsNextRound, IsWeightRound}
 use Rattle.ratio_certificate.specs.Places.{shared_at, weighting_at}
 use Rattle.ratio_certificate.specs.Weighting.{IsWeighting}
 
@@ -30,12 +30,12 @@ pub record IsRoundMetric (net : Network) (routes : List PairRoutes) (l : SharedL
   pub metric : IsMetric net routes l.marks m
   pub low : (h : ℕ) → h < link_count net → 2 ^ 20 ≤ slice_index m.weights h
   pub high : (h : ℕ) → h < link_count net → slice_index m.weights h ≤ greatest_of_round k
-  pub only : (weights : List ℕ) → IsRound net routes l.link k weights → weights ≡ m.weights
+  pub only : (weights : List ℕ) → IsWeightRound net routes l.link k weights → weights ≡ m.weights
 
 -- the need is at most that of each of the rounds from 0 to k
 abbrev pub NeedsNoMore : Network → List PairRoutes → DemandSet → ℕ → ℕ → Weighting → Type 0
 NeedsNoMore net routes set e k w =
-    (j : ℕ) → j ≤ k → (weights : List ℕ) → IsRound net routes e j weights → (need : ℕ) → IsNeedUnder net routes set e weights need → w.need ≤ need
+    (j : ℕ) → j ≤ k → (weights : List ℕ) → IsWeightRound net routes e j weights → (need : ℕ) → IsNeedUnder net routes set e weights need → w.need ≤ need
 
 -- the metric of round k, and the best of the rounds from 0 to k, whose need is within the limit of ratios
 pub record AreRoundsTo (k : ℕ) (net : Network) (routes : List PairRoutes) (set : DemandSet) (l : SharedLink) (rounds : Rounds) : Type 0 where
@@ -46,7 +46,7 @@ pub record AreRoundsTo (k : ℕ) (net : Network) (routes : List PairRoutes) (set
   pub small : rounds.best.need ≤ 1000000 * 2 ^ 42
 
 -- the best round of each of the first n links, whose need is within the limit of ratios
-pub record AreRounds (n : ℕ) (net : Network) (routes : List PairRoutes) (set : DemandSet) (links : List SharedLink) (list : List Weighting) : Type 0 where
+pub record AreBestRounds (n : ℕ) (net : Network) (routes : List PairRoutes) (set : DemandSet) (links : List SharedLink) (list : List Weighting) : Type 0 where
   pub count : length list ≡ n
   pub links_are : (k : ℕ) → k < n → (weighting_at list k).link ≡ (shared_at links k).link
   pub each : (k : ℕ) → k < n → IsWeighting net routes set (weighting_at list k)

@@ -19,14 +19,14 @@ pub record IsNarrowest (net : Network) (path : List ℕ) (least : ℕ) : Type 0 
   pub reached : (h : ℕ) × IsTrue (has_number path h) × (capacity_of net h ≡ least)
 
 -- a weight with what a round adds on a path whose least capacity is this
-abbrev pub raised : ℕ → ℕ → ℕ → ℕ
-raised least capacity weight = weight + quotient_up (weight * least) (4 * capacity)
+abbrev pub raised_weight : ℕ → ℕ → ℕ → ℕ
+raised_weight least capacity weight = weight + quotient_up (weight * least) (4 * capacity)
 
 -- the weights of a path's links are raised, and no others
 pub record AreRaised (net : Network) (path : List ℕ) (least : ℕ) (old new : List ℕ) : Type 0 where
   pub count : length new ≡ length old
   pub each : (h : ℕ) → h < length old →
-      slice_index new h ≡ (if has_number path h then raised least (capacity_of net h) (slice_index old h) else slice_index old h)
+      slice_index new h ≡ (if has_number path h then raised_weight least (capacity_of net h) (slice_index old h) else slice_index old h)
 
 -- the next round's weights: those on the least path of the first pair with the greatest share by distance are raised
 pub record IsNextRound (net : Network) (routes : List PairRoutes) (e : ℕ) (old new : List ℕ) : Type 0 where
@@ -45,9 +45,9 @@ pub record IsNextRound (net : Network) (routes : List PairRoutes) (e : ℕ) (old
   pub raised_are : AreRaised net path least old new
 
 -- the weights of round k of link e, counted from 0
-abbrev pub IsRound : Network → List PairRoutes → ℕ → ℕ → List ℕ → Type 0
-IsRound net routes e zero weights = weights ≡ starting_weights net
-IsRound net routes e (suc k) weights = (before : List ℕ) × IsRound net routes e k before × IsNextRound net routes e before weights
+abbrev pub IsWeightRound : Network → List PairRoutes → ℕ → ℕ → List ℕ → Type 0
+IsWeightRound net routes e zero weights = weights ≡ starting_weights net
+IsWeightRound net routes e (suc k) weights = (before : List ℕ) × IsWeightRound net routes e k before × IsNextRound net routes e before weights
 
 -- how great a weight of round k is at most
 abbrev pub greatest_of_round : ℕ → ℕ

@@ -12,7 +12,7 @@ use Rattle.ratio_certificate.specs.Response.{IsSmallScale}
 use Rattle.ratio_certificate.specs.Weighting.{IsWeighting}
 
 -- weights that a step may move, and the best weights of the link so far
-pub record IsSearch (net : Network) (routes : List PairRoutes) (set : DemandSet) (l : SharedLink) (s : Search) : Type 0 where
+pub record IsWeightSearch (net : Network) (routes : List PairRoutes) (set : DemandSet) (l : SharedLink) (s : Search) : Type 0 where
   pub metric : IsMetric net routes l.marks s.metric
   pub weights : AreWeightsUpTo (2 ^ 27) s.metric.weights
   pub scale : IsSmallScale s.scale
@@ -21,4 +21,4 @@ pub record IsSearch (net : Network) (routes : List PairRoutes) (set : DemandSet)
 
 -- the same of a problem
 abbrev pub IsSearchOf : Problem → SharedLink → Search → Type 0
-IsSearchOf p l s = IsSearch p.net.now p.routing.now.routes p.set.now l s
+IsSearchOf p l s = IsWeightSearch p.net.now p.routing.now.routes p.set.now l s

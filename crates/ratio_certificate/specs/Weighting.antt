@@ -30,11 +30,11 @@ abbrev pub gap_of : List ℕ → ℕ
 gap_of weights = 2 ^ 20 - greatest_of weights
 
 -- what falls with each step of the polish: the needs, and then the gaps
-abbrev pub left_of : Weighting → ℕ
-left_of w = w.need * 2 ^ 21 + gap_of w.weights
+abbrev pub gap_of_weighting : Weighting → ℕ
+gap_of_weighting w = w.need * 2 ^ 21 + gap_of w.weights
 
-abbrev pub left_in : List Weighting → ℕ
-left_in list = sum_by left_of list
+abbrev pub gap_in : List Weighting → ℕ
+gap_in list = sum_by gap_of_weighting list
 
 -- twice each of the weights
 pub record AreDoubled (old new : List ℕ) : Type 0 where

@@ -2,7 +2,7 @@
 ghost use Rattle.std.specs.Prelude.{◌≡◌, ◌*◌, ◌+◌, ◌/◌, ◌^◌, ◌<◌, ◌≤◌, ℕ, IfOk, IfSome, IfNone, true, false, slice_index, slice_set};
 ghost use Rattle.te_model.specs.Network.{link_count};
 ghost use Rattle.ratio_certificate.specs.Changing.{weights_of, AreChanges, HelpsNotIn, IsImprovementIn, IsSettledIn};
-ghost use Rattle.ratio_certificate.specs.Polished.{Improves};
+ghost use Rattle.ratio_certificate.specs.Polished.{ImprovesBy64th};
 ghost use Rattle.ratio_certificate.specs.Problems.{IsMetricOf, IsWeightingOf};
 
 use crate::problem::Problem;
@@ -19,8 +19,8 @@ const MIN_HALVED: u64 = 2;
 
 /// Whether `y` is below `x` by a 64th of `x` at least.
 fn improves(x: u128, y: u128) -> bool
-    ensures better { result ≡ true → Improves x y }
-    ensures not { result ≡ false → Improves x y → ⊥ }
+    ensures better { result ≡ true → ImprovesBy64th x y }
+    ensures not { result ≡ false → ImprovesBy64th x y → ⊥ }
 {
     y < x && x - y > (x - 1) / 64
 }

@@ -7,6 +7,7 @@
 
 mod changes;
 mod form;
+mod law;
 mod making;
 mod polish;
 mod problem;
@@ -18,4 +19,5 @@ mod seek;
 mod weighting;
 
 pub use best_blocks::{need, scale};
+pub use law::made_certificates_exist;
 pub use making::make;

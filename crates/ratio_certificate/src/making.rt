@@ -9,7 +9,7 @@ ghost use Rattle.ratio_certificate.specs.Made.{IsMade, IsMadeIn};
 ghost use Rattle.ratio_certificate.specs.Making.{head_with, AreBlocksOf, AreMadeBlocks, ArePaidBy, AreSharedLinks};
 ghost use Rattle.ratio_certificate.specs.Polished.{IsPolished};
 ghost use Rattle.ratio_certificate.specs.Problems.{AreLinksOf, AreWeightingsOf, IsDoneOf, IsLinkOf, IsProblem, IsWeightingOf};
-ghost use Rattle.ratio_certificate.specs.Rising.{AreRounds};
+ghost use Rattle.ratio_certificate.specs.Rising.{AreBestRounds};
 
 use crate::form::{made_format, set_in};
 use crate::polish::{metric_by, polish};
@@ -66,7 +66,7 @@ fn best_rounds(
     links: &[SharedLink],
 ) -> Result<Vec<Weighting>, Memory>
     requires links { AreLinksOf problem.now links.now }
-    ensures { IfOk result (λ l. AreRounds (length links.now) problem.now.net.now problem.now.routing.now.routes problem.now.set.now links.now l.items) }
+    ensures { IfOk result (λ l. AreBestRounds (length links.now) problem.now.net.now problem.now.routing.now.routes problem.now.set.now links.now l.items) }
 {
     let mut list = Vec::with_capacity(alloc, links.len())?;
     for shared in links {

@@ -59,7 +59,7 @@ fn is_fine(weighting: &Weighting) -> bool
 }
 
 /// Twice each of the weights.
-fn doubled(alloc: Global, weights: &[u64]) -> Result<Vec<u64>, Memory>
+fn double_weights(alloc: Global, weights: &[u64]) -> Result<Vec<u64>, Memory>
     requires { (h : ℕ) → h < length weights.now → slice_index weights.now h < 2 ^ 20 }
     ensures { IfOk result (λ w. AreDoubled weights.now w.items) }
 {
@@ -108,7 +108,7 @@ fn double(
     requires room { weighting.now.b < 2 ^ 35 }
     ensures { IfOk result (IsProgressOf problem.now weighting.now) }
 {
-    let weights = doubled(alloc, weighting.weights.as_slice())?;
+    let weights = double_weights(alloc, weighting.weights.as_slice())?;
     let metric = metric_of(
         alloc,
         problem.net,

@@ -2,7 +2,7 @@
 ghost use Rattle.std.specs.Prelude.{◌≡◌, ◌*◌, ◌+◌, ◌/◌, ◌^◌, ◌<◌, ◌≤◌, ℕ, All, IfOk, IsTrue, length};
 ghost use Rattle.te_model.specs.Network.{is_well_formed, capacity_of, link_count};
 ghost use Rattle.ratio_certificate.specs.Problems.{IsLinkOf, IsMetricOf, IsProblem};
-ghost use Rattle.ratio_certificate.specs.Rounds.{raised, AreRaised, IsNarrowest};
+ghost use Rattle.ratio_certificate.specs.Rounds.{raised_weight, AreRaised, IsNarrowest};
 ghost use Rattle.ratio_certificate.specs.Rising.{IsRoundAfter};
 ghost use Rattle.ratio_certificate.specs.Weighting.{AreWeights};
 
@@ -27,11 +27,11 @@ fn narrowest(net: &Network, path: &[u32]) -> u64
 }
 
 /// A weight with what a round adds on a path whose least capacity is this.
-fn raised(least: u64, capacity: u64, weight: u64) -> u64
+fn raise_weight(least: u64, capacity: u64, weight: u64) -> u64
     requires weight { weight ≤ 2 ^ 28 }
     requires least { least ≤ capacity }
     requires capacity { (1 ≤ capacity) × (capacity ≤ 2 ^ 32) }
-    ensures value { result ≡ raised least capacity weight }
+    ensures value { result ≡ raised_weight least capacity weight }
     ensures more { (weight ≤ result) × (result ≤ (5 * weight + 3) / 4) }
 {
     let share = 4 * capacity;
@@ -51,7 +51,7 @@ fn raise(alloc: Global, net: &Network, path: &[u32], weights: &[u64]) -> Result<
     let mut next = Vec::from_slice(alloc, weights)?;
     for link in path {
         let h = *link as usize;
-        next[h] = raised(least, links[h].capacity, weights[h]);
+        next[h] = raise_weight(least, links[h].capacity, weights[h]);
     }
     Ok(next)
 }

@@ -2,14 +2,14 @@
 ghost use Rattle.std.specs.Prelude.{◌≡◌, ◌^◌, ◌≤◌, IfOk, IsTrue, length};
 ghost use Rattle.te_model.specs.Demand.{lower_of, upper_of};
 ghost use Rattle.te_model.specs.Network.{is_well_formed, link_count};
-ghost use Rattle.centred_steps.specs.Loads.{AreLoads, AreSmall};
+ghost use Rattle.centred_steps.specs.Loads.{AreLoadsWithin, AreSmall};
 ghost use Rattle.centred_steps.specs.Ways.{AreLastLinks};
 ghost use Rattle.ratio_certificate.specs.Pricing.{IsPricing};
 ghost use Rattle.ratio_certificate.specs.Response.{HasBounds, HasRow, IsNearness};
 
 use crate::problem::Problem;
 use best_blocks::{Metric, Scale, SharedLink};
-use centred_steps::{add_along, clear_loads, last_links, narrowest_on};
+use centred_steps::{add_load_along, clear_loads, last_links, narrowest_on};
 use std::alloc::Global;
 use te_model::{DemandSet, Memory, Network, SHARE_UNIT};
 
@@ -106,7 +106,7 @@ impl<'a> Pricing<'a> {
     fn add_dearest(&self, ways: &mut Ways, loads: &mut [u128])
         requires pricing { IsPricing self.now }
         requires ways { AreLastLinks self.now.problem.net.now ways.old.lasts.items }
-        requires loads { AreLoads self.now.problem.net.now loads.old }
+        requires loads { AreLoadsWithin self.now.problem.net.now loads.old }
         ensures ways { AreLastLinks self.now.problem.net.now ways.new.lasts.items }
         ensures loads { AreSmall loads.new }
     {
@@ -123,7 +123,7 @@ impl<'a> Pricing<'a> {
                 turn(net, self.metric, ways, pair.src);
                 let capacity = narrowest_on(net, &ways.lasts, pair.dst);
                 let amount = amount_of(capacity, above, most);
-                add_along(net, &ways.lasts, pair.dst, amount, loads);
+                add_load_along(net, &ways.lasts, pair.dst, amount, loads);
             }
         }
     }
@@ -133,7 +133,7 @@ impl<'a> Pricing<'a> {
         requires pricing { IsPricing self.now }
         requires bounded { HasBounds self.now.problem.set.now }
         requires ways { AreLastLinks self.now.problem.net.now ways.old.lasts.items }
-        requires loads { AreLoads self.now.problem.net.now loads.old }
+        requires loads { AreLoadsWithin self.now.problem.net.now loads.old }
         ensures ways { AreLastLinks self.now.problem.net.now ways.new.lasts.items }
         ensures loads { AreSmall loads.new }
     {
@@ -146,7 +146,7 @@ impl<'a> Pricing<'a> {
             if demand > 0 {
                 let pair = routes[p].pair;
                 turn(net, self.metric, ways, pair.src);
-                add_along(net, &ways.lasts, pair.dst, u128::from(demand), loads);
+                add_load_along(net, &ways.lasts, pair.dst, u128::from(demand), loads);
             }
         }
     }
@@ -157,9 +157,9 @@ impl<'a> Pricing<'a> {
     pub fn respond(&self, ways: &mut Ways, loads: &mut [u128])
         requires pricing { IsPricing self.now }
         requires ways { AreLastLinks self.now.problem.net.now ways.old.lasts.items }
-        requires loads { AreLoads self.now.problem.net.now loads.old }
+        requires loads { AreLoadsWithin self.now.problem.net.now loads.old }
         ensures ways { AreLastLinks self.now.problem.net.now ways.new.lasts.items }
-        ensures loads { AreLoads self.now.problem.net.now loads.new }
+        ensures loads { AreLoadsWithin self.now.problem.net.now loads.new }
     {
         clear_loads(loads);
         ways.from = NO_NODE;

@@ -2,7 +2,7 @@
 //! of the links that it uses most grow.
 ghost use Rattle.std.specs.Prelude.{◌≡◌, ◌^◌, ◌<◌, ◌≤◌, IfOk, length};
 ghost use Rattle.te_model.specs.Network.{link_count};
-ghost use Rattle.centred_steps.specs.Loads.{AreLoads};
+ghost use Rattle.centred_steps.specs.Loads.{AreLoadsWithin};
 ghost use Rattle.centred_steps.specs.Weights.{AreWeightsUpTo};
 ghost use Rattle.ratio_certificate.specs.Problems.{IsLinkOf, IsMetricOf, IsProblem, IsWeightingOf};
 ghost use Rattle.ratio_certificate.specs.Searching.{IsSearchOf};
@@ -12,7 +12,7 @@ use crate::response::{Pricing, no_ways};
 use crate::rounds::first_metric;
 use crate::weighting::{Weighting, lesser, weighting_of};
 use best_blocks::{Metric, Scale, SharedLink, metric_of};
-use centred_steps::{has_load, step};
+use centred_steps::{has_load, step_weights};
 use std::alloc::Global;
 use te_model::Memory;
 
@@ -68,13 +68,13 @@ fn metric_after_step(
     requires shared { IsLinkOf problem.now shared.now }
     requires count { length metric.now.weights ≡ link_count problem.now.net.now }
     requires weights { AreWeightsUpTo (2 ^ 27) metric.now.weights }
-    requires loads { AreLoads problem.now.net.now loads.now }
+    requires loads { AreLoadsWithin problem.now.net.now loads.now }
     requires parts { (1 ≤ parts) × (parts ≤ 128) }
     ensures metric { IfOk result (IsMetricOf problem.now shared.now) }
     ensures weights { IfOk result (λ m. AreWeightsUpTo (2 ^ 27) m.weights) }
 {
     let mut weights = Vec::from_slice(alloc, metric.weights.as_slice())?;
-    step(problem.net, &mut weights, loads, parts);
+    step_weights(problem.net, &mut weights, loads, parts);
     metric_of(
         alloc,
         problem.net,
@@ -96,7 +96,7 @@ fn advance(
     requires problem { IsProblem problem.now }
     requires shared { IsLinkOf problem.now shared.now }
     requires search { IsSearchOf problem.now shared.now search }
-    requires loads { AreLoads problem.now.net.now loads.now }
+    requires loads { AreLoadsWithin problem.now.net.now loads.now }
     requires parts { (1 ≤ parts) × (parts ≤ 128) }
     ensures { IfOk result (IsSearchOf problem.now shared.now) }
 {

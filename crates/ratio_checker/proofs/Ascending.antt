@@ -5,10 +5,6 @@ use Rattle.std.specs.List.{slice_get}
 use Rattle.std.proofs.lemmas.Bool.{cases_lt, cases_eq, eq-eqb, ne_eqb}
 use Rattle.ratio_checker.specs.Ascending.{AscendsFrom}
 
-pub ascends_lower : {X : Type 0} (number : X → ℕ) (low lower : ℕ) (xs : List X) → lower ≤ low → AscendsFrom number low xs → AscendsFrom number lower xs
-ascends_lower number low lower [] less ascends = tt
-ascends_lower number low lower (x ∷ xs) less ascends = (let h = ascends.0 in omega arith, ascends.1)
-
 pub ascends_from_steps : {X : Type 0} (number : X → ℕ) (low : ℕ) (xs : List X) (d : X) → (0 < length xs → low ≤ number (get_or xs 0 d)) →
     ((k : ℕ) → suc k < length xs → number (get_or xs k d) < number (get_or xs (suc k) d)) → AscendsFrom number low xs
 ascends_from_steps number low [] d first step = tt

@@ -14,7 +14,7 @@ use Rattle.te_model.specs.Inequalities.{LinkFailure, block_failure, covers_share
 use Rattle.te_model.proofs.Searches.{first_below-same, first_below_found, first_below_more, or_else-assoc, or_else-none}
 use Rattle.ratio_checker.specs.Feeds.{failure_below, failure_without}
 use Rattle.ratio_checker.specs.Finding.{finding_of}
-use Rattle.ratio_checker.specs.Shares.{AreSharesOn}
+use Rattle.ratio_checker.specs.Shares.{AreShareNumbers}
 use Rattle.ratio_checker.specs.declared.finding.Finding.{Finding}
 use Rattle.ratio_checker.specs.declared.finding.Finding.TheVariants.{Yes}
 use Rattle.ratio_checker.proofs.Absent.{empty_failure_is, share_alone}
@@ -107,7 +107,7 @@ found_first (Some f) rest before after was judged kept = kept (λ yes. clash (sy
     clash e = cc
 
 -- the shares on a link without a block, as I2 reads them
-pub shares_alone : (routes : List PairRoutes) (e : ℕ) (shares : List ℕ) → AreSharesOn routes e shares →
+pub shares_alone : (routes : List PairRoutes) (e : ℕ) (shares : List ℕ) → AreShareNumbers routes e shares →
     first_below (length shares) (λ p. unless (slice_index shares p == 0) (failure_at 2 p)) ≡ shares_failure routes (empty_block e)
 shares_alone routes e shares are =
     ap (λ n. first_below n (λ p. unless (slice_index shares p == 0) (failure_at 2 p))) are.count

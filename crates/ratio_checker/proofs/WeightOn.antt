@@ -6,11 +6,6 @@ use Rattle.te_model.specs.declared.route.PathShare.{PathShare}
 use Rattle.te_model.specs.Path.{has_number, weight_on}
 use Rattle.te_model.proofs.Conditionals.{if_le-self}
 
-pub weight_on_more : (paths : List PathShare) (e i : ℕ) (s : PathShare) → i < length paths → s ≡ get_or paths i s →
-    weight_on (take (i + 1) paths) e ≡ weight_on (take i paths) e + (if has_number s.links e then s.weight else 0)
-weight_on_more paths e i s below is =
-    rw (sum_by_more (λ t. if has_number t.links e then t.weight else 0) paths i s below, ← is)
-
 pub weight_on_more_le : (paths : List PathShare) (e i : ℕ) (s : PathShare) → i < length paths → s ≡ get_or paths i s →
     weight_on (take i paths) e + s.weight ≤ sum_by (λ t. t.weight) paths
 weight_on_more_le paths e i s below is =

@@ -14,8 +14,8 @@ use Rattle.ratio_checker.specs.Finding.{finding_of}
 use Rattle.ratio_checker.specs.Shares.{HasShares}
 
 -- the head that the feed was given
-abbrev pub head_of : Feed → Head
-head_of feed = feed.head
+abbrev pub head_of_feed : Feed → Head
+head_of_feed feed = feed.head
 
 -- the links below it are judged
 abbrev pub next_link : Feed → ℕ
@@ -38,7 +38,7 @@ pub record CanJudge (feed : Feed) : Type 0 where
 -- The feed has judged the links below the next one: the head with these blocks is a valid certificate,
 -- and the first failure of those links is found.
 pub record StandsFor (feed : Feed) (head : Head) (blocks : List Block) : Type 0 where
-  pub same : head_of feed ≡ head
+  pub same : head_of_feed feed ≡ head
   pub valid : IsValid (record { head = head; blocks = blocks })
   pub judges : CanJudge feed
   pub before : All (λ b. b.link < next_link feed) blocks

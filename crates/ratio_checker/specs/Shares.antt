@@ -5,7 +5,7 @@ use Rattle.te_model.specs.Path.{share}
 use Rattle.ratio_checker.specs.declared.share_table.ShareTable.{ShareTable}
 
 -- the share of each pair on link e
-pub record AreSharesOn (routes : List PairRoutes) (e : ℕ) (shares : List ℕ) : Type 0 where
+pub record AreShareNumbers (routes : List PairRoutes) (e : ℕ) (shares : List ℕ) : Type 0 where
   pub count : length shares ≡ length routes
   pub each : (p : ℕ) → p < length routes → slice_index shares p ≡ share routes p e
 

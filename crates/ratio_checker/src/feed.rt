@@ -11,7 +11,7 @@ ghost use Rattle.te_model.specs.Validity.{IsValidBlock, IsValidHead};
 ghost use Rattle.ratio_checker.specs.Checked.{CanCheckBlock};
 ghost use Rattle.ratio_checker.specs.Finding.{finding_of};
 
-use crate::finding::{Finding, block_failure, failing};
+use crate::finding::{Finding, block_failure, finding_on};
 use crate::share_rows::{first_share, shares_failure};
 use crate::share_table::ShareTable;
 use std::alloc::Global;
@@ -27,12 +27,12 @@ pub struct Feed {
 }
 
 impl Feed {
-    ghost use Rattle.ratio_checker.specs.Feeds.{CanJudge, StandsFor, failure_without, head_of, next_link};
+    ghost use Rattle.ratio_checker.specs.Feeds.{CanJudge, StandsFor, failure_without, head_of_feed, next_link};
 
     /// Takes a valid head, and all the memory of the feed: 4 bytes for each pair on each link.
     pub fn new(alloc: Global, head: Head) -> Result<Feed, Memory>
         requires { IsValidHead head }
-        ensures { IfOk result (λ f. StandsFor f head [] × (head_of f ≡ head) × (next_link f ≡ 0)) }
+        ensures { IfOk result (λ f. StandsFor f head [] × (head_of_feed f ≡ head) × (next_link f ≡ 0)) }
     {
         let shares = ShareTable::new(alloc, &head)?;
         Ok(Feed {
@@ -45,7 +45,7 @@ impl Feed {
 
     /// The head that `new` was given.
     pub fn head(&self) -> &Head
-        ensures { result.now ≡ head_of self.now }
+        ensures { result.now ≡ head_of_feed self.now }
     {
         &self.head
     }
@@ -59,7 +59,7 @@ impl Feed {
     {
         for link in self.next..end {
             if let Some(failure) = first_share(self.shares.on(link)) {
-                return failing(link, failure);
+                return finding_on(link, failure);
             }
         }
         Finding::Yes
@@ -79,7 +79,7 @@ impl Feed {
         }
         let shares = shares_failure(&self.head, block, self.shares.on(block.link));
         match block_failure(&self.head, block, shares) {
-            Some(failure) => failing(block.link, failure),
+            Some(failure) => finding_on(block.link, failure),
             None => Finding::Yes,
         }
     }
@@ -104,11 +104,11 @@ impl Feed {
     /// What was found first stands.
     pub fn block(&mut self, block: &Block)
         requires fed { (head : Head) × (blocks : List Block) × StandsFor self.old head blocks }
-        requires block { IsValidBlock (head_of self.old) block.now }
+        requires block { IsValidBlock (head_of_feed self.old) block.now }
         requires above { next_link self.old ≤ block.now.link }
         ensures fed { (head : Head) → (blocks : List Block) → StandsFor self.old head blocks →
             StandsFor self.new head (blocks ++ block.now ∷ []) }
-        ensures rest { (head_of self.new ≡ head_of self.old) × (next_link self.new ≡ block.now.link + 1) }
+        ensures rest { (head_of_feed self.new ≡ head_of_feed self.old) × (next_link self.new ≡ block.now.link + 1) }
     {
         self.found = self.found_with(block);
         self.next = block.link + 1;
@@ -142,7 +142,7 @@ impl Feed {
 
         // No routing of any matrix of the set does better than by the ratio.
         ensures ratio { result ≡ Finding.Yes →
-            IsObliviousRatio (head_of self).network (head_of self).routes (head_of self).set (head_of self).ratio }
+            IsObliviousRatio (head_of_feed self).network (head_of_feed self).routes (head_of_feed self).set (head_of_feed self).ratio }
     {
         self.first_finding()
     }

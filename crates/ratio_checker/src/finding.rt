@@ -29,8 +29,8 @@ pub enum Finding {
     No { link: u32, rule: u8, place: u64 },
 }
 
-// The failure as one of the link.
-pub fn failing(link: u32, failure: InequalityFault) -> Finding
+// The finding of a failure on the link.
+pub fn finding_on(link: u32, failure: InequalityFault) -> Finding
     ensures { result ≡ Finding.No link failure.number failure.place }
 {
     Finding::No {
@@ -102,7 +102,7 @@ fn first_finding(cert: &Certificate) -> Finding
     for e in 0..cert.head.network.links.as_slice().len() {
         let link = e as u32;
         if let Some(failure) = link_failure(&cert.head, blocks, link, fault_on(uncovered, link)) {
-            return failing(link, failure);
+            return finding_on(link, failure);
         }
         blocks = blocks_after(blocks, link);
     }

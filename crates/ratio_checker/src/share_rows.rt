@@ -4,7 +4,7 @@ ghost use Rattle.te_model.specs.Counting.{first_below, unless};
 ghost use Rattle.te_model.specs.Certificate.{empty_block};
 ghost use Rattle.te_model.specs.Inequalities.{failure_at, shares_failure};
 ghost use Rattle.ratio_checker.specs.Checked.{CanCheckHead, CanCheckBlock};
-ghost use Rattle.ratio_checker.specs.Shares.{AreSharesOn};
+ghost use Rattle.ratio_checker.specs.Shares.{AreShareNumbers};
 
 use crate::rows::potentials_of;
 use crate::shares::{covers, is_free};
@@ -30,7 +30,7 @@ pub fn first_share(shares: &[u32]) -> Option<InequalityFault>
 pub fn shares_failure(head: &Head, block: &Block, shares: &[u32]) -> Option<InequalityFault>
     requires head { CanCheckHead head.now }
     requires block { CanCheckBlock head.now block.now }
-    requires shares { AreSharesOn head.now.routes block.now.link shares.now }
+    requires shares { AreShareNumbers head.now.routes block.now.link shares.now }
     ensures { result ≡ shares_failure head.now.routes block.now }
 {
     let rows = block.rows.as_slice();

@@ -3,7 +3,7 @@ ghost use Rattle.std.specs.Prelude.{◌≡◌, ◌≢◌, ℕ, ◌+◌, ◌*◌,
 ghost use Rattle.te_model.specs.declared.route.PairRoutes.{PairRoutes};
 ghost use Rattle.te_model.specs.Network.{link_count};
 ghost use Rattle.ratio_checker.specs.Checked.{CanCheckHead};
-ghost use Rattle.ratio_checker.specs.Shares.{AreSharesOn, HasShares};
+ghost use Rattle.ratio_checker.specs.Shares.{AreShareNumbers, HasShares};
 
 use crate::link_shares::shares_by_link;
 use std::alloc::Global;
@@ -50,7 +50,7 @@ impl ShareTable {
     // The shares of the pairs on the link.
     pub fn on(&self, link: u32) -> &[u32]
         requires { (routes : List PairRoutes) × (links : ℕ) × HasShares routes links self.now × (link < links) }
-        ensures { (routes : List PairRoutes) (links : ℕ) → HasShares routes links self.now → link < links → AreSharesOn routes link result.now }
+        ensures { (routes : List PairRoutes) (links : ℕ) → HasShares routes links self.now → link < links → AreShareNumbers routes link result.now }
     {
         let start = link as usize * self.pairs;
         &self.shares.as_slice()[start..start + self.pairs]

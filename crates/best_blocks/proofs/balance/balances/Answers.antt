@@ -8,4 +8,4 @@ returns c =
     let shares = c.args.shared.now.shares in
     let distances = c.args.distances.now in
     balances_is (lower_of c.args.set.now) (upper_of c.args.set.now) (length shares) (length distances) (slice_index shares) (slice_index distances) c.args.b
-    c.used.result c.args.allowed c.used.ensures c.requires.numbers.count c.requires.allowed
+    c.used_by_shares.result c.args.allowed c.used_by_shares.ensures c.requires.numbers.count c.requires.allowed

@@ -1,7 +1,7 @@
 use Rattle.std.proofs.Common.{◌≡◌, [], sym, subst, ◌∙◌}
 use Rattle.std.proofs.lemmas.List.{get_or_read}
 use Rattle.shortest_path.specs.Paths.{AreDistances}
-use Rattle.best_blocks.specs.Rows.{row_at}
+use Rattle.best_blocks.specs.Rows.{distances_from}
 use Rattle.best_blocks.proofs.RowsFrom.{row_stays}
 use Rattle.best_blocks.proofs.rows.next_row.Goals as goal
 
@@ -13,7 +13,7 @@ returns-then-are_slack-clause-distances c =
     let node = c.args.node in
     let rows = c.args.rows.now in
     let row = c.as_slice-row.result.now in
-    let is : row ≡ row_at rows node = c.as_slice-row.ensures ∙ get_or_read rows node c.index-rows-node.result c.requires.inside c.index-rows-node.is [] in
+    let is : row ≡ distances_from rows node = c.as_slice-row.ensures ∙ get_or_read rows node c.index-rows-node.result c.requires.inside c.index-rows-node.is [] in
     subst (AreDistances net new node) (sym c.in_ok-kept.ensures.items)
     (row_stays net old new c.args.changed.now row node c.requires.network c.requires.node c.requires.others (c.are_slack.ensures c.if-are_slack.true)
     (subst (AreDistances net old node) (sym is) c.requires.row))

@@ -2,7 +2,7 @@ use Rattle.std.proofs.Common.{◌≡◌, ◌+◌, ◌<◌, length, arith, ap, sy
 use Rattle.std.proofs.lemmas.List.{get_or_read}
 use Rattle.best_blocks.specs.declared.sharing.SharedLink.{SharedLink}
 use Rattle.ratio_certificate.specs.Places.{no_shared, shared_at}
-use Rattle.ratio_certificate.specs.Rising.{AreRounds, NeedsNoMore}
+use Rattle.ratio_certificate.specs.Rising.{AreBestRounds, NeedsNoMore}
 use Rattle.ratio_certificate.proofs.LinkLists.{round_added}
 use Rattle.ratio_certificate.proofs.making.best_rounds.Goals as goal
 
@@ -18,11 +18,11 @@ loop-shared-preserved c =
     let at : c.shared-item.result ≡ shared_at links n = get_or_read links n c.shared-item.result inside c.shared-item.is no_shared in
     let link : w.link ≡ (shared_at links n).link = c.in_ok-weighting.ensures.link ∙ ap (λ (l : SharedLink). l.link) at in
     let least = subst (λ e. NeedsNoMore net routes wanted e 15 w) (sym c.in_ok-weighting.ensures.link) c.in_ok-weighting.ensures.least in
-    subst (AreRounds (n + 1) net routes wanted links) (sym c.in_ok-push.ensures.items)
+    subst (AreBestRounds (n + 1) net routes wanted links) (sym c.in_ok-push.ensures.items)
     (round_added n net routes wanted links c.loop-shared.list.items w c.loop-shared.invariant link c.in_ok-weighting.ensures.weighting least
     c.in_ok-weighting.ensures.small)
 
 pub returns : goal.returns
 returns c =
     let all : c.loop-shared.shared-index ≡ length c.args.links.now = omega arith in
-    subst (λ n. AreRounds n c.args.problem.now.net.now c.args.problem.now.routing.now.routes c.args.problem.now.set.now c.args.links.now c.loop-shared.list.items) all c.loop-shared.invariant
+    subst (λ n. AreBestRounds n c.args.problem.now.net.now c.args.problem.now.routing.now.routes c.args.problem.now.set.now c.args.links.now c.loop-shared.list.items) all c.loop-shared.invariant

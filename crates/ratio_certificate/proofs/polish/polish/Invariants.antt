@@ -1,11 +1,11 @@
 use Rattle.std.proofs.Common.{◌≤◌}
 use Rattle.te_model.specs.Network.{link_count}
 use Rattle.ratio_certificate.specs.Steps.{AreWeightings}
-use Rattle.ratio_certificate.specs.Weighting.{left_in}
+use Rattle.ratio_certificate.specs.Weighting.{gap_in}
 use Rattle.ratio_certificate.proofs.polish.polish.Given as goal
 
 abbrev pub invariant-loop-list : goal.invariant-loop-list
 invariant-loop-list l = AreWeightings l.problem.net.now l.problem.routing.now.routes l.problem.set.now l.links l.fn.start.items l.list.items × (l.from ≤ link_count l.problem.net.now)
 
 abbrev pub decreases-loop-list : goal.decreases-loop-list
-decreases-loop-list l = left_in l.list.items
+decreases-loop-list l = gap_in l.list.items

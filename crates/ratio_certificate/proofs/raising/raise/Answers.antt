@@ -6,8 +6,8 @@ use Rattle.te_model.proofs.WellFormed.{capacities_positive, capacities_small}
 use Rattle.std.specs.Prelude.{slice_index_or}
 use Rattle.ratio_certificate.proofs.raising.raise.Goals as goal
 
-pub raised-requires-clause-capacity : goal.raised-requires-clause-capacity
-raised-requires-clause-capacity c =
+pub raise_weight-requires-clause-capacity : goal.raise_weight-requires-clause-capacity
+raise_weight-requires-clause-capacity c =
     let net = c.args.net.now in
     let h = slice_index c.args.path.now c.loop-link.link-index in
     let below : c.loop-link.link-index < length c.args.path.now = omega arith in

@@ -1,12 +1,12 @@
 use Rattle.std.proofs.Common.{◌≡◌}
 use Rattle.ratio_certificate.specs.Weighting.{IsWeighting}
 use Rattle.ratio_certificate.proofs.RoundMetrics.{lesser_is}
-use Rattle.ratio_certificate.proofs.Seeking.{small_scale, step_weights}
+use Rattle.ratio_certificate.proofs.Seeking.{small_scale, movable_weights}
 use Rattle.ratio_certificate.proofs.seek.advance.Goals as goal
 
 pub weighting_of-requires-clause-weights : goal.weighting_of-requires-clause-weights
 weighting_of-requires-clause-weights c =
-    step_weights c.args.problem.now.net.now c.in_ok-metric.metric.weights c.in_ok-metric.ensures.metric.count c.in_ok-metric.ensures.weights
+    movable_weights c.args.problem.now.net.now c.in_ok-metric.metric.weights c.in_ok-metric.ensures.metric.count c.in_ok-metric.ensures.weights
 
 pub returns : goal.returns
 returns c =

@@ -1,15 +1,15 @@
 use Rattle.std.proofs.Common.{◌≡◌, ◌^◌, List, ℕ, length, ap, sym, subst, ◌∙◌}
 use Rattle.te_model.proofs.Lists.{written_whole}
 use Rattle.centred_steps.specs.Weights.{AreWeightsUpTo}
-use Rattle.ratio_certificate.proofs.Seeking.{moved_small}
+use Rattle.centred_steps.proofs.Weights.{weights_small}
 use Rattle.ratio_certificate.proofs.seek.metric_after_step.Goals as goal
 
-pub step-requires-clause-weights : goal.step-requires-clause-weights
-step-requires-clause-weights c =
+pub step_weights-requires-clause-weights : goal.step_weights-requires-clause-weights
+step_weights-requires-clause-weights c =
     subst (AreWeightsUpTo (2 ^ 27)) (sym (c.deref_mut.ensures.value ∙ c.in_ok-weights.ensures.items ∙ c.as_slice.ensures)) c.requires.weights
 
 pub metric_of-requires-clause-small : goal.metric_of-requires-clause-small
 metric_of-requires-clause-small c =
     let old = c.in_ok-weights.weights.items in
-    let kept : length c.step.new.weights ≡ length old = c.step.auto.weights ∙ ap (λ (l : List ℕ). length l) c.deref_mut.ensures.value in
-    rw (written_whole c.in_ok-weights.weights.len c.step.new.weights old kept c.in_ok-weights.weights.ok.0) (moved_small c.step.new.weights c.step.ensures.weights)
+    let kept : length c.step_weights.new.weights ≡ length old = c.step_weights.auto.weights ∙ ap (λ (l : List ℕ). length l) c.deref_mut.ensures.value in
+    rw (written_whole c.in_ok-weights.weights.len c.step_weights.new.weights old kept c.in_ok-weights.weights.ok.0) (weights_small c.step_weights.new.weights c.step_weights.ensures.weights)

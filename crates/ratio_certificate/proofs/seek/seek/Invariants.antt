@@ -1,12 +1,12 @@
 use Rattle.std.proofs.Common.{◌≤◌}
-use Rattle.centred_steps.specs.Loads.{AreLoads}
+use Rattle.centred_steps.specs.Loads.{AreLoadsWithin}
 use Rattle.centred_steps.specs.Ways.{AreLastLinks}
-use Rattle.ratio_certificate.specs.Searching.{IsSearch}
+use Rattle.ratio_certificate.specs.Searching.{IsWeightSearch}
 use Rattle.ratio_certificate.proofs.seek.seek.Given as goal
 
 abbrev pub invariant-loop-i : goal.invariant-loop-i
 invariant-loop-i l =
-    IsSearch l.problem.net.now l.problem.routing.now.routes l.problem.set.now l.shared l.search
-    × AreLoads l.problem.net.now l.loads.items
+    IsWeightSearch l.problem.net.now l.problem.routing.now.routes l.problem.set.now l.shared l.search
+    × AreLoadsWithin l.problem.net.now l.loads.items
     × AreLastLinks l.problem.net.now l.ways.lasts.items
     × (1 ≤ l.parts) × (l.parts ≤ 128)

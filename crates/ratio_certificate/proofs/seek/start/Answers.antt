@@ -1,11 +1,11 @@
-use Rattle.ratio_certificate.proofs.Seeking.{first_weights, small_scale, step_weights}
+use Rattle.ratio_certificate.proofs.Seeking.{first_weights, small_scale, movable_weights}
 use Rattle.ratio_certificate.proofs.seek.start.Goals as goal
 
 pub weighting_of-requires-clause-weights : goal.weighting_of-requires-clause-weights
 weighting_of-requires-clause-weights c =
     let net = c.args.problem.now.net.now in
     let m = c.in_ok-metric.metric in
-    step_weights net m.weights c.in_ok-metric.ensures.metric.count (first_weights net c.args.problem.now.routing.now.routes c.args.shared.now m c.in_ok-metric.ensures)
+    movable_weights net m.weights c.in_ok-metric.ensures.metric.count (first_weights net c.args.problem.now.routing.now.routes c.args.shared.now m c.in_ok-metric.ensures)
 
 pub returns : goal.returns
 returns c =

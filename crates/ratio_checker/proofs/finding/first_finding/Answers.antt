@@ -55,7 +55,7 @@ returns-in-Some c =
     let fails : block_failure cert.head (block_of cert.blocks e) ≡ Some c.in-Some.failure =
     ap (block_failure cert.head) (sym (c.loop-e.invariant.same e here)) ∙ sym c.in-Some.ensures
     in
-    c.failing.ensures ∙ sym (ap finding_of (first_failure_found cert e c.in-Some.failure below c.loop-e.invariant.none fails))
+    c.finding_on.ensures ∙ sym (ap finding_of (first_failure_found cert e c.in-Some.failure below c.loop-e.invariant.none fails))
 
 pub loop-e-preserved : goal.loop-e-preserved
 loop-e-preserved c =

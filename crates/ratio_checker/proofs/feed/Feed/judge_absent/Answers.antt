@@ -14,7 +14,7 @@ returns-in-Some c =
     let within : link < link_count feed.head.network = omega (arith, c.loop-link-test.true, c.requires.within) in
     let row = shares_alone routes link c.on.result.now (c.on.ensures routes (link_count feed.head.network) c.requires.feed.shares within) in
     let fails : shares_failure routes (empty_block link) ≡ Some c.in-Some.failure = sym row ∙ sym c.in-Some.ensures in
-    c.failing.ensures
+    c.finding_on.ensures
     ∙ sym (ap finding_of (absent_found routes feed.next link c.loop-link.auto.link c.loop-link.invariant c.args.end c.in-Some.failure c.loop-link-test.true fails))
 
 pub loop-link-preserved : goal.loop-link-preserved

@@ -1,7 +1,7 @@
 use Rattle.std.proofs.Common.{◌≤◌, List, length, arith, ap}
 use Rattle.routing.specs.declared.shares.PairShare.{PairShare}
 use Rattle.best_blocks.proofs.AllowedUse.{sum_small, sum_whole}
-use Rattle.best_blocks.proofs.balance.used.Goals as goal
+use Rattle.best_blocks.proofs.balance.used_by_shares.Goals as goal
 
 pub overflow_add-sum : goal.overflow_add-sum
 overflow_add-sum c =
