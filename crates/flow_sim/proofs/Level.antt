@@ -84,10 +84,6 @@ level_below left n a m over =
 pub level_le : (left n : ℕ) (a : ℕ → ℕ) → fair_level left n a ≤ left
 level_le left n a = last_upto-le left (λ level. nat_le (taken_at n a level) left)
 
--- the level is the greatest of all, where not all that arrives can be served
-pub level_greatest : (left n : ℕ) (a : ℕ → ℕ) (m : ℕ) → left < sum_below n a → taken_at n a m ≤ left → m ≤ fair_level left n a
-level_greatest left n a m over fits = level_above left n a m (omega (arith, taken_at-least n a m)) fits
-
 -- more places are above the level than get a unit more
 pub spare_fits : (left n : ℕ) (a : ℕ → ℕ) → left < sum_below n a →
     left - taken_at n a (fair_level left n a) ≤ count_below n (λ i. nat_lt (fair_level left n a) (a i))

@@ -2,7 +2,6 @@ pub mod Level
 pub mod Conservation
 pub mod TableLaws
 pub mod PairLaws
-mod Rows
 pub mod OwnShares
 pub mod StartLaws
 pub mod QueueLaws

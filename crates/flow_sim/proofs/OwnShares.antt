@@ -12,7 +12,7 @@ use Rattle.te_model.proofs.Sums.{sum_below-same}
 use Rattle.te_model.proofs.ApportionLaws.{sum_is_below}
 use Rattle.flow_sim.specs.Fair.{taken_at, fair_level, share_at, fair}
 use Rattle.flow_sim.specs.Step.{Setting, units, before_round}
-use Rattle.flow_sim.specs.Asking.{numbers_below, asking, arrived, ServesFairly}
+use Rattle.flow_sim.specs.Asking.{numbers_below, asking_flows, arriving_units, ServesFairly}
 
 last_upto-same : (n : ℕ) (p q : ℕ → Bool) → ((k : ℕ) → p k ≡ q k) → last_upto n p ≡ last_upto n q
 last_upto-same zero p q each = refl
@@ -190,8 +190,8 @@ own_fair left n test u i k is inside at =
 pub serves_fairly : (s : Setting) → ServesFairly s
 serves_fairly s = λ r e i inside.
     let test = λ (f : ℕ). s.hop f r == e in
-    let ys = arrived s r e in
+    let ys = arriving_units s r e in
     ap (λ x. if s.has_failed e then 0 else x)
-    (own_fair ((before_round s r).left e) s.flows test (λ f. units s f r) i (slice_index (asking s r e) i) refl inside (placed s.flows test i inside)
+    (own_fair ((before_round s r).left e) s.flows test (λ f. units s f r) i (slice_index (asking_flows s r e) i) refl inside (placed s.flows test i inside)
     ∙ sym (get_or-map-range_with_len (fair ((before_round s r).left e) (length ys) (slice_index ys)) 0 (length ys) i i 0
-    (omega (arith, length-map (asking s r e) (λ f. units s f r))) (omega arith)))
+    (omega (arith, length-map (asking_flows s r e) (λ f. units s f r))) (omega arith)))

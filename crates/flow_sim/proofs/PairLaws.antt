@@ -11,10 +11,9 @@ use Rattle.te_model.specs.declared.route.PairRoutes.{PairRoutes}
 use Rattle.te_model.specs.declared.route.PathShare.{PathShare}
 use Rattle.te_model.specs.Counting.{sum_below}
 use Rattle.te_model.specs.Apportion.{apportion, part}
-use Rattle.te_model.proofs.Sums.{sum_below-same, sum_below-add}
 use Rattle.te_model.proofs.ApportionLaws.{sum_below-first, apportion-sum}
-use Rattle.flow_sim.specs.Tables.{amount_at, total_at}
-use Rattle.flow_sim.specs.Step.{over_pair, delivered, lost_failed, lost_full}
+use Rattle.flow_sim.specs.Tables.{amount_of_key, total_at}
+use Rattle.flow_sim.specs.Step.{over_pair, delivery, lost_failed, lost_full}
 use Rattle.flow_sim.specs.Traffic.{concat_below, paths_of, weights, flow_paths, flow_pairs, starts_of, flow_starts, step_setting, lost_no_path, CanSplit}
 use Rattle.flow_sim.proofs.Conservation.{pair_conserved}
 
@@ -30,7 +29,7 @@ total_at-key_sum (k ∷ ks) [] q same = absurd (omega arith)
 total_at-key_sum (k ∷ ks) (x ∷ xs) q same =
     omega (
       arith,
-      sum_below-first (length ks) (amount_at (k ∷ ks) (x ∷ xs) q),
+      sum_below-first (length ks) (amount_of_key (k ∷ ks) (x ∷ xs) q),
       total_at-key_sum ks xs q (omega arith),
     )
 
@@ -129,7 +128,7 @@ started net failed rates demand q below =
     let ks = flow_pairs rates in
     let xs = flow_starts rates demand in
     let inside : nat_lt q (length rates) ≡ true = grind (arith, nat_tests) in
-    ap (λ n. sum_below n (amount_at ks xs q)) (sym (pairs-length rates))
+    ap (λ n. sum_below n (amount_of_key ks xs q)) (sym (pairs-length rates))
     ∙ (total_at-key_sum ks xs q (pairs-length rates ∙ sym (starts-flows rates demand))
     ∙ (pieces_sum (length rates) (λ p. length (paths_of rates p)) (starts_of rates demand) q (starts-length rates demand)
     ∙ ap (λ b. if b then sum (starts_of rates demand q) else 0) inside))
@@ -154,33 +153,10 @@ pub demand_conserved : (net : Network) (failed : List Bool) (rates : List PairRo
     CanSplit (paths_of rates q) → q < length rates →
     let s = step_setting net failed rates demand in
     slice_index demand q
-    ≡ over_pair s (delivered s) q + over_pair s (lost_full s) q + over_pair s (lost_failed s) q + lost_no_path rates demand q
+    ≡ over_pair s (delivery s) q + over_pair s (lost_full s) q + over_pair s (lost_failed s) q + lost_no_path rates demand q
 demand_conserved net failed rates demand q weighted below =
     omega (
       arith,
       pair_offered net failed rates demand q weighted below,
       pair_conserved (step_setting net failed rates demand) q,
-    )
-
--- So it is in total.
-pub total_conserved : (net : Network) (failed : List Bool) (rates : List PairRoutes) (demand : List ℕ) →
-    ((p : ℕ) → p < length rates → CanSplit (paths_of rates p)) →
-    let s = step_setting net failed rates demand in
-    let n = length rates in
-    sum_below n (slice_index demand)
-    ≡ sum_below n (over_pair s (delivered s)) + sum_below n (over_pair s (lost_full s)) + sum_below n (over_pair s (lost_failed s))
-    + sum_below n (lost_no_path rates demand)
-total_conserved net failed rates demand weighted =
-    let s = step_setting net failed rates demand in
-    let n = length rates in
-    let a = over_pair s (delivered s) in
-    let b = over_pair s (lost_full s) in
-    let d = over_pair s (lost_failed s) in
-    let e = lost_no_path rates demand in
-    omega (
-      arith,
-      sum_below-same n (slice_index demand) (λ q. a q + b q + d q + e q) (λ q below. demand_conserved net failed rates demand q (weighted q below) below),
-      sum_below-add n (λ q. a q + b q + d q) e,
-      sum_below-add n (λ q. a q + b q) d,
-      sum_below-add n a b,
     )

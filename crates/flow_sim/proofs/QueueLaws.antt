@@ -1,10 +1,8 @@
 -- Laws of queues.
 use Rattle.std.proofs.Common.{◌≡◌, ℕ, zero, suc, ◌+◌, ◌*◌, ◌^◌, ◌<◌, ◌≤◌, Bool, true, false, List, [], ◌∷◌, ◌++◌, length, map, take, slice_index, arith, refl, ap, sym, ◌∙◌, inl, inr, ◌==◌, ◌&&◌, add-one, subst, length-append}
 use Rattle.std.specs.Prelude.{if◌then◌else◌, nat_lt, slice_index_or, All}
-use Rattle.std.proofs.Math.ListN.{set}
-use Rattle.std.proofs.lemmas.Bool.{cases_eq, cases_lt}
-use Rattle.std.proofs.lemmas.Bool.Decides.{nat_tests}
-use Rattle.std.proofs.lemmas.List.{append-nil, append_assoc, map-append, length-set, get_or-set_same, get_or-set_other, get_or_append_left, get_or-append-add, get_or_default, get_or_past, length-take-le, take_more}
+use Rattle.std.proofs.lemmas.Bool.{cases_lt}
+use Rattle.std.proofs.lemmas.List.{append-nil, append_assoc, map-append, get_or_append_left, get_or-append-add, get_or_default, length-take-le, take_more}
 use Rattle.std.proofs.lemmas.List.Elements.{All-get_or}
 use Rattle.te_model.specs.declared.limits.TheConstants.{FORMAT_2}
 use Rattle.te_model.specs.declared.route.PathShare.{PathShare}
@@ -16,127 +14,17 @@ use Rattle.routing.specs.Merge.{no_path}
 use Rattle.flow_sim.specs.Traffic.{concat_below, flow_paths, longest, paths_of}
 use Rattle.flow_sim.proofs.StartLaws.{longest-append}
 
-none_more : (ys : List ℕ) (x : ℕ) (b : Bool) → b ≡ false → ys ≡ ys ++ (if b then x ∷ [] else [])
-none_more ys x b e = rw e (sym (append-nil ys))
-
-one_more : (ys : List ℕ) (x : ℕ) (b : Bool) → b ≡ true → ys ++ x ∷ [] ≡ ys ++ (if b then x ∷ [] else [])
-one_more ys x b e = rw e refl
-
--- what a flow more in the queue of a link changes
-put_at : (rounds : List (List (List ℕ))) (j l x r e : ℕ) → j < length rounds → l < length (queues_in rounds j) →
-    queue_at (set rounds j (set (queues_in rounds j) l (queue_at rounds j l ++ x ∷ []))) r e
-    ≡ queue_at rounds r e ++ (if r == j && l == e then x ∷ [] else [])
-put_at rounds j l x r e inside room =
-    let new = queue_at rounds j l ++ x ∷ [] in
-    let row = set (queues_in rounds j) l new in
-    elim (cases_eq r j) [
-      | inl same ↦
-          let here : queues_in (set rounds j row) r ≡ row = ap (queues_in (set rounds j row)) same ∙ get_or-set_same rounds j row [] inside in
-          let was : queues_in rounds r ≡ queues_in rounds j = ap (queues_in rounds) same in
-          elim (cases_eq e l) [
-            | inl eq ↦
-                let test : (r == j && l == e) ≡ true = grind (arith, nat_tests) in
-                ap (λ qs. slice_index_or qs e []) here
-                ∙ (ap (λ k. slice_index_or row k []) eq
-                ∙ (get_or-set_same (queues_in rounds j) l new [] room
-                ∙ (ap (λ q. q ++ x ∷ []) (sym (ap (λ qs. slice_index_or qs e []) was ∙ ap (λ k. slice_index_or (queues_in rounds j) k []) eq))
-                ∙ one_more (queue_at rounds r e) x (r == j && l == e) test)))
-            | inr ne ↦
-                let test : (r == j && l == e) ≡ false = grind (arith, nat_tests) in
-                ap (λ qs. slice_index_or qs e []) here
-                ∙ (get_or-set_other (queues_in rounds j) l e new [] ne
-                ∙ (sym (ap (λ qs. slice_index_or qs e []) was) ∙ none_more (queue_at rounds r e) x (r == j && l == e) test))
-          ]
-      | inr ne ↦
-          let test : (r == j && l == e) ≡ false = grind (arith, nat_tests) in
-          ap (λ qs. slice_index_or qs e []) (get_or-set_other rounds j r row [] ne)
-          ∙ none_more (queue_at rounds r e) x (r == j && l == e) test
-    ]
-
-put_alike : (rounds : List (List (List ℕ))) (j l : ℕ) (new : List ℕ) → j < length rounds →
-    AreAlike rounds (set rounds j (set (queues_in rounds j) l new))
-put_alike rounds j l new inside =
-    let row = set (queues_in rounds j) l new in
-    record {
-      rounds = length-set rounds j row;
-      queues = λ r. elim (cases_eq r j) [
-        | inl same ↦
-            ap (λ k. length (queues_in (set rounds j row) k)) same
-            ∙ (ap length (get_or-set_same rounds j row [] inside)
-            ∙ (length-set (queues_in rounds j) l new ∙ sym (ap (λ k. length (queues_in rounds k)) same)))
-        | inr ne ↦ ap length (get_or-set_other rounds j r row [] ne)
-      ];
-    }
-
 pub alike_then : (a b d : List (List (List ℕ))) → AreAlike a b → AreAlike b d → AreAlike a d
 alike_then a b d one two = record {
   rounds = two.rounds ∙ one.rounds;
   queues = λ r. two.queues r ∙ one.queues r;
 }
 
--- a queue with place for an element stands in one of the rounds
-pub round_inside : (rounds : List (List (List ℕ))) (r e : ℕ) → e < length (queues_in rounds r) → r < length rounds
-round_inside rounds r e below =
-    elim (cases_lt r (length rounds)) [
-      | inl lt ↦ lt
-      | inr ge ↦ absurd (omega (arith, below, ap length (get_or_past rounds r [] ge)))
-    ]
-
 -- a flow with this path stands in the queues of its first j hops
 pub record IsUnderWay (path : PathShare) (flow j : ℕ) (old new : List (List (List ℕ))) : Type 0 where
   pub alike : AreAlike old new
   pub added : (r e : ℕ) → e < length (queues_in old r) →
       queue_at new r e ≡ queue_at old r e ++ (if nat_lt r j && slice_index path.links r == e then flow ∷ [] else [])
-
-pub under_way_none : (path : PathShare) (flow : ℕ) (old : List (List (List ℕ))) → IsUnderWay path flow 0 old old
-under_way_none path flow old = record {
-  alike = record { rounds = refl; queues = λ r. refl };
-  added = λ r e inside. none_more (queue_at old r e) flow (nat_lt r 0 && slice_index path.links r == e) (grind (arith, nat_tests));
-}
-
-next_hop : (ys : List ℕ) (x r j k e : ℕ) →
-    (ys ++ (if nat_lt r j && k == e then x ∷ [] else [])) ++ (if r == j && k == e then x ∷ [] else [])
-    ≡ ys ++ (if nat_lt r (j + 1) && k == e then x ∷ [] else [])
-next_hop ys x r j k e =
-    elim (cases_eq r j) [
-      | inl same ↦
-          let a : (nat_lt r j && k == e) ≡ false = grind (arith, nat_tests) in
-          let b : (r == j && k == e) ≡ (nat_lt r (j + 1) && k == e) = grind (arith, nat_tests) in
-          rw (a, b, append-nil ys) refl
-      | inr ne ↦
-          let a : (r == j && k == e) ≡ false = grind (arith, nat_tests) in
-          let b : (nat_lt r j && k == e) ≡ (nat_lt r (j + 1) && k == e) = grind (arith, nat_tests) in
-          rw (a, b) (append-nil (ys ++ (if nat_lt r (j + 1) && k == e then x ∷ [] else [])))
-    ]
-
-pub under_way_more : (path : PathShare) (flow j : ℕ) (old now new : List (List (List ℕ))) → HasRoom old path → j < length path.links →
-    IsUnderWay path flow j old now →
-    new ≡ set now j (set (queues_in now j) (slice_index path.links j) (queue_at now j (slice_index path.links j) ++ flow ∷ [])) →
-    IsUnderWay path flow (j + 1) old new
-under_way_more path flow j old now new room below so is =
-    let l = slice_index path.links j in
-    let has : l < length (queues_in now j) = omega (arith, so.alike.queues j, room j below) in
-    let inside = round_inside now j l has in
-    record {
-      alike = alike_then old now new so.alike
-          (subst (AreAlike now) (sym is) (put_alike now j l (queue_at now j l ++ flow ∷ []) inside));
-      added = λ r e inside_old.
-          ap (λ rs. queue_at rs r e) is
-          ∙ (put_at now j l flow r e inside has
-          ∙ (ap (λ q. q ++ (if r == j && l == e then flow ∷ [] else [])) (so.added r e inside_old)
-          ∙ (same_link (queue_at old r e) r e ∙ next_hop (queue_at old r e) flow r j (slice_index path.links r) e)));
-    }
-  where
-    same_link : (ys : List ℕ) (r e : ℕ) →
-        (ys ++ (if nat_lt r j && slice_index path.links r == e then flow ∷ [] else [])) ++ (if r == j && slice_index path.links j == e then flow ∷ [] else [])
-        ≡ (ys ++ (if nat_lt r j && slice_index path.links r == e then flow ∷ [] else [])) ++ (if r == j && slice_index path.links r == e then flow ∷ [] else [])
-    same_link ys r e =
-        elim (cases_eq r j) [
-          | inl same ↦ rw same refl
-          | inr ne ↦
-              let a : (r == j && slice_index path.links j == e) ≡ (r == j && slice_index path.links r == e) = grind (arith, nat_tests) in
-              rw a refl
-        ]
 
 pub numbers_below-same : (n : ℕ) (p q : ℕ → Bool) → ((k : ℕ) → k < n → p k ≡ q k) → numbers_below n p ≡ numbers_below n q
 numbers_below-same zero p q each = refl
@@ -174,12 +62,6 @@ asking-append xs ys r e =
     (numbers_below-same (length ys) (λ i. test (length xs + i)) (λ i. asks (slice_index_or ys i no_path) r e)
     (λ k below. ap (λ p. asks p r e) (get_or-append-add xs ys k no_path)))))
 
-pub added_none : (first : ℕ) (old : List (List (List ℕ))) → AreAdded first [] old old
-added_none first old = record {
-  alike = record { rounds = refl; queues = λ r. refl };
-  added = λ r e inside. sym (append-nil (queue_at old r e));
-}
-
 last_path : (xs : List PathShare) (path : PathShare) (first r e : ℕ) →
     map (λ i. first + i) (asking_of (xs ++ path ∷ []) r e)
     ≡ map (λ i. first + i) (asking_of xs r e) ++ (if asks path r e then (first + length xs) ∷ [] else [])
@@ -215,19 +97,6 @@ added_more first i paths hops old now new below so alike added is =
           ∙ (sym (last_path (take i paths) path first r e)
           ∙ ap (λ ps. map (λ k. first + k) (asking_of ps r e)) (sym whole))))));
     }
-
--- room for a path in rounds of the same shape
-pub room_alike : (path : PathShare) (old new : List (List (List ℕ))) → AreAlike old new → HasRoom old path → HasRoom new path
-room_alike path old new alike room = λ r below. omega (arith, room r below, alike.queues r)
-
--- no queue holds a flow
-pub queues_none : (links : ℕ) (rounds : List (List (List ℕ))) → All (λ r. (length r ≡ links) × All (λ q. q ≡ []) r) rounds → AreQueues [] links rounds
-queues_none links rounds empty = record {
-  queues = λ r below. (All-get_or (λ (q : List (List ℕ)). (length q ≡ links) × All (λ x. x ≡ []) q) rounds r [] below empty).0;
-  asking = λ r e inside.
-      let row = All-get_or (λ (q : List (List ℕ)). (length q ≡ links) × All (λ x. x ≡ []) q) rounds r [] (round_inside rounds r e inside) empty in
-      All-get_or (λ (x : List ℕ). x ≡ []) (queues_in rounds r) e [] inside row.1;
-}
 
 -- the paths of a pair more
 pub queues_more : (links : ℕ) (xs ys : List PathShare) (old new : List (List (List ℕ))) → AreQueues xs links old → AreAdded (length xs) ys old new →

@@ -12,7 +12,7 @@ use Rattle.te_model.specs.declared.route.PathShare.{PathShare}
 use Rattle.te_model.specs.Network.{node_count, link_count, is_well_formed}
 use Rattle.te_model.specs.Path.{no_routes, is_path, chains, is_distinct, nodes_visited}
 use Rattle.te_model.proofs.ApportionLaws.{index_le_sum}
-use Rattle.te_model.specs.Pairs.{no_pair, pair_at}
+use Rattle.te_model.specs.Pairs.{no_pair, pair_at, IsNodePair}
 use Rattle.te_model.proofs.Chains.{walk_links}
 use Rattle.te_model.proofs.FewPairs.{ascending_few}
 use Rattle.te_model.proofs.Tests.{and_true, list_all_at}
@@ -43,11 +43,11 @@ few_pairs net rates formed is =
     let pairs = pairs_of rates in
     let few = few_nodes net formed in
     let nodes = λ (p : ℕ) (below : p < length pairs).
-    All-get_or (λ (q : Pair). (q.src < node_count net) × (q.dst < node_count net)) pairs p no_pair below is.pairs.nodes in
+    All-get_or (IsNodePair (node_count net)) pairs p no_pair below is.pairs.nodes in
     let count : length pairs ≤ FORMAT_2.nodes * FORMAT_2.nodes =
     ascending_few (length pairs) (FORMAT_2.nodes * FORMAT_2.nodes) (λ p. number_of (pair_at pairs p))
-    (λ p below. number_rises (pair_at pairs p) (pair_at pairs (suc p)) (let at = nodes p (omega arith) in omega (arith, at.1)) (is.pairs.ascending p below))
-    (λ p below. let at = nodes p below in number_small (pair_at pairs p) (omega (arith, at.0)) (omega (arith, at.1))) in
+    (λ p below. number_rises (pair_at pairs p) (pair_at pairs (suc p)) (let at = nodes p (omega arith) in omega (arith, at.dst)) (is.pairs.ascending p below))
+    (λ p below. let at = nodes p below in number_small (pair_at pairs p) (omega (arith, at.src)) (omega (arith, at.dst))) in
     omega (arith, count, length-map rates (λ r. r.pair))
 
 split_of : (paths : List PathShare) → length paths ≤ 4096 → (length paths == 0 || total_weight paths == SHARE_UNIT) ≡ true → CanSplit paths

@@ -1,9 +1,9 @@
 -- What a step gives for each pair and each link.
-use Rattle.std.proofs.Common.{◌≡◌, ◌*◌, ℕ, zero, suc, ◌+◌, ◌-◌, ◌<◌, ◌≤◌, ◌^◌, Bool, List, [], ◌∷◌, ◌++◌, length, map, sum, sum_by, slice_index, arith, refl, ap, sym, ◌∙◌, ◌==◌, All, add-one, subst}
+use Rattle.std.proofs.Common.{◌≡◌, ◌*◌, ℕ, ◌+◌, ◌-◌, ◌<◌, ◌≤◌, ◌^◌, Bool, List, [], ◌∷◌, length, map, sum, sum_by, slice_index, arith, refl, ap, sym, ◌∙◌, ◌==◌, All, subst}
 use Rattle.std.specs.Prelude.{slice_index_or, if◌then◌else◌}
 use Rattle.std.specs.List.{range_with_len}
 use Rattle.std.proofs.lemmas.List.{get_or_default}
-use Rattle.std.proofs.lemmas.List.FromFn.{fill_by_all, map-range_with_len_more, length-map-range_with_len, get_or-map-range_with_len}
+use Rattle.std.proofs.lemmas.List.FromFn.{fill_by_all, length-map-range_with_len, get_or-map-range_with_len}
 use Rattle.std.proofs.lemmas.List.Elements.{All-from_get_or, All-head, All-tail}
 use Rattle.std.proofs.lemmas.List.Sums.{sum_by-cons, sum-map}
 use Rattle.te_model.specs.declared.limits.TheConstants.{FORMAT_2}
@@ -12,14 +12,15 @@ use Rattle.te_model.specs.declared.route.PairRoutes.{PairRoutes}
 use Rattle.te_model.specs.Counting.{sum_below}
 use Rattle.te_model.specs.Network.{link_count, capacity_of}
 use Rattle.te_model.specs.Path.{routes_at, no_routes}
+use Rattle.te_model.proofs.Choices.{made_same}
 use Rattle.te_model.proofs.Sums.{sum_below-same, sum_below-le}
 use Rattle.te_model.proofs.ApportionLaws.{sum_is_below, sum_small}
 use Rattle.flow_sim.specs.declared.state.State.{State}
 use Rattle.flow_sim.specs.declared.result.PairResult.{PairResult}
 use Rattle.flow_sim.specs.declared.result.StepResult.{StepResult}
-use Rattle.flow_sim.specs.Step.{Setting, over_pair, delivered, lost_failed, lost_full, carried}
+use Rattle.flow_sim.specs.Step.{Setting, over_pair, delivery, lost_failed, lost_full, link_traffic}
 use Rattle.flow_sim.specs.State.{IsState}
-use Rattle.flow_sim.specs.Tables.{amount_at, total_at}
+use Rattle.flow_sim.specs.Tables.{amount_of_key, total_at}
 use Rattle.flow_sim.specs.Traffic.{step_setting, flow_pairs, flow_paths, flow_starts, paths_of, lost_no_path, longest, CanSplit}
 use Rattle.flow_sim.specs.Result.{IsConserved, IsSummed, pair_result_of, pair_result, pair_results, all_carried}
 use Rattle.flow_sim.proofs.Conservation.{kept_so_far, left_is}
@@ -47,22 +48,13 @@ pub pair_read : (rates : List PairRoutes) (demand delivered lost_full lost_faile
     }) ≡ pair_result_of rates demand (slice_index delivered) (slice_index lost_full) (slice_index lost_failed) p
 pair_read rates demand delivered lost_full lost_failed p offered lost e f = rw (e, f) refl
 
--- lists made of the same items are the same
-pub listed_same : {X : Type 0} (n : ℕ) (f g : ℕ → X) → ((k : ℕ) → k < n → f k ≡ g k) → map f (range_with_len 0 n) ≡ map g (range_with_len 0 n)
-listed_same zero f g each = refl
-listed_same (suc n) f g each =
-    subst (λ (k : ℕ). map f (range_with_len 0 k) ≡ map g (range_with_len 0 k)) (add-one n)
-    (map-range_with_len_more f 0 n n (omega arith)
-    ∙ (ap (λ xs. xs ++ f n ∷ []) (listed_same n f g (λ k below. each k (omega arith)))
-    ∙ (ap (λ x. map g (range_with_len 0 n) ++ x ∷ []) (each n (omega arith)) ∙ sym (map-range_with_len_more g 0 n n (omega arith)))))
-
 -- an amount of each flow in a table, over the flows of a pair
 over_pair_is : (net : Network) (failed : List Bool) (rates : List PairRoutes) (demand table : List ℕ) (amount : ℕ → ℕ) (p : ℕ) →
     let s = step_setting net failed rates demand in
     ((f : ℕ) → f < s.flows → slice_index table f ≡ amount f) → total_at (flow_pairs rates) table p ≡ over_pair s amount p
 over_pair_is net failed rates demand table amount p each =
-    ap (λ n. sum_below n (amount_at (flow_pairs rates) table p)) (pairs-length rates)
-    ∙ sum_below-same (length (flow_paths rates)) (amount_at (flow_pairs rates) table p)
+    ap (λ n. sum_below n (amount_of_key (flow_pairs rates) table p)) (pairs-length rates)
+    ∙ sum_below-same (length (flow_paths rates)) (amount_of_key (flow_pairs rates) table p)
     (λ f. if slice_index (flow_pairs rates) f == p then amount f else 0)
     (λ f below. ap (λ x. if slice_index (flow_pairs rates) f == p then x else 0) (each f below))
 
@@ -77,10 +69,10 @@ pub results_are : (net : Network) (failed : List Bool) (rates : List PairRoutes)
     (total_at (flow_pairs rates) end'.lost_failed.items)) (range_with_len 0 (length rates)) ≡ pair_results net failed rates demand
 results_are net failed rates demand end' known =
     let s = step_setting net failed rates demand in
-    listed_same (length rates) _ (pair_result net failed rates demand) (λ p below.
+    made_same 0 (length rates) _ (pair_result net failed rates demand) (λ p below.
     result_same rates demand (total_at (flow_pairs rates) end'.units.items) (total_at (flow_pairs rates) end'.lost_full.items)
-    (total_at (flow_pairs rates) end'.lost_failed.items) (over_pair s (delivered s)) (over_pair s (lost_full s)) (over_pair s (lost_failed s)) p
-    (over_pair_is net failed rates demand end'.units.items (delivered s) p known.units_are)
+    (total_at (flow_pairs rates) end'.lost_failed.items) (over_pair s (delivery s)) (over_pair s (lost_full s)) (over_pair s (lost_failed s)) p
+    (over_pair_is net failed rates demand end'.units.items (delivery s) p known.units_are)
     (over_pair_is net failed rates demand end'.lost_full.items (lost_full s) p known.full_is)
     (over_pair_is net failed rates demand end'.lost_failed.items (lost_failed s) p known.failed_is))
 
@@ -117,7 +109,7 @@ pub carried_are : (net : Network) (failed : List Bool) (rates : List PairRoutes)
     map (λ e. capacity_of net e - slice_index end'.left.items e) (range_with_len 0 (link_count net)) ≡ all_carried net failed rates demand
 carried_are net failed rates demand end' known =
     let s = step_setting net failed rates demand in
-    listed_same (link_count net) _ (carried s) (λ e below. omega (arith, known.left_is e below, left_is s e s.rounds))
+    made_same 0 (link_count net) _ (link_traffic s) (λ e below. omega (arith, known.left_is e (omega arith), left_is s e s.rounds))
 
 pub left_within : (net : Network) (failed : List Bool) (rates : List PairRoutes) (demand : List ℕ) (r : ℕ) (state : State) →
     IsState (step_setting net failed rates demand) r state → (e : ℕ) → e < length state.left.items →
@@ -202,6 +194,6 @@ pub results_read : (rates : List PairRoutes) (demand a b c : List ℕ) (x y z : 
     map (pair_result_of rates demand (slice_index a) (slice_index b) (slice_index c)) (range_with_len 0 (length rates))
     ≡ map (pair_result_of rates demand x y z) (range_with_len 0 (length rates))
 results_read rates demand a b c x y z e f g =
-    listed_same (length rates) (pair_result_of rates demand (slice_index a) (slice_index b) (slice_index c)) (pair_result_of rates demand x y z)
+    made_same 0 (length rates) (pair_result_of rates demand (slice_index a) (slice_index b) (slice_index c)) (pair_result_of rates demand x y z)
     (λ p below. result_same rates demand (slice_index a) (slice_index b) (slice_index c) x y z p
-    (read_made x (length rates) p a e below) (read_made y (length rates) p b f below) (read_made z (length rates) p c g below))
+    (read_made x (length rates) p a e (omega arith)) (read_made y (length rates) p b f (omega arith)) (read_made z (length rates) p c g (omega arith)))

@@ -3,7 +3,7 @@ use Rattle.std.proofs.Common.{◌≡◌, ℕ, ◌+◌, ◌<◌, ◌^◌, List, l
 use Rattle.std.specs.Prelude.{slice_index_or}
 use Rattle.std.proofs.lemmas.List.Sums.{sum_by_more, sum_by_more_le}
 use Rattle.flow_sim.specs.declared.result.PairResult.{PairResult}
-use Rattle.flow_sim.specs.Result.{plus, sums_of, FitsWords}
+use Rattle.flow_sim.specs.Result.{sum_of_results, sums_of, FitsWords}
 
 -- one pair more, in one field
 field_more : (f : PairResult → ℕ) (pairs : List PairResult) (i : ℕ) (d : PairResult) → i < length pairs →
@@ -22,17 +22,17 @@ same_fields a b c d e v w x y z p q r s t = rw (p, q, r, s, t) refl
 
 -- one pair more, in all
 pub sums_more : (pairs : List PairResult) (i : ℕ) (sums d next : PairResult) → i < length pairs → sums ≡ sums_of (take i pairs) →
-    next ≡ plus sums (slice_index_or pairs i d) → next ≡ sums_of (take (i + 1) pairs)
+    next ≡ sum_of_results sums (slice_index_or pairs i d) → next ≡ sums_of (take (i + 1) pairs)
 sums_more pairs i sums d next below are is =
     is
-    ∙ (ap (λ (s : PairResult). plus s (slice_index_or pairs i d)) are
+    ∙ (ap (λ (s : PairResult). sum_of_results s (slice_index_or pairs i d)) are
     ∙ same_fields _ _ _ _ _ _ _ _ _ _ (field_more (λ p. p.offered) pairs i d below) (field_more (λ p. p.delivered) pairs i d below)
     (field_more (λ p. p.lost_full) pairs i d below) (field_more (λ p. p.lost_failed) pairs i d below)
     (field_more (λ p. p.lost_no_path) pairs i d below))
 
 -- the sums fit with one pair more
 pub sums_fit_more : (pairs lent : List PairResult) (i : ℕ) (sums d : PairResult) → lent ≡ pairs → i < length lent → sums ≡ sums_of (take i lent) →
-    FitsWords (sums_of pairs) → FitsWords (plus sums (slice_index_or lent i d))
+    FitsWords (sums_of pairs) → FitsWords (sum_of_results sums (slice_index_or lent i d))
 sums_fit_more pairs lent i sums d same below are fits = record {
   offered = field_fits (λ p. p.offered) pairs lent i sums.offered d same below (ap (λ (s : PairResult). s.offered) are) fits.offered;
   delivered = field_fits (λ p. p.delivered) pairs lent i sums.delivered d same below (ap (λ (s : PairResult). s.delivered) are) fits.delivered;

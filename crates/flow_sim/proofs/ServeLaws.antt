@@ -5,7 +5,7 @@ use Rattle.std.proofs.lemmas.Bool.{cases_lt}
 use Rattle.std.proofs.lemmas.List.FromFn.{length-map-range_with_len}
 use Rattle.flow_sim.specs.declared.state.State.{State}
 use Rattle.flow_sim.specs.Fair.{fair}
-use Rattle.flow_sim.specs.Serving.{Flow, flow_at, flow_served, link_serves, served_by, IsAbsent, HasShape, HasRoomFor, IsServed, IsRound, AreApart}
+use Rattle.flow_sim.specs.Serving.{Flow, flow_at, flow_served, link_serves, served_by, IsAbsent, HasShape, IsServed, AreApart}
 
 pub map-same : (xs : List ℕ) (f g : ℕ → ℕ) → ((i : ℕ) → i < length xs → f (slice_index xs i) ≡ g (slice_index xs i)) → map f xs ≡ map g xs
 map-same [] f g each = refl
@@ -18,13 +18,6 @@ pub record IsHalfway (failed : List Bool) (queues : List (List ℕ)) (e : ℕ) (
   pub served : (d : ℕ) → d < e → IsServed (slice_index_or failed d false) d (slice_index_or queues d []) before now
   pub others : (f : ℕ) → ((d : ℕ) → d < e → IsAbsent (slice_index_or queues d []) f) → flow_at now f ≡ flow_at before f
   pub other_links : (d : ℕ) → e ≤ d → slice_index now.left.items d ≡ slice_index before.left.items d
-
-pub halfway_none : (failed : List Bool) (queues : List (List ℕ)) (before : State) → IsHalfway failed queues 0 before before
-halfway_none failed queues before = record {
-  served = λ d below. absurd (omega arith);
-  others = λ f absent. refl;
-  other_links = λ d past. refl;
-}
 
 -- the flows of a later queue stand as before
 pub untouched : (failed : List Bool) (queues : List (List ℕ)) (flows e : ℕ) (before now : State) → AreApart flows queues →
@@ -41,18 +34,6 @@ pub same_arrivals : (failed : List Bool) (queues : List (List ℕ)) (flows e : �
 same_arrivals failed queues flows e before now apart so =
     map-same (slice_index_or queues e []) (slice_index now.units.items) (slice_index before.units.items)
     (λ i inside. ap (λ (w : Flow). w.units) (untouched failed queues flows e before now apart so i inside))
-
--- and there is as much room
-pub same_room : (failed : List Bool) (queues : List (List ℕ)) (flows e : ℕ) (before now : State) → AreApart flows queues →
-    IsHalfway failed queues e before now → ((f : ℕ) → f < flows → HasRoomFor before f) → (i : ℕ) → i < length (slice_index_or queues e []) →
-    HasRoomFor now (slice_index (slice_index_or queues e []) i)
-same_room failed queues flows e before now apart so room i inside =
-    let has = room (slice_index (slice_index_or queues e []) i) (apart.inside e i inside) in
-    let same = untouched failed queues flows e before now apart so i inside in
-    let u = ap (λ (w : Flow). w.units) same in
-    let a = ap (λ (w : Flow). w.lost_full) same in
-    let b = ap (λ (w : Flow). w.lost_failed) same in
-    (omega (arith, has.0), omega (arith, has.1))
 
 -- a link more
 pub halfway_more : (failed : List Bool) (queues : List (List ℕ)) (flows e : ℕ) (before now next : State) → AreApart flows queues →
@@ -94,22 +75,6 @@ halfway_more failed queues flows e before now next apart so more others other_li
               ∙ old.served i inside;
           left = other_links d (λ is. omega arith) ∙ old.left;
         }
-
-pub halfway_all : (failed : List Bool) (queues : List (List ℕ)) (e : ℕ) (before after : State) → length queues ≡ e →
-    IsHalfway failed queues e before after → IsRound failed queues before after
-halfway_all failed queues e before after all so = record {
-  served = λ d below. so.served d (omega arith);
-  others = λ f absent. so.others f (λ d below. absent d (omega arith));
-}
-
--- a shape by the state's own lengths
-pub own_shape : (flows links : ℕ) (state : State) → HasShape flows links state → HasShape (length state.units.items) (length state.left.items) state
-own_shape flows links state has = record {
-  units = refl;
-  lost_full = has.lost_full ∙ sym has.units;
-  lost_failed = has.lost_failed ∙ sym has.units;
-  left = refl;
-}
 
 pub then_shape : (flows links : ℕ) (before after : State) → HasShape flows links before →
     HasShape (length before.units.items) (length before.left.items) after → HasShape flows links after

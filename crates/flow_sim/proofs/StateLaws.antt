@@ -14,12 +14,12 @@ use Rattle.te_model.proofs.Conditionals.{if_le-self}
 use Rattle.te_model.proofs.Sums.{sum_below-le, sum_below-term, sum_below-zero}
 use Rattle.te_model.proofs.ApportionLaws.{sum_made}
 use Rattle.flow_sim.specs.declared.state.State.{State}
-use Rattle.flow_sim.specs.Asking.{numbers_below, asking, arrived}
+use Rattle.flow_sim.specs.Asking.{numbers_below, asking_flows, arriving_units}
 use Rattle.flow_sim.specs.Fair.{fair, fair_shares}
 use Rattle.flow_sim.specs.Queues.{queues_in, asks, AreQueues}
-use Rattle.flow_sim.specs.Serving.{Flow, flow_at, flow_served, link_serves, served_by, HasShape, HasRoomFor, IsRound, AreApart}
+use Rattle.flow_sim.specs.Serving.{Flow, flow_at, flow_served, link_serves, served_by, HasShape, HasRoomFor, IsServingRound, AreApart}
 use Rattle.flow_sim.specs.State.{IsState}
-use Rattle.flow_sim.specs.Step.{Setting, arrivals, served, used, units, lost, before_round, lost_failed_before, lost_full_before}
+use Rattle.flow_sim.specs.Step.{Setting, arrivals, service_of, used_capacity, units, loss, before_round, lost_failed_before, lost_full_before}
 use Rattle.routing.specs.Merge.{no_path}
 use Rattle.flow_sim.specs.Traffic.{flow_paths, step_setting}
 use Rattle.flow_sim.proofs.Conservation.{kept_so_far}
@@ -32,7 +32,7 @@ use Rattle.flow_sim.proofs.TableLaws.{zero_read}
 -- the queues of a round hold the flows that ask their links
 pub record AreAsking (s : Setting) (r : ℕ) (queues : List (List ℕ)) : Type 0 where
   pub links : length queues ≡ s.links
-  pub asking : (e : ℕ) → e < s.links → slice_index_or queues e [] ≡ asking s r e
+  pub asking : (e : ℕ) → e < s.links → slice_index_or queues e [] ≡ asking_flows s r e
 
 hop_asks : (path : PathShare) (r e links : ℕ) → e < links → asks path r e ≡ (slice_index_or path.links r links == e)
 hop_asks path r e links inside =
@@ -61,7 +61,7 @@ asking_are net failed rates demand r rounds so below = record {
 
 -- a queue in which a flow stands is that of a link
 queue_is : (s : Setting) (r : ℕ) (queues : List (List ℕ)) → AreAsking s r queues → (e i : ℕ) → i < length (slice_index_or queues e []) →
-    (e < s.links) × (slice_index_or queues e [] ≡ asking s r e) × (i < length (asking s r e))
+    (e < s.links) × (slice_index_or queues e [] ≡ asking_flows s r e) × (i < length (asking_flows s r e))
 queue_is s r queues are e i inside =
     elim (cases_lt e s.links) [
       | inl lt ↦ let q = are.asking e lt in (lt, q, omega (arith, inside, ap length q))
@@ -87,47 +87,47 @@ apart_are s r queues are = record {
       let q = queue_is s r queues are e j j_inside in
       let a = placed s.flows (λ f. s.hop f r == d) i p.2 in
       let b = placed s.flows (λ f. s.hop f r == e) j q.2 in
-      let flow : slice_index (asking s r d) i ≡ slice_index (asking s r e) j =
+      let flow : slice_index (asking_flows s r d) i ≡ slice_index (asking_flows s r e) j =
       sym (ap (λ xs. slice_index xs i) p.1) ∙ (same ∙ ap (λ xs. slice_index xs j) q.1) in
-      one_hop (s.hop (slice_index (asking s r d) i) r) (s.hop (slice_index (asking s r e) j) r) d e (ap (λ f. s.hop f r) flow) a.passes b.passes;
+      one_hop (s.hop (slice_index (asking_flows s r d) i) r) (s.hop (slice_index (asking_flows s r e) j) r) d e (ap (λ f. s.hop f r) flow) a.passes b.passes;
 }
   where
     one_hop : (x y d e : ℕ) → x ≡ y → (x == d) ≡ true → (y == e) ≡ true → d ≡ e
     one_hop x y d e same p q = grind (arith, nat_tests)
 
 -- what a link serves, as the definition says it
-serves_are : (s : Setting) (r e : ℕ) (mark : Bool) (queue : List ℕ) (before : State) → IsState s r before → e < s.links → queue ≡ asking s r e →
-    mark ≡ s.has_failed e → served_by mark e queue before ≡ link_serves (s.has_failed e) ((before_round s r).left e) (arrived s r e)
+serves_are : (s : Setting) (r e : ℕ) (mark : Bool) (queue : List ℕ) (before : State) → IsState s r before → e < s.links → queue ≡ asking_flows s r e →
+    mark ≡ s.has_failed e → served_by mark e queue before ≡ link_serves (s.has_failed e) ((before_round s r).left e) (arriving_units s r e)
 serves_are s r e mark queue before known inside queue_is mark_is =
-    let arriving : map (slice_index before.units.items) queue ≡ arrived s r e =
+    let arriving : map (slice_index before.units.items) queue ≡ arriving_units s r e =
     ap (map (slice_index before.units.items)) queue_is
-    ∙ map-same (asking s r e) (slice_index before.units.items) (λ f. units s f r)
-    (λ i i_inside. known.units_are (slice_index (asking s r e) i) (placed s.flows (λ f. s.hop f r == e) i i_inside).below) in
+    ∙ map-same (asking_flows s r e) (slice_index before.units.items) (λ f. units s f r)
+    (λ i i_inside. known.units_are (slice_index (asking_flows s r e) i) (placed s.flows (λ f. s.hop f r == e) i i_inside).below) in
     rw (mark_is, known.left_is e inside, arriving) refl
 
-share_is : (s : Setting) (r e i : ℕ) → i < length (asking s r e) →
-    slice_index (link_serves (s.has_failed e) ((before_round s r).left e) (arrived s r e)) i
-    ≡ served s (before_round s r) r e (slice_index (asking s r e) i)
+share_is : (s : Setting) (r e i : ℕ) → i < length (asking_flows s r e) →
+    slice_index (link_serves (s.has_failed e) ((before_round s r).left e) (arriving_units s r e)) i
+    ≡ service_of s (before_round s r) r e (slice_index (asking_flows s r e) i)
 share_is s r e i inside = pick (s.has_failed e) ∙ sym (serves_fairly s r e i inside)
   where
-    pick : (b : Bool) → slice_index (link_serves b ((before_round s r).left e) (arrived s r e)) i
-        ≡ (if b then 0 else slice_index (fair_shares ((before_round s r).left e) (arrived s r e)) i)
-    pick true = zero_read (length (arrived s r e)) i (map (λ i. 0) (range_with_len 0 (length (arrived s r e)))) refl
+    pick : (b : Bool) → slice_index (link_serves b ((before_round s r).left e) (arriving_units s r e)) i
+        ≡ (if b then 0 else slice_index (fair_shares ((before_round s r).left e) (arriving_units s r e)) i)
+    pick true = zero_read (length (arriving_units s r e)) i (map (λ i. 0) (range_with_len 0 (length (arriving_units s r e)))) refl
     pick false = refl
 
 -- all that a link serves
 sum_is : (s : Setting) (r e : ℕ) →
-    sum (link_serves (s.has_failed e) ((before_round s r).left e) (arrived s r e)) ≡ used s (before_round s r) r e
+    sum (link_serves (s.has_failed e) ((before_round s r).left e) (arriving_units s r e)) ≡ used_capacity s (before_round s r) r e
 sum_is s r e = pick (s.has_failed e)
   where
-    pick : (b : Bool) → sum (link_serves b ((before_round s r).left e) (arrived s r e))
+    pick : (b : Bool) → sum (link_serves b ((before_round s r).left e) (arriving_units s r e))
         ≡ sum_below s.flows (λ f. if b then 0 else fair ((before_round s r).left e) s.flows (arrivals s (before_round s r) r e) f)
     pick true =
-        sum_made (λ i. 0) (length (arrived s r e))
-        ∙ (sum_below-zero (length (arrived s r e)) (λ i. 0) (λ k below. refl) ∙ sym (sum_below-zero s.flows (λ f. 0) (λ k below. refl)))
+        sum_made (λ i. 0) (length (arriving_units s r e))
+        ∙ (sum_below-zero (length (arriving_units s r e)) (λ i. 0) (λ k below. refl) ∙ sym (sum_below-zero s.flows (λ f. 0) (λ k below. refl)))
     pick false =
         let left = (before_round s r).left e in
-        let ys = arrived s r e in
+        let ys = arriving_units s r e in
         sum_made (fair left (length ys) (slice_index ys)) (length ys)
         ∙ (fair-sum left (length ys) (slice_index ys)
         ∙ (ap (min left) (own_sum s.flows (λ f. s.hop f r == e) (λ f. units s f r) (λ x. x) refl)
@@ -159,13 +159,13 @@ same_flow u v a b x y e f g = rw (e, f, g) refl
 
 -- a flow that its link serves
 flow_passed : (s : Setting) (r f : ℕ) → s.hop f r < s.links →
-    flow_served (s.has_failed (s.hop f r)) (flow_before s r f) (served s (before_round s r) r (s.hop f r) f) ≡ flow_after s r f
+    flow_served (s.has_failed (s.hop f r)) (flow_before s r f) (service_of s (before_round s r) r (s.hop f r) f) ≡ flow_after s r f
 flow_passed s r f inside =
     let test : nat_lt (s.hop f r) s.links ≡ true = grind (arith, nat_tests) in
-    let share : served s (before_round s r) r (s.hop f r) f ≡ units s f (suc r) =
-    sym (ap (λ t. if t then served s (before_round s r) r (s.hop f r) f else (before_round s r).units f) test) in
+    let share : service_of s (before_round s r) r (s.hop f r) f ≡ units s f (suc r) =
+    sym (ap (λ t. if t then service_of s (before_round s r) r (s.hop f r) f else (before_round s r).units f) test) in
     ap (flow_served (s.has_failed (s.hop f r)) (flow_before s r f)) share
-    ∙ same_flow _ _ _ _ _ _ refl (full (s.has_failed (s.hop f r)) (lost_full_before s f r) (lost s f r)) (failed (s.has_failed (s.hop f r)) (lost_failed_before s f r) (lost s f r))
+    ∙ same_flow _ _ _ _ _ _ refl (full (s.has_failed (s.hop f r)) (lost_full_before s f r) (loss s f r)) (failed (s.has_failed (s.hop f r)) (lost_failed_before s f r) (loss s f r))
   where
     full : (b : Bool) (x y : ℕ) → (if b then x else x + y) ≡ x + (if b then 0 else y)
     full true x y = omega arith
@@ -180,10 +180,10 @@ flow_ended : (s : Setting) (r f : ℕ) → s.links ≤ s.hop f r → flow_before
 flow_ended s r f out =
     let test : nat_lt (s.hop f r) s.links ≡ false = grind (arith, nat_tests) in
     let stays : units s f (suc r) ≡ units s f r =
-    ap (λ t. if t then served s (before_round s r) r (s.hop f r) f else (before_round s r).units f) test in
-    let none : lost s f r ≡ 0 = omega (arith, stays) in
-    same_flow _ _ _ _ _ _ (sym stays) (full (s.has_failed (s.hop f r)) (lost_full_before s f r) (lost s f r) none)
-    (failed (s.has_failed (s.hop f r)) (lost_failed_before s f r) (lost s f r) none)
+    ap (λ t. if t then service_of s (before_round s r) r (s.hop f r) f else (before_round s r).units f) test in
+    let none : loss s f r ≡ 0 = omega (arith, stays) in
+    same_flow _ _ _ _ _ _ (sym stays) (full (s.has_failed (s.hop f r)) (lost_full_before s f r) (loss s f r) none)
+    (failed (s.has_failed (s.hop f r)) (lost_failed_before s f r) (loss s f r) none)
   where
     full : (b : Bool) (x y : ℕ) → y ≡ 0 → x ≡ x + (if b then 0 else y)
     full true x y e = omega arith
@@ -194,7 +194,7 @@ flow_ended s r f out =
     failed false x y e = omega arith
 
 flow_next : (s : Setting) (r f : ℕ) (failed : List Bool) (queues : List (List ℕ)) (before after : State) → IsState s r before →
-    AreAsking s r queues → ((e : ℕ) → slice_index_or failed e false ≡ s.has_failed e) → IsRound failed queues before after → f < s.flows →
+    AreAsking s r queues → ((e : ℕ) → slice_index_or failed e false ≡ s.has_failed e) → IsServingRound failed queues before after → f < s.flows →
     flow_at after f ≡ flow_after s r f
 flow_next s r f failed queues before after known are marks round below =
     let e = s.hop f r in
@@ -208,21 +208,21 @@ flow_next s r f failed queues before after known are marks round below =
           let queue_e = are.asking e inside in
           let stands : slice_index queue i ≡ f = ap (λ xs. slice_index xs i) queue_e ∙ at.1 in
           let got = (round.served e (omega (arith, are.links))).served i (omega (arith, at.0, ap length queue_e)) in
-          let share : slice_index (served_by mark e queue before) i ≡ served s (before_round s r) r e f =
+          let share : slice_index (served_by mark e queue before) i ≡ service_of s (before_round s r) r e f =
           ap (λ xs. slice_index xs i) (serves_are s r e mark queue before known inside queue_e (marks e))
-          ∙ (share_is s r e i at.0 ∙ ap (served s (before_round s r) r e) at.1) in
+          ∙ (share_is s r e i at.0 ∙ ap (service_of s (before_round s r) r e) at.1) in
           ap (flow_at after) (sym stands)
           ∙ (got
           ∙ (ap (λ k. flow_served mark (flow_at before k) (slice_index (served_by mark e queue before) i)) stands
           ∙ (ap (λ b. flow_served b (flow_at before f) (slice_index (served_by mark e queue before) i)) (marks e)
           ∙ (ap (flow_served (s.has_failed e) (flow_at before f)) share
-          ∙ (ap (λ w. flow_served (s.has_failed e) w (served s (before_round s r) r e f)) (flow_known s r f before known below)
+          ∙ (ap (λ w. flow_served (s.has_failed e) w (service_of s (before_round s r) r e f)) (flow_known s r f before known below)
           ∙ flow_passed s r f inside)))))
       | inr out ↦
           let absent = λ (d : ℕ) (d_inside : d < length queues) (i : ℕ) (i_inside : i < length (slice_index_or queues d [])) (is : slice_index (slice_index_or queues d []) i ≡ f).
           let q = queue_is s r queues are d i i_inside in
           let at = placed s.flows (λ k. s.hop k r == d) i q.2 in
-          let flow : slice_index (asking s r d) i ≡ f = sym (ap (λ xs. slice_index xs i) q.1) ∙ is in
+          let flow : slice_index (asking_flows s r d) i ≡ f = sym (ap (λ xs. slice_index xs i) q.1) ∙ is in
           beyond (s.hop f r) d s.links (ap (λ k. s.hop k r == d) (sym flow) ∙ at.passes) q.0 out in
           round.others f absent ∙ (flow_known s r f before known below ∙ flow_ended s r f out)
     ]
@@ -232,7 +232,7 @@ flow_next s r f failed queues before after known are marks round below =
 
 pub state_next : (s : Setting) (r : ℕ) (failed : List Bool) (queues : List (List ℕ)) (before after : State) → IsState s r before →
     AreAsking s r queues → ((e : ℕ) → slice_index_or failed e false ≡ s.has_failed e) → HasShape s.flows s.links after →
-    IsRound failed queues before after → IsState s (r + 1) after
+    IsServingRound failed queues before after → IsState s (r + 1) after
 state_next s r failed queues before after known are marks shape round =
     let next = λ (f : ℕ) (below : f < s.flows). flow_next s r f failed queues before after known are marks round below in
     subst (λ (k : ℕ). IsState s k after) (sym (add-one r)) (record {
@@ -246,20 +246,12 @@ state_next s r failed queues before after known are marks shape round =
       left_is = λ e inside.
           let queue = slice_index_or queues e [] in
           let mark = slice_index_or failed e false in
-          let sums : sum (served_by mark e queue before) ≡ used s (before_round s r) r e =
+          let sums : sum (served_by mark e queue before) ≡ used_capacity s (before_round s r) r e =
           ap sum (serves_are s r e mark queue before known inside (are.asking e inside) (marks e)) ∙ sum_is s r e in
           (round.served e (omega (arith, are.links))).left
           ∙ (ap (λ x. x - sum (served_by mark e queue before)) (known.left_is e inside)
           ∙ ap (λ x. (before_round s r).left e - x) sums);
     })
-
-pub shape_is : (s : Setting) (r : ℕ) (state : State) → IsState s r state → HasShape s.flows s.links state
-shape_is s r state known = record {
-  units = known.flows;
-  lost_full = known.full_flows;
-  lost_failed = known.failed_flows;
-  left = known.links;
-}
 
 -- what a flow has and has lost is no more than it started with
 pub lost_fits : (s : Setting) (r : ℕ) (state : State) → IsState s r state → sum_below s.flows s.start < 2 ^ 64 →

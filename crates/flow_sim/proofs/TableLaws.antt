@@ -1,19 +1,15 @@
 -- Laws of tables of flows.
-use Rattle.std.proofs.Common.{◌≡◌, ℕ, ◌+◌, ◌<◌, ◌≤◌, Bool, true, false, List, [], ◌∷◌, ◌++◌, length, map, slice_index, arith, refl, ap, ◌∙◌, inl, inr, ◌==◌, add-one, sum, take, drop}
+use Rattle.std.proofs.Common.{◌≡◌, ℕ, ◌+◌, ◌<◌, ◌≤◌, Bool, true, false, List, ◌++◌, length, map, slice_index, arith, refl, ap, ◌∙◌, inl, inr, ◌==◌, add-one, sum, take, drop}
 use Rattle.std.specs.Prelude.{if◌then◌else◌}
 use Rattle.std.specs.List.{range_with_len}
 use Rattle.std.proofs.lemmas.Bool.{cases_lt, eq-eqb}
-use Rattle.std.proofs.lemmas.List.FromFn.{map-range_with_len_more, get_or-map-range_with_len, length-map-range_with_len}
+use Rattle.std.proofs.lemmas.List.FromFn.{get_or-map-range_with_len, length-map-range_with_len}
 use Rattle.std.proofs.lemmas.List.{get_or_past}
 use Rattle.std.proofs.Math.Seq.{take-append_seam}
 use Rattle.te_model.specs.Counting.{sum_below}
 use Rattle.te_model.proofs.Sums.{sum_below-le}
 use Rattle.te_model.proofs.ApportionLaws.{sum_below-more, sum_is_below}
-use Rattle.flow_sim.specs.Tables.{amount_at, total_at}
-
-pub made_more : {X : Type 0} (f : ℕ → X) (i : ℕ) (x : X) (xs ys : List X) → xs ≡ map f (range_with_len 0 i) → ys ≡ xs ++ x ∷ [] → x ≡ f i →
-    ys ≡ map f (range_with_len 0 (i + 1))
-made_more f i x xs ys before pushed is = let e = map-range_with_len_more f 0 i i (omega arith) in cc
+use Rattle.flow_sim.specs.Tables.{amount_of_key, total_at}
 
 pub sum_below-next : (n : ℕ) (f : ℕ → ℕ) → sum_below (n + 1) f ≡ sum_below n f + f n
 sum_below-next n f = rw add-one refl
@@ -22,7 +18,7 @@ sum_below-next n f = rw add-one refl
 pub next_fits : (n i : ℕ) (f : ℕ → ℕ) → i < n → sum_below i f + f i ≤ sum_below n f
 next_fits n i f below = omega (arith, sum_below-more (i + 1) n f (omega arith), sum_below-next i f)
 
-pub amount_at-own : (keys amounts : List ℕ) (f : ℕ) → amount_at keys amounts (slice_index keys f) f ≡ slice_index amounts f
+pub amount_at-own : (keys amounts : List ℕ) (f : ℕ) → amount_of_key keys amounts (slice_index keys f) f ≡ slice_index amounts f
 amount_at-own keys amounts f =
     let same : (slice_index keys f == slice_index keys f) ≡ true = eq-eqb (slice_index keys f) (slice_index keys f) refl in rw same refl
 
@@ -30,7 +26,7 @@ pub total_at-fits : (keys amounts : List ℕ) (e : ℕ) → length keys ≡ leng
 total_at-fits keys amounts e same =
     omega (
       arith,
-      sum_below-le (length keys) (amount_at keys amounts e) (slice_index amounts) (λ f below. part_le (slice_index keys f == e) (slice_index amounts f)),
+      sum_below-le (length keys) (amount_of_key keys amounts e) (slice_index amounts) (λ f below. part_le (slice_index keys f == e) (slice_index amounts f)),
       ap (λ n. sum_below n (slice_index amounts)) same,
       sum_is_below amounts,
     )

@@ -6,7 +6,7 @@ use Rattle.te_model.specs.declared.route.PairRoutes.{PairRoutes}
 use Rattle.te_model.specs.Network.{link_count}
 use Rattle.flow_sim.specs.declared.result.PairResult.{PairResult}
 use Rattle.flow_sim.specs.declared.result.StepResult.{StepResult}
-use Rattle.flow_sim.specs.Step.{over_pair, delivered, lost_failed, lost_full, carried}
+use Rattle.flow_sim.specs.Step.{over_pair, delivery, lost_failed, lost_full, link_traffic}
 use Rattle.flow_sim.specs.Traffic.{step_setting, lost_no_path}
 
 -- all that was offered was delivered or lost
@@ -22,8 +22,8 @@ pub record FitsWords (p : PairResult) : Type 0 where
   pub lost_no_path : p.lost_no_path < 2 ^ 64
 
 -- the sums of two results, field by field
-abbrev pub plus : PairResult → PairResult → PairResult
-plus a b = record {
+abbrev pub sum_of_results : PairResult → PairResult → PairResult
+sum_of_results a b = record {
   offered = a.offered + b.offered;
   delivered = a.delivered + b.delivered;
   lost_full = a.lost_full + b.lost_full;
@@ -65,11 +65,11 @@ pair_result_of rates demand delivered lost_full lost_failed p = record {
 abbrev pub pair_result : Network → List Bool → List PairRoutes → List ℕ → ℕ → PairResult
 pair_result net failed rates demand =
     let s = step_setting net failed rates demand in
-    pair_result_of rates demand (over_pair s (delivered s)) (over_pair s (lost_full s)) (over_pair s (lost_failed s))
+    pair_result_of rates demand (over_pair s (delivery s)) (over_pair s (lost_full s)) (over_pair s (lost_failed s))
 
 abbrev pub pair_results : Network → List Bool → List PairRoutes → List ℕ → List PairResult
 pair_results net failed rates demand = map (pair_result net failed rates demand) (range_with_len 0 (length rates))
 
 -- what each link serves in the step
 abbrev pub all_carried : Network → List Bool → List PairRoutes → List ℕ → List ℕ
-all_carried net failed rates demand = map (carried (step_setting net failed rates demand)) (range_with_len 0 (link_count net))
+all_carried net failed rates demand = map (link_traffic (step_setting net failed rates demand)) (range_with_len 0 (link_count net))

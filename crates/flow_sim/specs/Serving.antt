@@ -56,7 +56,7 @@ pub record IsServed (failed : Bool) (e : ℕ) (queue : List ℕ) (before after :
   pub left : slice_index after.left.items e ≡ slice_index before.left.items e - sum (served_by failed e queue before)
 
 -- so did every link, in a round with these queues
-pub record IsRound (failed : List Bool) (queues : List (List ℕ)) (before after : State) : Type 0 where
+pub record IsServingRound (failed : List Bool) (queues : List (List ℕ)) (before after : State) : Type 0 where
   pub served : (e : ℕ) → e < length queues →
       IsServed (slice_index_or failed e false) e (slice_index_or queues e []) before after
   pub others : (f : ℕ) → ((e : ℕ) → e < length queues → IsAbsent (slice_index_or queues e []) f) → flow_at after f ≡ flow_at before f

@@ -25,19 +25,19 @@ abbrev pub arrivals : Setting → Moment → ℕ → ℕ → ℕ → ℕ
 arrivals s now r e f = if s.hop f r == e then now.units f else 0
 
 -- what link e serves of flow f's arrivals: nothing if it has failed, and else its fair share of what the link has left
-abbrev pub served : Setting → Moment → ℕ → ℕ → ℕ → ℕ
-served s now r e f = if s.has_failed e then 0 else fair (now.left e) s.flows (arrivals s now r e) f
+abbrev pub service_of : Setting → Moment → ℕ → ℕ → ℕ → ℕ
+service_of s now r e f = if s.has_failed e then 0 else fair (now.left e) s.flows (arrivals s now r e) f
 
 -- the units that flow f has after round r: those that its link served, or all of them after its last hop
-abbrev pub passed : Setting → Moment → ℕ → ℕ → ℕ
-passed s now r f = if nat_lt (s.hop f r) s.links then served s now r (s.hop f r) f else now.units f
+abbrev pub units_passed_on : Setting → Moment → ℕ → ℕ → ℕ
+units_passed_on s now r f = if nat_lt (s.hop f r) s.links then service_of s now r (s.hop f r) f else now.units f
 
 -- all that link e serves in round r
-abbrev pub used : Setting → Moment → ℕ → ℕ → ℕ
-used s now r e = sum_below s.flows (served s now r e)
+abbrev pub used_capacity : Setting → Moment → ℕ → ℕ → ℕ
+used_capacity s now r e = sum_below s.flows (service_of s now r e)
 
 abbrev pub after_round : Setting → ℕ → Moment → Moment
-after_round s r now = record { units = passed s now r; left = λ e. now.left e - used s now r e }
+after_round s r now = record { units = units_passed_on s now r; left = λ e. now.left e - used_capacity s now r e }
 
 -- how things stand before round r
 abbrev pub before_round : Setting → ℕ → Moment
@@ -48,19 +48,19 @@ abbrev pub units : Setting → ℕ → ℕ → ℕ
 units s f r = (before_round s r).units f
 
 -- what flow f loses in round r
-abbrev pub lost : Setting → ℕ → ℕ → ℕ
-lost s f r = units s f r - units s f (suc r)
+abbrev pub loss : Setting → ℕ → ℕ → ℕ
+loss s f r = units s f r - units s f (suc r)
 
-abbrev pub delivered : Setting → ℕ → ℕ
-delivered s f = units s f s.rounds
+abbrev pub delivery : Setting → ℕ → ℕ
+delivery s f = units s f s.rounds
 
 -- what flow f lost on failed links in the rounds before round n
 abbrev pub lost_failed_before : Setting → ℕ → ℕ → ℕ
-lost_failed_before s f n = sum_below n (λ r. if s.has_failed (s.hop f r) then lost s f r else 0)
+lost_failed_before s f n = sum_below n (λ r. if s.has_failed (s.hop f r) then loss s f r else 0)
 
 -- what flow f lost on full links in the rounds before round n
 abbrev pub lost_full_before : Setting → ℕ → ℕ → ℕ
-lost_full_before s f n = sum_below n (λ r. if s.has_failed (s.hop f r) then 0 else lost s f r)
+lost_full_before s f n = sum_below n (λ r. if s.has_failed (s.hop f r) then 0 else loss s f r)
 
 abbrev pub lost_failed : Setting → ℕ → ℕ
 lost_failed s f = lost_failed_before s f s.rounds
@@ -69,8 +69,8 @@ abbrev pub lost_full : Setting → ℕ → ℕ
 lost_full s f = lost_full_before s f s.rounds
 
 -- all that link e serves in the step
-abbrev pub carried : Setting → ℕ → ℕ
-carried s e = sum_below s.rounds (λ r. used s (before_round s r) r e)
+abbrev pub link_traffic : Setting → ℕ → ℕ
+link_traffic s e = sum_below s.rounds (λ r. used_capacity s (before_round s r) r e)
 
 -- an amount of each flow, over the flows of pair p
 abbrev pub over_pair : Setting → (ℕ → ℕ) → ℕ → ℕ

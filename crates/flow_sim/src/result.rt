@@ -1,6 +1,6 @@
 //! What became of the traffic of a step.
 ghost use Rattle.std.specs.Prelude.{◌≡◌, ◌^◌, ◌<◌, sum_by};
-ghost use Rattle.flow_sim.specs.Result.{plus, sums_of, FitsWords, IsSummed};
+ghost use Rattle.flow_sim.specs.Result.{sum_of_results, sums_of, FitsWords, IsSummed};
 
 use te_model::Items;
 
@@ -40,8 +40,8 @@ pub struct StepResult {
 
 // The sums of two results, field by field.
 fn plus(a: PairResult, b: &PairResult) -> PairResult
-    requires { FitsWords (plus a b.now) }
-    ensures { result ≡ plus a b.now }
+    requires { FitsWords (sum_of_results a b.now) }
+    ensures { result ≡ sum_of_results a b.now }
 {
     PairResult {
         offered: a.offered + b.offered,
@@ -70,8 +70,8 @@ fn sums_of(pairs: &Items<PairResult>) -> PairResult
     sums
 }
 
-// The sums over the pairs.
-pub fn summed(carried: Items<u64>, per_pair: Items<PairResult>) -> StepResult
+// The result of a step, with the sums over its pairs.
+pub fn step_result(carried: Items<u64>, per_pair: Items<PairResult>) -> StepResult
     requires offered { sum_by (λ p. p.offered) per_pair < 2 ^ 64 }
     requires delivered { sum_by (λ p. p.delivered) per_pair < 2 ^ 64 }
     requires lost_full { sum_by (λ p. p.lost_full) per_pair < 2 ^ 64 }

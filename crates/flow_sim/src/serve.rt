@@ -1,6 +1,6 @@
 //! Links serve the flows that stand in their queues.
 ghost use Rattle.std.specs.Prelude.{◌≡◌, ℕ, ◌+◌, ◌-◌, ◌^◌, ◌<◌, ◌≤◌, [], EachIndex, IfOk, OnOk, length, map, sum, slice_index, slice_index_or, if◌then◌else◌};
-ghost use Rattle.flow_sim.specs.Serving.{link_serves, served_by, flow_at, flow_served, HasShape, HasRoomFor, IsAbsent, IsServed, IsRound, AreApart};
+ghost use Rattle.flow_sim.specs.Serving.{link_serves, served_by, flow_at, flow_served, HasShape, HasRoomFor, IsAbsent, IsServed, IsServingRound, AreApart};
 
 use crate::fair::{fair_share, total_of};
 use crate::queue::Round;
@@ -135,7 +135,7 @@ pub fn serve_round(
     requires fits { (e : ℕ) → sum (map (slice_index state.old.units.items) (slice_index_or round.now e [])) < 2 ^ 64 }
     requires room { (f : ℕ) → f < length state.old.units.items → HasRoomFor state.old f }
     ensures shape { OnOk result (HasShape (length state.old.units.items) (length failed.now) state.new) }
-    ensures round { OnOk result (IsRound failed.now round.now state.old state.new) }
+    ensures round { OnOk result (IsServingRound failed.now round.now state.old state.new) }
 {
     for link in 0..failed.len() {
         serve_link(alloc, failed[link], link, round.queue(link), state)?;

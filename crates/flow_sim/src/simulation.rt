@@ -9,7 +9,7 @@ ghost use Rattle.flow_sim.specs.State.{IsState};
 ghost use Rattle.flow_sim.specs.Tables.{total_at};
 ghost use Rattle.flow_sim.specs.Result.{IsConserved, IsSummed, pair_result_of, pair_results, all_carried};
 
-use crate::result::{PairResult, StepResult, summed};
+use crate::result::{PairResult, StepResult, step_result};
 use crate::rounds::run;
 use crate::state::State;
 use crate::tables::{pairs, totals_of};
@@ -18,7 +18,7 @@ use std::alloc::Global;
 use te_model::{Items, Matrix, Memory, Network, PairRoutes};
 
 // What each link served, of its capacity and what it has left.
-fn carried(alloc: Global, net: &Network, left: &[u64]) -> Result<Vec<u64>, Memory>
+fn carried_units(alloc: Global, net: &Network, left: &[u64]) -> Result<Vec<u64>, Memory>
     requires lengths { length left.now ≡ link_count net.now }
     requires within { EachIndex left.now (λ e. slice_index left.now e ≤ capacity_of net.now e) }
     ensures { IfOk result (λ v. v.items ≡ map (λ e. capacity_of net.now e - slice_index left.now e) (range_with_len 0 (link_count net.now))) }
@@ -132,7 +132,7 @@ pub fn step(
 {
     let end = run(alloc, net, failed, &rates.routes, matrix)?;
     let per_pair = results(alloc, &rates.routes, matrix, &end)?;
-    let carried = carried(alloc, net, end.left.as_slice())?;
-    let result = summed(Items::new(carried), Items::new(per_pair));
+    let carried = carried_units(alloc, net, end.left.as_slice())?;
+    let result = step_result(Items::new(carried), Items::new(per_pair));
     Ok(result)
 }

@@ -16,11 +16,11 @@ use Rattle.te_model.specs.PathRouting.{IsPathSplit, IsPathRouting}
 use Rattle.routing.specs.Routes.{HasFewPaths}
 use Rattle.routing.specs.Split.{total_weight}
 use Rattle.local_recovery.specs.Rates.{has_rates, have_rates, pairs_of, HasPathsOf}
-use Rattle.local_recovery.specs.Recovery.{scaled, is_clear, LeadOn, IsBypassed, IsRecovered}
-use Rattle.routing.specs.Normal.{normalized}
+use Rattle.local_recovery.specs.Recovery.{scaled_routes, is_clear, JoinEnds, IsBypassed, IsRecovered}
+use Rattle.routing.specs.Normal.{with_whole_weight}
 use Rattle.local_recovery.specs.declared.mode.Mode.{Mode}
 use Rattle.local_recovery.specs.declared.mode.Mode.TheVariants.{Keep, Scale, Bypass}
-use Rattle.local_recovery.proofs.LedWalks.{IsPathOf, parts_paths, parts_small, stand_ins_lead}
+use Rattle.local_recovery.proofs.BypassWalks.{IsPathOf, parts_paths, parts_small, bypass_paths_lead}
 use Rattle.local_recovery.proofs.Merged.{merged_few, merged_paths}
 use Rattle.local_recovery.proofs.Rescaling.{normalized_rates, normalized_paths, filter_small, filter_all}
 use Rattle.routing.proofs.Normalizing.{length-normalized}
@@ -46,7 +46,7 @@ kept_left net r split few = record {
 
 -- normalized paths of the pair
 normalized_left : (net : Network) (r : PairRoutes) (paths : List PathShare) → All (IsPathOf net r.pair.src r.pair.dst) paths → length paths ≤ 4096 →
-    All (λ (s : PathShare). 1 ≤ s.weight) paths → IsLeft net r (record { pair = r.pair; paths = normalized paths })
+    All (λ (s : PathShare). 1 ≤ s.weight) paths → IsLeft net r (record { pair = r.pair; paths = with_whole_weight paths })
 normalized_left net r paths all few some = record {
   pair = refl;
   paths = normalized_paths net r.pair.src r.pair.dst paths all;
@@ -54,21 +54,21 @@ normalized_left net r paths all few some = record {
   rates = normalized_rates r.pair paths some;
 }
 
-scaled_left : (net : Network) (failed : List Bool) (r : PairRoutes) → IsPathSplit net r → length r.paths ≤ 4096 → IsLeft net r (scaled failed r)
+scaled_left : (net : Network) (failed : List Bool) (r : PairRoutes) → IsPathSplit net r → length r.paths ≤ 4096 → IsLeft net r (scaled_routes failed r)
 scaled_left net failed r split few =
     normalized_left net r (filter (is_clear failed) r.paths) (filter_all (IsPathOf net r.pair.src r.pair.dst) (is_clear failed) r.paths split.paths)
     (omega (arith, (filter_small (is_clear failed) r.paths).0, few))
     (filter_all (λ (s : PathShare). 1 ≤ s.weight) (is_clear failed) r.paths split.weights)
 
-bypassed_left : (net : Network) (stand_ins : List (Option (List ℕ))) (r after : PairRoutes) → LeadOn net stand_ins → IsPathSplit net r → length r.paths ≤ 4096 →
-    IsBypassed net stand_ins r after → IsLeft net r after
-bypassed_left net stand_ins r after lead split few is =
+bypassed_left : (net : Network) (bypass_paths : List (Option (List ℕ))) (r after : PairRoutes) → JoinEnds net bypass_paths → IsPathSplit net r → length r.paths ≤ 4096 →
+    IsBypassed net bypass_paths r after → IsLeft net r after
+bypassed_left net bypass_paths r after lead split few is =
     let parts = is.0 in
     let merged = is.1 in
-    let small = parts_small net stand_ins r.pair.src r.paths parts is.2 split.weights in
+    let small = parts_small net bypass_paths r.pair.src r.paths parts is.2 split.weights in
     subst (IsLeft net r) (sym is.4)
     (normalized_left net r merged
-    (merged_paths net r.pair.src r.pair.dst parts merged is.3 (parts_paths net stand_ins r.pair.src r.pair.dst r.paths parts lead split.paths is.2))
+    (merged_paths net r.pair.src r.pair.dst parts merged is.3 (parts_paths net bypass_paths r.pair.src r.pair.dst r.paths parts lead split.paths is.2))
     (omega (arith, merged_few parts merged is.3, small.0, few)) (is.3.positive small.2))
 
 -- what is left of each pair
@@ -86,14 +86,14 @@ recovered_left Keep net failed before after splits few is = record {
       (All-get_or (λ (r : PairRoutes). length r.paths ≤ 4096) before p no_routes below few));
 }
 recovered_left Scale net failed before after splits few is = record {
-  count = ap length is ∙ length-map before (scaled failed);
+  count = ap length is ∙ length-map before (scaled_routes failed);
   each = λ p below.
-      subst (IsLeft net (routes_at before p)) (sym (ap (λ rs. routes_at rs p) is ∙ get_or-map (scaled failed) before p no_routes no_routes below))
+      subst (IsLeft net (routes_at before p)) (sym (ap (λ rs. routes_at rs p) is ∙ get_or-map (scaled_routes failed) before p no_routes no_routes below))
       (scaled_left net failed (routes_at before p) (All-get_or (IsPathSplit net) before p no_routes below splits)
       (All-get_or (λ (r : PairRoutes). length r.paths ≤ 4096) before p no_routes below few));
 }
 recovered_left Bypass net failed before after splits few is =
-    let lead = stand_ins_lead net failed is.0 is.1 in
+    let lead = bypass_paths_lead net failed is.0 is.1 in
     record {
       count = is.2.count;
       each = λ p below.

@@ -1,6 +1,8 @@
-pub mod LedWalks
+pub mod BypassWalks
 pub mod Pigeons
 pub mod Merged
 pub mod Rescaling
 pub mod Left
 pub mod Spreading
+pub mod SpreadRates
+pub mod Existence

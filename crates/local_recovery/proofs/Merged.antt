@@ -9,7 +9,7 @@ use Rattle.te_model.specs.Validity.{list_below, paths_ascend}
 use Rattle.te_model.proofs.ListOrder.{list_below-trans, list_below-irrefl}
 use Rattle.routing.specs.Merge.{IsMerge, links_at, no_path}
 use Rattle.routing.proofs.Ascending.{ascending_at}
-use Rattle.local_recovery.proofs.LedWalks.{IsPathOf}
+use Rattle.local_recovery.proofs.BypassWalks.{IsPathOf}
 use Rattle.local_recovery.proofs.Pigeons.{at_most_places}
 
 ascending_between : (xs : List PathShare) (k l : ℕ) → paths_ascend xs ≡ true → k < l → l < length xs → list_below (links_at xs k) (links_at xs l) ≡ true

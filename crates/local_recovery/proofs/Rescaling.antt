@@ -14,26 +14,26 @@ use Rattle.te_model.specs.declared.units.TheConstants.{SHARE_UNIT}
 use Rattle.te_model.specs.Validity.{paths_ascend}
 use Rattle.routing.specs.Merge.{no_path}
 use Rattle.routing.specs.Split.{total_weight, is_split}
-use Rattle.routing.specs.Normal.{normalized}
+use Rattle.routing.specs.Normal.{with_whole_weight}
 use Rattle.routing.proofs.Normalizing.{total-normalized, length-normalized, links_at-normalized, some_weight}
 use Rattle.te_model.specs.Path.{is_path}
 use Rattle.local_recovery.specs.Rates.{has_rates}
-use Rattle.local_recovery.proofs.LedWalks.{IsPathOf}
+use Rattle.local_recovery.proofs.BypassWalks.{IsPathOf}
 
 pub normalized_rates : (pair : Pair) (paths : List PathShare) → All (λ (s : PathShare). 1 ≤ s.weight) paths →
-    has_rates (record { pair = pair; paths = normalized paths }) ≡ true
+    has_rates (record { pair = pair; paths = with_whole_weight paths }) ≡ true
 normalized_rates pair [] some = refl
 normalized_rates pair (s ∷ ss) some =
-    whole (length (normalized (s ∷ ss)) == 0) (total_weight (normalized (s ∷ ss))) (total-normalized (s ∷ ss) (some_weight (s ∷ ss) (omega arith) some))
+    whole (length (with_whole_weight (s ∷ ss)) == 0) (total_weight (with_whole_weight (s ∷ ss))) (total-normalized (s ∷ ss) (some_weight (s ∷ ss) (omega arith) some))
   where
     whole : (b : Bool) (x : ℕ) → x ≡ SHARE_UNIT → (b || x == SHARE_UNIT) ≡ true
     whole true x e = refl
     whole false x e = rw e refl
 
 -- the paths stay the same
-pub normalized_paths : (net : Network) (s t : ℕ) (paths : List PathShare) → All (IsPathOf net s t) paths → All (IsPathOf net s t) (normalized paths)
+pub normalized_paths : (net : Network) (s t : ℕ) (paths : List PathShare) → All (IsPathOf net s t) paths → All (IsPathOf net s t) (with_whole_weight paths)
 normalized_paths net s t paths all =
-    All-from_get_or (IsPathOf net s t) (normalized paths) no_path (λ i inside.
+    All-from_get_or (IsPathOf net s t) (with_whole_weight paths) no_path (λ i inside.
     let below : i < length paths = omega (arith, length-normalized paths) in
     subst (λ ls. is_path net s t ls ≡ true) (sym (links_at-normalized paths i below)) (All-get_or (IsPathOf net s t) paths i no_path below all))
 

@@ -1,3 +1,4 @@
 pub mod Rates
 pub mod Recovery
 pub mod Spread
+pub mod Laws

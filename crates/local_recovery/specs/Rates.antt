@@ -1,12 +1,12 @@
 -- Rates: the weighted paths of each pair that the traffic of a step takes. A pair may have none.
-use Rattle.std.specs.Prelude.{◌<◌, Bool, ◌||◌, All, IsTrue, List, length, map, ◌==◌}
+use Rattle.std.specs.Prelude.{Bool, ◌||◌, All, IsTrue, List, length, map, ◌==◌}
 use Rattle.std.specs.List.{list_all}
 use Rattle.te_model.specs.declared.network.Network.{Network}
 use Rattle.te_model.specs.declared.route.Pair.{Pair}
 use Rattle.te_model.specs.declared.route.PairRoutes.{PairRoutes}
 use Rattle.te_model.specs.declared.units.TheConstants.{SHARE_UNIT}
 use Rattle.te_model.specs.Network.{node_count}
-use Rattle.te_model.specs.Pairs.{AscendPairs}
+use Rattle.te_model.specs.Pairs.{IsNodePair, AscendPairs}
 use Rattle.te_model.specs.Path.{is_path}
 use Rattle.routing.specs.Split.{total_weight}
 use Rattle.routing.specs.Routes.{HasFewPaths}
@@ -23,7 +23,7 @@ pairs_of routes = map (λ r. r.pair) routes
 
 -- pairs of nodes of the network, which strictly ascend
 pub record ArePairs (net : Network) (pairs : List Pair) : Type 0 where
-  pub nodes : All (λ p. (p.src < node_count net) × (p.dst < node_count net)) pairs
+  pub nodes : All (IsNodePair (node_count net)) pairs
   pub ascending : AscendPairs pairs
 
 -- each path is one of the network between its pair

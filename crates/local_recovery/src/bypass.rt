@@ -4,24 +4,24 @@ ghost use Rattle.te_model.specs.Network.{is_well_formed, link_count};
 ghost use Rattle.te_model.specs.Path.{is_path};
 ghost use Rattle.shortest_path.specs.Least.{links_of};
 ghost use Rattle.routing.specs.Split.{total_weight};
-ghost use Rattle.local_recovery.specs.Recovery.{LeadOn, AreParts, walk_over};
+ghost use Rattle.local_recovery.specs.Recovery.{JoinEnds, AreParts, walk_over};
 
 use routing::cut_loops;
 use std::alloc::Global;
 use te_model::{Items, Memory, Network, PairRoutes, Path, PathShare};
 
-/// The walk over what stands in for the links, if something stands in for each.
+/// The walk over the bypass paths of the links, if each has one.
 fn walk_over(
     alloc: Global,
-    stand_ins: &[Option<Path>],
+    bypass_paths: &[Option<Path>],
     links: &[u32],
 ) -> Result<Option<Vec<u32>>, Memory>
-    requires { All (λ h. h < length stand_ins.now) links.now }
-    ensures { IfOk result (λ w. option_map (λ v. v.items) w ≡ walk_over (map links_of stand_ins.now) links.now) }
+    requires { All (λ h. h < length bypass_paths.now) links.now }
+    ensures { IfOk result (λ w. option_map (λ v. v.items) w ≡ walk_over (map links_of bypass_paths.now) links.now) }
 {
     let mut walk = Vec::new(alloc);
     for link in links {
-        match &stand_ins[*link as usize] {
+        match &bypass_paths[*link as usize] {
             Some(path) => walk.extend_from_slice(path.links.as_slice())?,
             None => return Ok(None),
         }
@@ -33,16 +33,16 @@ fn walk_over(
 pub fn parts(
     alloc: Global,
     net: &Network,
-    stand_ins: &[Option<Path>],
+    bypass_paths: &[Option<Path>],
     routes: &PairRoutes,
 ) -> Result<Vec<PathShare>, Memory>
     requires paths { All (λ s. IsTrue (is_path net.now routes.now.pair.src routes.now.pair.dst s.links)) routes.now.paths }
-    requires stand_ins { LeadOn net.now (map links_of stand_ins.now) }
-    ensures { IfOk result (λ v. AreParts net.now (map links_of stand_ins.now) routes.now.pair.src routes.now.paths v.items) }
+    requires bypass_paths { JoinEnds net.now (map links_of bypass_paths.now) }
+    ensures { IfOk result (λ v. AreParts net.now (map links_of bypass_paths.now) routes.now.pair.src routes.now.paths v.items) }
 {
     let mut list = Vec::new(alloc);
     for path in routes.paths.as_slice() {
-        if let Some(walk) = walk_over(alloc, stand_ins, path.links.as_slice())? {
+        if let Some(walk) = walk_over(alloc, bypass_paths, path.links.as_slice())? {
             let links = cut_loops(alloc, net, routes.pair.src, walk.as_slice())?;
             list.push(PathShare {
                 links: Items::new(links),

@@ -1,13 +1,13 @@
 //! Marks of links that have failed.
 ghost use Rattle.std.specs.Prelude.{◌≡◌, IfOk, slice_index_or, false, map, not};
-ghost use Rattle.local_recovery.specs.Recovery.{has_failed, open_links, is_clear};
+ghost use Rattle.local_recovery.specs.Recovery.{is_marked, open_links, is_clear};
 
 use std::alloc::Global;
 use te_model::{Memory, PathShare};
 
 /// Whether the link has failed.
 pub fn has_failed(failed: &[bool], link: u32) -> bool
-    ensures { result ≡ has_failed failed.now link }
+    ensures { result ≡ is_marked failed.now link }
 {
     let place = link as usize;
     if place < failed.len() {

@@ -7,20 +7,20 @@ ghost use Rattle.routing.specs.Routes.{HasFewPaths};
 ghost use Rattle.routing.specs.Split.{is_split, are_splits};
 ghost use Rattle.local_recovery.specs.declared.mode.Mode.TheVariants as modes;
 ghost use Rattle.local_recovery.specs.Rates.{pairs_of, HasPathsOf};
-ghost use Rattle.local_recovery.specs.Recovery.{scaled, is_clear, LeadOn, IsBypassed, IsRecovered};
+ghost use Rattle.local_recovery.specs.Recovery.{scaled_routes, is_clear, JoinEnds, IsBypassed, IsRecovered};
 
 use crate::bypass::parts;
+use crate::bypass_path::bypass_paths;
 use crate::marks::is_clear;
 use crate::mode::Mode;
 use crate::rates::Recovered;
-use crate::rescale::rescaled;
-use crate::stand_in::stand_ins;
+use crate::rescale::scale_to_unit;
 use routing::{Routing, merge};
 use std::alloc::Global;
 use te_model::{Items, Memory, Network, PairRoutes, Path, PathShare};
 
 /// The same path, in a list of its own.
-fn copied(alloc: Global, path: &PathShare) -> Result<PathShare, Memory>
+fn copy_path(alloc: Global, path: &PathShare) -> Result<PathShare, Memory>
     ensures { IfOk result (λ p. p ≡ path.now) }
 {
     let links = Vec::from_slice(alloc, path.links.as_slice())?;
@@ -41,20 +41,20 @@ fn clear_paths(
     let mut list = Vec::new(alloc);
     for path in paths {
         if is_clear(failed, path) {
-            list.push(copied(alloc, path)?)?;
+            list.push(copy_path(alloc, path)?)?;
         }
     }
     Ok(list)
 }
 
 /// The paths of the pair without a failed link, with weights scaled to one million.
-fn scaled(alloc: Global, failed: &[bool], routes: &PairRoutes) -> Result<PairRoutes, Memory>
+fn scale_pair(alloc: Global, failed: &[bool], routes: &PairRoutes) -> Result<PairRoutes, Memory>
     requires few { length routes.now.paths ≤ 4096 }
     requires split { IsTrue (is_split routes.now) }
-    ensures { IfOk result (λ r. r ≡ scaled failed.now routes.now) }
+    ensures { IfOk result (λ r. r ≡ scaled_routes failed.now routes.now) }
 {
     let paths = clear_paths(alloc, failed, routes.paths.as_slice())?;
-    let list = rescaled(alloc, paths)?;
+    let list = scale_to_unit(alloc, paths)?;
     Ok(PairRoutes {
         pair: routes.pair,
         paths: Items::new(list),
@@ -62,20 +62,20 @@ fn scaled(alloc: Global, failed: &[bool], routes: &PairRoutes) -> Result<PairRou
 }
 
 /// The paths of the pair round the failed links, merged, with weights scaled to one million.
-fn bypassed(
+fn bypass_pair(
     alloc: Global,
     net: &Network,
-    stand_ins: &[Option<Path>],
+    bypass_paths: &[Option<Path>],
     routes: &PairRoutes,
 ) -> Result<PairRoutes, Memory>
     requires few { length routes.now.paths ≤ 4096 }
     requires split { IsPathSplit net.now routes.now }
-    requires stand_ins { LeadOn net.now (map links_of stand_ins.now) }
-    ensures { IfOk result (λ r. IsBypassed net.now (map links_of stand_ins.now) routes.now r) }
+    requires bypass_paths { JoinEnds net.now (map links_of bypass_paths.now) }
+    ensures { IfOk result (λ r. IsBypassed net.now (map links_of bypass_paths.now) routes.now r) }
 {
-    let parts = parts(alloc, net, stand_ins, routes)?;
+    let parts = parts(alloc, net, bypass_paths, routes)?;
     let merged = merge(alloc, parts)?;
-    let list = rescaled(alloc, merged)?;
+    let list = scale_to_unit(alloc, merged)?;
     Ok(PairRoutes {
         pair: routes.pair,
         paths: Items::new(list),
@@ -85,11 +85,11 @@ fn bypassed(
 fn scale(alloc: Global, failed: &[bool], routes: &[PairRoutes]) -> Result<Items<PairRoutes>, Memory>
     requires few { HasFewPaths 4096 routes.now }
     requires splits { IsTrue (are_splits routes.now) }
-    ensures { IfOk result (λ v. v ≡ map (scaled failed.now) routes.now) }
+    ensures { IfOk result (λ v. v ≡ map (scaled_routes failed.now) routes.now) }
 {
     let mut list = Vec::new(alloc);
     for pair in routes {
-        list.push(scaled(alloc, failed, pair)?)?;
+        list.push(scale_pair(alloc, failed, pair)?)?;
     }
     Ok(Items::new(list))
 }
@@ -106,10 +106,10 @@ fn bypass(
     requires routing { IsPathRouting net.now routes.now }
     ensures { IfOk result (λ v. IsRecovered modes.Bypass net.now failed.now routes.now v) }
 {
-    let stand_ins = stand_ins(alloc, net, failed)?;
+    let bypass_paths = bypass_paths(alloc, net, failed)?;
     let mut list = Vec::new(alloc);
     for pair in routes {
-        list.push(bypassed(alloc, net, stand_ins.as_slice(), pair)?)?;
+        list.push(bypass_pair(alloc, net, bypass_paths.as_slice(), pair)?)?;
     }
     Ok(Items::new(list))
 }

@@ -7,15 +7,15 @@ use Rattle.te_model.specs.declared.network.Network.{Network}
 use Rattle.te_model.specs.Network.{link_count}
 use Rattle.failure.specs.declared.outage.Failures.{Failures}
 use Rattle.failure.specs.Failed.{has_failed}
-use Rattle.failure.specs.Series.{marks_of, series_of}
+use Rattle.failure.specs.Series.{marks_of, marks_of_steps}
 
-pub series_count : (net : Network) (failures : Failures) (steps : ℕ) (series : List (List Bool)) → series ≡ series_of net failures steps →
+pub series_count : (net : Network) (failures : Failures) (steps : ℕ) (series : List (List Bool)) → series ≡ marks_of_steps net failures steps →
     length series ≡ steps
 series_count net failures steps series all = ap length all ∙ length-map-range_with_len (marks_of net failures) 0 steps
 
 -- of each of so many steps
 pub marks_at : (net : Network) (failures : Failures) (steps k : ℕ) (series : List (List Bool)) (marks : List Bool) →
-    series ≡ series_of net failures steps → k < steps → marks ≡ get_or series k marks → marks ≡ marks_of net failures k
+    series ≡ marks_of_steps net failures steps → k < steps → marks ≡ get_or series k marks → marks ≡ marks_of net failures k
 marks_at net failures steps k series marks all below read =
     let size = series_count net failures steps series all in
     let place : get_or (range_with_len 0 steps) k 0 ≡ k = omega (arith, get_or-range_with_len 0 steps k 0 below) in

@@ -1,43 +1,31 @@
 -- What the pairs of a series promise, and those of them that pass a test.
-use Rattle.std.proofs.Common.{◌≡◌, ℕ, suc, ◌<◌, Bool, true, not, List, length, filter, get_or, arith, refl}
+use Rattle.std.proofs.Common.{◌≡◌, Bool, true, not, List, filter, get_or, arith, refl}
 use Rattle.std.proofs.lemmas.List.Elements.{All-filter, All-get_or, All-weaker, filter_passes}
 use Rattle.std.proofs.lemmas.List.Filters.{length-filter_both}
 use Rattle.te_model.specs.declared.network.Network.{Network}
 use Rattle.te_model.specs.declared.route.Pair.{Pair}
 use Rattle.te_model.specs.Network.{is_well_formed, node_count}
-use Rattle.te_model.specs.Pairs.{no_pair, AscendPairs}
-use Rattle.routing.specs.Routes.{AreDemands}
+use Rattle.te_model.specs.Pairs.{no_pair}
+use Rattle.te_model.proofs.FewPairs.{network_pairs_few}
 use Rattle.failure.specs.Survivor.{survivor_of}
 use Rattle.scheme.specs.Reach.{AllReached, ArePairsOf, IsPairOf}
 use Rattle.local_recovery.specs.Rates.{ArePairs}
 use Rattle.traffic_matrix.specs.declared.series.Series.{Series}
 use Rattle.traffic_matrix.specs.Limits.{IsSeries}
-use Rattle.traffic_matrix.specs.Text.{no_matrix}
 use Rattle.series_simulation.specs.Connected.{TellsPaths}
-use Rattle.series_simulation.proofs.FewPairs.{network_pairs_few}
-
-pub ascending_pairs : (n : ℕ) (series : Series) → IsSeries n series → AscendPairs series.pairs.list
-ascending_pairs n series is k below = is.ascending k (suc k) no_pair (omega arith) below
 
 -- pairs as schemes want them
 pub series_pairs : (net : Network) (series : Series) → is_well_formed net ≡ true → IsSeries (node_count net) series → ArePairsOf net series.pairs.list
 series_pairs net series formed is =
-    let few = network_pairs_few net series.pairs.list formed is.pairs (ascending_pairs (node_count net) series is) in
+    let few = network_pairs_few net series.pairs.list formed is.pairs is.ascending in
     record { each = is.pairs; few = omega (arith, few) }
 
 -- pairs as a step wants them
 pub series_rates : (net : Network) (series : Series) → IsSeries (node_count net) series → ArePairs net series.pairs.list
 series_rates net series is = record {
-  nodes = λ k d below. let pair = is.pairs k d below in (pair.src_inside, pair.dst_inside);
-  ascending = ascending_pairs (node_count net) series is;
+  nodes = λ k d below. let pair = is.pairs k d below in record { src = pair.src_inside; dst = pair.dst_inside };
+  ascending = is.ascending;
 }
-
--- the demands of a step
-pub series_demands : (n : ℕ) (series : Series) (k : ℕ) → IsSeries n series → k < length series.steps →
-    AreDemands (length series.pairs.list) (get_or series.steps k no_matrix).demand
-series_demands n series k is below =
-    let matrix = is.matrices k no_matrix below in
-    record { count = matrix.count; small = matrix.demands }
 
 -- those of the pairs that pass a test
 pub passing_pairs : (net : Network) (test : Pair → Bool) (pairs : List Pair) → ArePairsOf net pairs → ArePairsOf net (filter test pairs)

@@ -2,3 +2,4 @@ pub mod Connected
 pub mod OriginalLinks
 pub mod Simulation
 pub mod Rows
+pub mod Laws

@@ -2,10 +2,12 @@
 //!
 //! - `drive`: one row for each step.
 //! - `prepare_connected`, `row_of`: what serves all steps, and the row of one of them.
+//! - `step_rows_exist`: every series has rows, where the scheme has plans and routings.
 //! - `StepRow`: what became of the traffic of a step, and how far the links were used.
 #![tactic(auto)]
 
 mod connected_pairs;
+mod law;
 mod original_links;
 mod peak;
 mod preparation;
@@ -17,6 +19,7 @@ mod step_routing;
 mod step_row;
 mod step_simulation;
 
+pub use law::step_rows_exist;
 pub use preparation::prepare_connected;
 pub use series_rows::{drive, row_of};
 pub use step_row::StepRow;

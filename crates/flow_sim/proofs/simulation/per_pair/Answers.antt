@@ -1,6 +1,6 @@
 use Rattle.std.proofs.Common.{slice_index, ap}
 use Rattle.flow_sim.specs.Result.{pair_result_of}
-use Rattle.flow_sim.proofs.TableLaws.{made_more}
+use Rattle.te_model.proofs.Choices.{made_more}
 use Rattle.flow_sim.proofs.ResultLaws.{lost_read, pair_read}
 use Rattle.flow_sim.proofs.simulation.per_pair.Goals as goal
 

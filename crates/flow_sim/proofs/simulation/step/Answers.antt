@@ -43,8 +43,8 @@ results-requires-clause-fits c =
     (starts_fit rates demand (few_pairs net rates c.requires.network c.requires.rates) c.requires.demands c.requires.small
     (can_split net rates c.requires.rates c.args.rates.now.rates))
 
-pub carried-requires-clause-within : goal.carried-requires-clause-within
-carried-requires-clause-within c = λ e inside.
+pub carried_units-requires-clause-within : goal.carried_units-requires-clause-within
+carried_units-requires-clause-within c = λ e inside.
     let lent = c.as_slice.ensures.value in
     let within = left_within c.args.net.now c.args.failed.now c.args.rates.now.routes c.args.matrix.now.demand (longest (flow_paths c.args.rates.now.routes))
     c.in_ok-end.end c.in_ok-end.ensures e (omega (arith, ap length lent)) in
@@ -75,8 +75,8 @@ parts_fit : (net : Network) (failed : List Bool) (rates : List PairRoutes) (dema
 parts_fit net failed rates demand list are same few small split =
     sums_fit list (conserved net failed rates demand list are split) (fits net failed rates demand list are same few small)
 
-pub summed-result-requires-clause-offered : goal.summed-result-requires-clause-offered
-summed-result-requires-clause-offered c =
+pub step_result-result-requires-clause-offered : goal.step_result-result-requires-clause-offered
+step_result-result-requires-clause-offered c =
     let net = c.args.net.now in
     let failed = c.args.failed.now in
     let rates = c.args.rates.now.routes in
@@ -85,8 +85,8 @@ summed-result-requires-clause-offered c =
     (named net failed rates demand c.in_ok-end.end c.new-2.result c.in_ok-per_pair.per_pair.items c.in_ok-end.ensures c.new-2.ensures c.in_ok-per_pair.ensures)
     c.requires.demands (few_pairs net rates c.requires.network c.requires.rates) c.requires.small
 
-pub summed-result-requires-clause-delivered : goal.summed-result-requires-clause-delivered
-summed-result-requires-clause-delivered c =
+pub step_result-result-requires-clause-delivered : goal.step_result-result-requires-clause-delivered
+step_result-result-requires-clause-delivered c =
     let net = c.args.net.now in
     let failed = c.args.failed.now in
     let rates = c.args.rates.now.routes in
@@ -95,8 +95,8 @@ summed-result-requires-clause-delivered c =
     (named net failed rates demand c.in_ok-end.end c.new-2.result c.in_ok-per_pair.per_pair.items c.in_ok-end.ensures c.new-2.ensures c.in_ok-per_pair.ensures)
     c.requires.demands (few_pairs net rates c.requires.network c.requires.rates) c.requires.small (can_split net rates c.requires.rates c.args.rates.now.rates)).0
 
-pub summed-result-requires-clause-lost_full : goal.summed-result-requires-clause-lost_full
-summed-result-requires-clause-lost_full c =
+pub step_result-result-requires-clause-lost_full : goal.step_result-result-requires-clause-lost_full
+step_result-result-requires-clause-lost_full c =
     let net = c.args.net.now in
     let failed = c.args.failed.now in
     let rates = c.args.rates.now.routes in
@@ -105,8 +105,8 @@ summed-result-requires-clause-lost_full c =
     (named net failed rates demand c.in_ok-end.end c.new-2.result c.in_ok-per_pair.per_pair.items c.in_ok-end.ensures c.new-2.ensures c.in_ok-per_pair.ensures)
     c.requires.demands (few_pairs net rates c.requires.network c.requires.rates) c.requires.small (can_split net rates c.requires.rates c.args.rates.now.rates)).1
 
-pub summed-result-requires-clause-lost_failed : goal.summed-result-requires-clause-lost_failed
-summed-result-requires-clause-lost_failed c =
+pub step_result-result-requires-clause-lost_failed : goal.step_result-result-requires-clause-lost_failed
+step_result-result-requires-clause-lost_failed c =
     let net = c.args.net.now in
     let failed = c.args.failed.now in
     let rates = c.args.rates.now.routes in
@@ -115,8 +115,8 @@ summed-result-requires-clause-lost_failed c =
     (named net failed rates demand c.in_ok-end.end c.new-2.result c.in_ok-per_pair.per_pair.items c.in_ok-end.ensures c.new-2.ensures c.in_ok-per_pair.ensures)
     c.requires.demands (few_pairs net rates c.requires.network c.requires.rates) c.requires.small (can_split net rates c.requires.rates c.args.rates.now.rates)).2
 
-pub summed-result-requires-clause-lost_no_path : goal.summed-result-requires-clause-lost_no_path
-summed-result-requires-clause-lost_no_path c =
+pub step_result-result-requires-clause-lost_no_path : goal.step_result-result-requires-clause-lost_no_path
+step_result-result-requires-clause-lost_no_path c =
     let net = c.args.net.now in
     let failed = c.args.failed.now in
     let rates = c.args.rates.now.routes in
@@ -127,13 +127,13 @@ summed-result-requires-clause-lost_no_path c =
 
 pub returns-clause-pairs : goal.returns-clause-pairs
 returns-clause-pairs c =
-    c.summed-result.ensures.per_pair
+    c.step_result-result.ensures.per_pair
     ∙ named c.args.net.now c.args.failed.now c.args.rates.now.routes c.args.matrix.now.demand c.in_ok-end.end c.new-2.result c.in_ok-per_pair.per_pair.items
     c.in_ok-end.ensures c.new-2.ensures c.in_ok-per_pair.ensures
 
 pub returns-clause-carried : goal.returns-clause-carried
 returns-clause-carried c =
-    c.summed-result.ensures.carried
+    c.step_result-result.ensures.carried
     ∙ (c.new.ensures
     ∙ (c.in_ok-carried.ensures
     ∙ (ap (λ xs. map (λ e. capacity_of c.args.net.now e - slice_index xs e) (range_with_len 0 (link_count c.args.net.now))) c.as_slice.ensures.value
@@ -145,7 +145,7 @@ returns-clause-offered c =
     let failed = c.args.failed.now in
     let rates = c.args.rates.now.routes in
     let demand = c.args.matrix.now.demand in
-    ap (map (λ (p : PairResult). p.offered)) (c.summed-result.ensures.per_pair
+    ap (map (λ (p : PairResult). p.offered)) (c.step_result-result.ensures.per_pair
     ∙ named net failed rates demand c.in_ok-end.end c.new-2.result c.in_ok-per_pair.per_pair.items
     c.in_ok-end.ensures c.new-2.ensures c.in_ok-per_pair.ensures) ∙ offered_are net failed rates demand c.requires.demands
 
@@ -155,8 +155,8 @@ returns-clause-pairs_conserved c =
     let failed = c.args.failed.now in
     let rates = c.args.rates.now.routes in
     let demand = c.args.matrix.now.demand in
-    conserved net failed rates demand c.summed-result.result.per_pair
-    (c.summed-result.ensures.per_pair ∙ named net failed rates demand c.in_ok-end.end c.new-2.result c.in_ok-per_pair.per_pair.items
+    conserved net failed rates demand c.step_result-result.result.per_pair
+    (c.step_result-result.ensures.per_pair ∙ named net failed rates demand c.in_ok-end.end c.new-2.result c.in_ok-per_pair.per_pair.items
     c.in_ok-end.ensures c.new-2.ensures c.in_ok-per_pair.ensures) (can_split net rates c.requires.rates c.args.rates.now.rates)
 
 pub returns-clause-conserved : goal.returns-clause-conserved
@@ -165,7 +165,7 @@ returns-clause-conserved c =
     let failed = c.args.failed.now in
     let rates = c.args.rates.now.routes in
     let demand = c.args.matrix.now.demand in
-    total_conserved c.new.result c.new-2.result c.summed-result.result c.summed-result.ensures
+    total_conserved c.new.result c.new-2.result c.step_result-result.result c.step_result-result.ensures
     (conserved net failed rates demand c.new-2.result
     (named net failed rates demand c.in_ok-end.end c.new-2.result c.in_ok-per_pair.per_pair.items c.in_ok-end.ensures c.new-2.ensures c.in_ok-per_pair.ensures)
     (can_split net rates c.requires.rates c.args.rates.now.rates))

@@ -1,5 +1,5 @@
 use Rattle.std.proofs.Common.{◌<◌, slice_index, length, arith}
-use Rattle.flow_sim.specs.Tables.{amount_at}
+use Rattle.flow_sim.specs.Tables.{amount_of_key}
 use Rattle.flow_sim.proofs.TableLaws.{sum_below-next, next_fits, amount_at-own}
 use Rattle.flow_sim.proofs.tables.add_up.Goals as goal
 
@@ -12,7 +12,7 @@ add_at-requires c = λ inside.
       arith,
       c.loop-f.invariant key inside,
       c.requires.fits key,
-      next_fits (length keys) c.loop-f.f (amount_at keys amounts key) (omega arith),
+      next_fits (length keys) c.loop-f.f (amount_of_key keys amounts key) (omega arith),
       amount_at-own keys amounts c.loop-f.f,
     )
 
@@ -25,5 +25,5 @@ loop-f-preserved c = λ e inside.
       arith,
       c.add_at.ensures e within,
       c.loop-f.invariant e within,
-      sum_below-next c.loop-f.f (amount_at keys amounts e),
+      sum_below-next c.loop-f.f (amount_of_key keys amounts e),
     )

@@ -1,5 +1,5 @@
 use Rattle.std.proofs.Common.{refl}
-use Rattle.flow_sim.proofs.TableLaws.{made_more}
+use Rattle.te_model.proofs.Choices.{made_more}
 use Rattle.flow_sim.proofs.tables.zeros.Goals as goal
 
 pub loop-i-preserved : goal.loop-i-preserved

@@ -4,4 +4,4 @@ use Rattle.local_recovery.specs.Recovery.{walk_over}
 use Rattle.local_recovery.proofs.bypass.walk_over.Given as goal
 
 abbrev pub invariant-loop-link : goal.invariant-loop-link
-invariant-loop-link l = walk_over (map links_of l.stand_ins) (take l.link-index l.links) ≡ Some l.walk.items
+invariant-loop-link l = walk_over (map links_of l.bypass_paths) (take l.link-index l.links) ≡ Some l.walk.items

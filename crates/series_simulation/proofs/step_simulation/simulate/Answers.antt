@@ -3,8 +3,8 @@ use Rattle.std.proofs.lemmas.List.{length-map}
 use Rattle.te_model.specs.declared.route.Pair.{Pair}
 use Rattle.te_model.specs.declared.route.PairRoutes.{PairRoutes}
 use Rattle.local_recovery.specs.Spread.{IsSublist}
+use Rattle.local_recovery.proofs.SpreadRates.{spread_rates}
 use Rattle.series_simulation.proofs.Carried.{carried_count, carried_within}
-use Rattle.series_simulation.proofs.Spreading.{spread_rates}
 use Rattle.series_simulation.proofs.step_simulation.simulate.Goals as goal
 
 pub spread-requires : goal.spread-requires

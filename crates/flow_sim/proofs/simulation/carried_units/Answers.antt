@@ -1,8 +1,8 @@
 use Rattle.std.proofs.Common.{◌-◌, slice_index, ap}
 use Rattle.std.specs.Prelude.{slice_index_or}
 use Rattle.te_model.specs.Network.{capacity_of, no_link}
-use Rattle.flow_sim.proofs.TableLaws.{made_more}
-use Rattle.flow_sim.proofs.simulation.carried.Goals as goal
+use Rattle.te_model.proofs.Choices.{made_more}
+use Rattle.flow_sim.proofs.simulation.carried_units.Goals as goal
 
 pub loop-e-preserved : goal.loop-e-preserved
 loop-e-preserved c =

@@ -2,7 +2,7 @@ use Rattle.std.proofs.Common.{◌<◌, sym, subst}
 use Rattle.std.specs.Prelude.{slice_index_or}
 use Rattle.te_model.specs.Network.{node_count, no_link}
 use Rattle.shortest_path.proofs.Sound.{sound}
-use Rattle.local_recovery.proofs.stand_in.stand_in.Goals as goal
+use Rattle.local_recovery.proofs.bypass_path.bypass_path.Goals as goal
 
 pub least_walk-requires-clause-sound : goal.least_walk-requires-clause-sound
 least_walk-requires-clause-sound c = sound c.args.net.now c.requires.network

@@ -1,6 +1,6 @@
 use Rattle.std.proofs.Common.{refl, ap}
 use Rattle.flow_sim.specs.declared.result.PairResult.{PairResult}
-use Rattle.flow_sim.proofs.result.summed.Goals as goal
+use Rattle.flow_sim.proofs.result.step_result.Goals as goal
 
 pub sums_of-sums-requires : goal.sums_of-sums-requires
 sums_of-sums-requires c = record {

@@ -1,0 +1,194 @@
+-- Each step of a series has a row, where the scheme's plans and routings exist.
+use Rattle.std.proofs.Common.{◌≡◌, ◌⊎◌, ◌↔◌, ℕ, ◌≤◌, Bool, true, false, Option, List, [], ◌∷◌, length, filter, arith, refl, sym, subst, ◌∙◌, inl, inr}
+use Rattle.std.specs.Prelude.{MatchBool, sum_by}
+use Rattle.std.proofs.lemmas.Bool.{false≢true}
+use Rattle.std.proofs.lemmas.List.Elements.{All-weaker}
+use Rattle.te_model.specs.declared.network.Network.{Network}
+use Rattle.te_model.specs.declared.route.Pair.{Pair}
+use Rattle.te_model.specs.declared.route.PairRoutes.{PairRoutes}
+use Rattle.te_model.specs.Network.{is_well_formed, link_count}
+use Rattle.te_model.specs.PathRouting.{IsPathRouting}
+use Rattle.shortest_path.specs.Paths.{HasPath}
+use Rattle.te_model.proofs.Choices.{list_exists}
+use Rattle.routing.specs.Routes.{AreDemands, HasFewPaths}
+use Rattle.routing.specs.Utilisation.{parts}
+use Rattle.scheme.specs.Reach.{AllReached, ArePairsOf, IsFirstWithout, IsReached}
+use Rattle.scheme.proofs.Reaching.{reached_or_first}
+use Rattle.failure.specs.Series.{marks_of}
+use Rattle.failure.specs.Survivor.{survivor_of}
+use Rattle.failure.proofs.NetworkLemmas.{well-formed}
+use Rattle.plan.specs.declared.recovery.Recovery.{Recovery}
+use Rattle.local_recovery.specs.declared.mode.Mode.{Mode}
+use Rattle.local_recovery.specs.Rates.{pairs_of}
+use Rattle.local_recovery.specs.Spread.{IsSublist}
+use Rattle.local_recovery.proofs.Existence.{recoveries_exist, spreads_exist}
+use Rattle.flow_sim.specs.declared.result.StepResult.{StepResult}
+use Rattle.flow_sim.specs.Result.{all_carried, pair_results}
+use Rattle.series_simulation.specs.declared.step_row.StepRow.{StepRow}
+use Rattle.series_simulation.specs.Connected.{TellsPaths, demands_of}
+use Rattle.series_simulation.specs.Laws.{HasPlans, HasRoutings, StepRowsExist}
+use Rattle.traffic_matrix.specs.Text.{no_matrix}
+use Rattle.series_simulation.specs.OriginalLinks.{original_routes}
+use Rattle.series_simulation.specs.Rows.{IsReroutedOn, IsRouted, IsStepRow, demands_in, is_rerouted, mode_of, no_row}
+use Rattle.series_simulation.specs.Simulation.{IsSimulated, peak_of}
+use Rattle.series_simulation.proofs.Demands.{demands_are}
+use Rattle.series_simulation.proofs.Mapping.{few-back, pairs-back, routing-back}
+use Rattle.series_simulation.proofs.Marking.{marks_count}
+use Rattle.series_simulation.proofs.SeriesLemmas.{passing_pairs, passing_reached, series_pairs, surviving_pairs}
+use Rattle.series_simulation.proofs.Surviving.{survivor_part}
+
+is_first : (net : Network) (pairs : List Pair) → AllReached net pairs ⊎ ((p : ℕ) × IsFirstWithout net pairs p) → Bool
+is_first net pairs (inl all) = true
+is_first net pairs (inr first) = false
+
+-- whether the pair has a path in the network
+has_path_in : Network → Pair → Bool
+has_path_in net pair = is_first net (pair ∷ []) (reached_or_first net (pair ∷ []))
+
+tells : (net : Network) → TellsPaths net (has_path_in net)
+unfolding has_path_in is_first
+tells net pair of = go (reached_or_first net (pair ∷ []))
+  where
+    go : (o : AllReached net (pair ∷ []) ⊎ ((p : ℕ) × IsFirstWithout net (pair ∷ []) p)) →
+        (is_first net (pair ∷ []) o ≡ true) ↔ (HasPath net pair.src pair.dst)
+    go (inl all) = (λ passes. all 0 (omega arith), λ path. refl)
+    go (inr first) =
+        let here : 0 ≡ first.0 = omega (arith, first.1.inside) in
+        (λ passes. absurd (false≢true passes), λ path. absurd (first.1.without (subst (IsReached net (pair ∷ [])) here path)))
+
+simulated_exists : (mode : Mode) (net : Network) (failed : List Bool) (pairs : List Pair) (demand : List ℕ) (routes : List PairRoutes) →
+    is_well_formed net ≡ true → IsPathRouting net routes → HasFewPaths 4096 routes → IsSublist (pairs_of routes) pairs →
+    (result : StepResult) × IsSimulated mode net failed pairs demand routes result
+simulated_exists mode net failed pairs demand routes formed splits few some =
+    let (left, recovered, same, paths, small, whole) = recoveries_exist mode net formed failed routes splits few in
+    let (rates, spread, are_rates) = spreads_exist pairs left (subst (λ (ps : List Pair). IsSublist ps pairs) (sym same) some) in
+    let per_pair = pair_results net failed rates demand in
+    let carried = all_carried net failed rates demand in
+    let result : StepResult = record {
+      offered = sum_by (λ p. p.offered) per_pair;
+      delivered = sum_by (λ p. p.delivered) per_pair;
+      lost_full = sum_by (λ p. p.lost_full) per_pair;
+      lost_failed = sum_by (λ p. p.lost_failed) per_pair;
+      lost_no_path = sum_by (λ p. p.lost_no_path) per_pair;
+      carried = carried;
+      per_pair = per_pair;
+    } in (
+      result,
+      record {
+        left = left;
+        recovered = recovered;
+        rates = rates;
+        spread = spread;
+        per_pair = refl;
+        carried = refl;
+        totals = record {
+          carried = refl;
+          per_pair = refl;
+          offered = refl;
+          delivered = refl;
+          lost_full = refl;
+          lost_failed = refl;
+          lost_no_path = refl;
+        };
+      },
+    )
+
+module _ {Plan Note : Type 0} (limit : ℕ) (is_plan : Network → List Pair → Plan → Type 0)
+    (relates : Network → List Pair → Plan → List ℕ → List PairRoutes → Note → Type 0) (low : Note → Option ℕ) where
+  routed_exists : HasRoutings limit is_plan relates → (net : Network) (pairs : List Pair) (demand : List ℕ) (has_path : Pair → Bool) (plan : Plan) →
+      is_well_formed net ≡ true → ArePairsOf net pairs → AreDemands (length pairs) demand → TellsPaths net has_path →
+      is_plan net (filter has_path pairs) plan →
+      (routes : List PairRoutes) × (most : ℕ) × (bound : Option ℕ) × IsRouted limit is_plan relates low net pairs demand plan routes most bound
+  routed_exists routings net pairs demand has_path plan formed are demands tell planned =
+      let (routes, note, routing, few, related) = routings net formed (filter has_path pairs) plan planned (passing_pairs net has_path pairs are)
+      (demands_of has_path pairs demand) (demands_are has_path pairs demand demands) in (
+        routes,
+        parts net routes (demands_of has_path pairs demand),
+        low note,
+        record {
+          has_path = has_path;
+          tells = tell;
+          planned = planned;
+          routing = routing;
+          few = few;
+          note = note;
+          related = related;
+          most_is = refl;
+          bound_is = refl;
+        },
+      )
+
+  -- a routing of a step, and what its simulation wants of it
+  record StepRouting (net : Network) (failed : List Bool) (pairs : List Pair) (demand : List ℕ) (plan : Plan) (rerouted : Bool) : Type 0 where
+    routes : List PairRoutes
+    most : ℕ
+    bound : Option ℕ
+    routed : MatchBool rerouted (IsReroutedOn limit is_plan relates low net failed pairs demand routes most bound)
+        (IsRouted limit is_plan relates low net pairs demand plan routes most bound)
+    splits : IsPathRouting net routes
+    some : IsSublist (pairs_of routes) pairs
+    few : HasFewPaths limit routes
+
+  step_routing_exists : HasPlans is_plan → HasRoutings limit is_plan relates → (net : Network) (failed : List Bool) (pairs : List Pair) (demand : List ℕ)
+      (plan : Plan) → is_well_formed net ≡ true → length failed ≡ link_count net → ArePairsOf net pairs → AreDemands (length pairs) demand →
+      is_plan net (filter (has_path_in net) pairs) plan → (rerouted : Bool) → StepRouting net failed pairs demand plan rerouted
+  step_routing_exists plans routings net failed pairs demand plan formed marks are demands planned true =
+      let left = survivor_of net failed in
+      let formed_left = well-formed net failed marks formed in
+      let are_left = surviving_pairs net failed pairs are in
+      let test = has_path_in left.network in
+      let (plan_left, planned_left) = plans left.network formed_left (filter test pairs) (passing_pairs left.network test pairs are_left)
+      (passing_reached left.network test pairs are_left (tells left.network)) in
+      let (own, most, bound, routed) = routed_exists routings left.network pairs demand test plan_left formed_left are_left demands (tells left.network) planned_left in
+      record {
+        routes = original_routes left.origin own;
+        most = most;
+        bound = bound;
+        routed = record { plan = plan_left; own = own; routed = routed; mapped = refl };
+        splits = routing-back left.network net left.origin own (survivor_part net failed marks) routed.routing.splits;
+        some = (routed.has_path, pairs-back left.origin own ∙ routed.routing.in_order);
+        few = few-back left.origin limit own routed.few;
+      }
+  step_routing_exists plans routings net failed pairs demand plan formed marks are demands planned false =
+      let (routes, most, bound, routed) = routed_exists routings net pairs demand (has_path_in net) plan formed are demands (tells net) planned in
+      record {
+        routes = routes;
+        most = most;
+        bound = bound;
+        routed = routed;
+        splits = routed.routing.splits;
+        some = (routed.has_path, routed.routing.in_order);
+        few = routed.few;
+      }
+
+  step_row_exists : HasPlans is_plan → HasRoutings limit is_plan relates → limit ≤ 4096 → (net : Network) (failed : List Bool) (pairs : List Pair)
+      (demand : List ℕ) (recovery : Recovery) (plan : Plan) → is_well_formed net ≡ true → length failed ≡ link_count net → ArePairsOf net pairs →
+      AreDemands (length pairs) demand → is_plan net (filter (has_path_in net) pairs) plan → (step : ℕ) →
+      (row : StepRow) × ((row.step ≡ step) × IsStepRow limit is_plan relates low net failed pairs demand recovery plan row)
+  step_row_exists plans routings small net failed pairs demand recovery plan formed marks are demands planned step =
+      let routed = step_routing_exists plans routings net failed pairs demand plan formed marks are demands planned (is_rerouted recovery failed) in
+      let few = All-weaker (λ (r : PairRoutes). length r.paths ≤ limit) (λ (r : PairRoutes). length r.paths ≤ 4096) (λ r is. omega (arith, is, small)) routed.routes routed.few in
+      let (result, simulated) = simulated_exists (mode_of recovery) net failed pairs demand routed.routes formed routed.splits few routed.some in (
+        record { step = step; result = result; peak = peak_of net result.carried; parts = routed.most; low = routed.bound },
+        (refl, record { routes = routed.routes; routed = routed.routed; simulated = simulated; peak_is = refl }),
+      )
+
+  pub step_rows_exist : StepRowsExist limit is_plan relates low
+  step_rows_exist plans routings small net formed series is failures recovery =
+      let are = series_pairs net series formed is in
+      let pairs = series.pairs.list in
+      let test = has_path_in net in
+      let (plan, planned) = plans net formed (filter test pairs) (passing_pairs net test pairs are) (passing_reached net test pairs are (tells net)) in
+      let (rows, count, each) = list_exists
+      (λ k (row : StepRow). (row.step ≡ k) × IsStepRow limit is_plan relates low net (marks_of net failures k) pairs (demands_in series k) recovery plan row)
+      no_row (length series.steps) (λ k below.
+      step_row_exists plans routings small net (marks_of net failures k) pairs (demands_in series k) recovery plan formed (marks_count net failures k) are
+      (is.matrices k no_matrix below) planned k) in (
+        rows,
+        record {
+          plan = plan;
+          count = count;
+          steps = λ k below. (each k (omega (arith, below, count))).0;
+          each = λ k below. (each k (omega (arith, below, count))).1;
+        },
+      )

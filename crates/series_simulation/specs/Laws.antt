@@ -1,0 +1,36 @@
+-- The rows of a scheme over a series exist where its plans and routings do, as statements.
+use Rattle.std.specs.Prelude.{ℕ, ◌≤◌, IsTrue, List, Option, length}
+use Rattle.te_model.specs.declared.network.Network.{Network}
+use Rattle.te_model.specs.declared.route.Pair.{Pair}
+use Rattle.te_model.specs.declared.route.PairRoutes.{PairRoutes}
+use Rattle.te_model.specs.Network.{is_well_formed, node_count}
+use Rattle.routing.specs.Routes.{AreDemands, IsRoutingOf, HasFewPaths}
+use Rattle.scheme.specs.Reach.{AllReached, ArePairsOf}
+use Rattle.failure.specs.declared.outage.Failures.{Failures}
+use Rattle.traffic_matrix.specs.declared.series.Series.{Series}
+use Rattle.traffic_matrix.specs.Limits.{IsSeries}
+use Rattle.plan.specs.declared.recovery.Recovery.{Recovery}
+use Rattle.series_simulation.specs.declared.step_row.StepRow.{StepRow}
+use Rattle.series_simulation.specs.Rows.{AreStepRows}
+
+-- pairs of a network that all have a path have a plan
+abbrev pub HasPlans : {Plan : Type 0} → (Network → List Pair → Plan → Type 0) → Type 0
+HasPlans {Plan} is_plan =
+    (net : Network) → IsTrue (is_well_formed net) → (pairs : List Pair) → ArePairsOf net pairs → AllReached net pairs →
+    (plan : Plan) × is_plan net pairs plan
+
+-- a plan and demands of its pairs have a routing within the number of paths, and a note
+abbrev pub HasRoutings : {Plan Note : Type 0} → ℕ → (Network → List Pair → Plan → Type 0) →
+    (Network → List Pair → Plan → List ℕ → List PairRoutes → Note → Type 0) → Type 0
+HasRoutings {Plan} {Note} limit is_plan relates =
+    (net : Network) → IsTrue (is_well_formed net) → (pairs : List Pair) (plan : Plan) → is_plan net pairs plan → ArePairsOf net pairs →
+    (demand : List ℕ) → AreDemands (length pairs) demand →
+    (routes : List PairRoutes) × (note : Note) × IsRoutingOf net pairs routes × HasFewPaths limit routes × relates net pairs plan demand routes note
+
+-- a series has rows, whatever fails and however traffic goes on
+abbrev pub StepRowsExist : {Plan Note : Type 0} → ℕ → (Network → List Pair → Plan → Type 0) →
+    (Network → List Pair → Plan → List ℕ → List PairRoutes → Note → Type 0) → (Note → Option ℕ) → Type 0
+StepRowsExist limit is_plan relates low =
+    HasPlans is_plan → HasRoutings limit is_plan relates → limit ≤ 4096 → (net : Network) → IsTrue (is_well_formed net) →
+    (series : Series) → IsSeries (node_count net) series → (failures : Failures) (recovery : Recovery) →
+    (rows : List StepRow) × AreStepRows limit is_plan relates low net series failures recovery rows
