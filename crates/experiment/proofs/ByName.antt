@@ -5,7 +5,7 @@ use Rattle.std.proofs.lemmas.Result.{IfOk-weaker}
 use Rattle.te_model.specs.declared.network.Network.{Network}
 use Rattle.te_model.specs.declared.route.PairRoutes.{PairRoutes}
 use Rattle.te_model.specs.declared.demand.DemandSet.{DemandSet}
-use Rattle.path_budget.specs.Budget.{trimmed}
+use Rattle.path_budget.specs.Budget.{trimmed_routes}
 use Rattle.failure.specs.declared.outage.Failures.{Failures}
 use Rattle.traffic_matrix.specs.declared.series.Series.{Series}
 use Rattle.plan.specs.declared.experiment.Experiment.{Experiment}
@@ -21,18 +21,18 @@ pub file_by_name : {F E : Type 0} (name : SchemeName) (plan : Experiment) (net :
     (kept : (meaning_of name plan).Plan → List PairRoutes) → ((p : (meaning_of name plan).Plan) → (meaning_of name plan).fixed p ≡ Some (kept p)) →
     plan.publish ≡ name → set ≡ published_set plan series → (items : F → List ℕ) (r : Result F E) →
     IfOk r (λ file. (p : (meaning_of name plan).Plan) × (meaning_of name plan).is_plan net series.pairs.list p
-    × IsMadeFile net (trimmed plan.budget (kept p)) set (items file)) →
+    × IsMadeFile net (trimmed_routes plan.budget (kept p)) set (items file)) →
     IfOk r (λ file. IsPublished plan net series (items file))
 file_by_name name plan net series set kept fixed named same items r =
     IfOk-weaker r
     (λ file. (p : (meaning_of name plan).Plan) × (meaning_of name plan).is_plan net series.pairs.list p
-    × IsMadeFile net (trimmed plan.budget (kept p)) set (items file))
+    × IsMadeFile net (trimmed_routes plan.budget (kept p)) set (items file))
     (λ file. IsPublished plan net series (items file))
     (λ file is. record {
       routes = kept is.0;
       routing = subst (λ (n : SchemeName). IsSchemeRouting n plan net series.pairs.list (kept is.0)) (sym named)
           (record { plan = is.0; planned = is.1; kept = fixed is.0 });
-      file = subst (λ (s : DemandSet). IsMadeFile net (trimmed plan.budget (kept is.0)) s (items file)) same is.2;
+      file = subst (λ (s : DemandSet). IsMadeFile net (trimmed_routes plan.budget (kept is.0)) s (items file)) same is.2;
     })
 
 -- the lines of a scheme are those of its name

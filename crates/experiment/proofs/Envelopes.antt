@@ -6,9 +6,10 @@ use Rattle.std.proofs.Math.Nat.{min-le_left}
 use Rattle.std.proofs.lemmas.List.Elements.{All-get_or, All-head, All-tail}
 use Rattle.std.proofs.lemmas.List.FromFn.{get_or-map-range_with_len, length-map-range_with_len}
 use Rattle.te_model.specs.declared.demand.Matrix.{Matrix}
+use Rattle.te_model.specs.Pairs.{AreDemands}
 use Rattle.best_blocks.specs.Conditions.{IsSetWithin}
 use Rattle.traffic_matrix.specs.declared.series.Series.{Series}
-use Rattle.traffic_matrix.specs.Limits.{IsMatrix, IsSeries}
+use Rattle.traffic_matrix.specs.Limits.{IsSeries}
 use Rattle.experiment.specs.Envelope.{envelope_of, greatest_demand, least_demand}
 
 -- what is the least of more numbers is no more
@@ -20,13 +21,13 @@ least_below (m ∷ ms) p x =
     omega (arith, rest, first)
 
 -- the greatest of numbers within a limit is within it
-greatest_within : (pairs : ℕ) (steps : List Matrix) (p x : ℕ) → p < pairs → All (IsMatrix pairs) steps → x ≤ 2 ^ 32 →
+greatest_within : (pairs : ℕ) (steps : List Matrix) (p x : ℕ) → p < pairs → All (λ m. AreDemands pairs m.demand) steps → x ≤ 2 ^ 32 →
     fold (λ greatest step. max greatest (slice_index step.demand p)) x steps ≤ 2 ^ 32
 greatest_within pairs [] p x below all small = small
 greatest_within pairs (m ∷ ms) p x below all small =
-    let matrix = All-head (IsMatrix pairs) m ms all in
-    let demand : slice_index m.demand p ≤ 2 ^ 32 = All-get_or (λ d. d ≤ 2 ^ 32) m.demand p 0 (omega (arith, below, matrix.count)) matrix.demands in
-    greatest_within pairs ms p (max x (slice_index m.demand p)) below (All-tail (IsMatrix pairs) m ms all) (omega (arith, small, demand))
+    let matrix = All-head (λ (s : Matrix). AreDemands pairs s.demand) m ms all in
+    let demand : slice_index m.demand p ≤ 2 ^ 32 = All-get_or (λ d. d ≤ 2 ^ 32) m.demand p 0 (omega (arith, below, matrix.count)) matrix.small in
+    greatest_within pairs ms p (max x (slice_index m.demand p)) below (All-tail (λ (s : Matrix). AreDemands pairs s.demand) m ms all) (omega (arith, small, demand))
 
 pub envelope_within : (n : ℕ) (series : Series) → IsSeries n series → IsSetWithin (length series.pairs.list) (envelope_of series)
 envelope_within n series is = record {

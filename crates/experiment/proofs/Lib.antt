@@ -6,3 +6,5 @@ mod Reports
 mod SchemeLines
 mod ByName
 pub mod Accepted
+pub mod SchemePlans
+pub mod Existence

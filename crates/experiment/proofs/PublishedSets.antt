@@ -8,19 +8,17 @@ use Rattle.te_model.specs.declared.demand.Matrix.{Matrix}
 use Rattle.routing.specs.Routes.{AreDemands}
 use Rattle.best_blocks.specs.Conditions.{IsSetWithin}
 use Rattle.traffic_matrix.specs.declared.series.Series.{Series}
-use Rattle.traffic_matrix.specs.Limits.{IsSeries, IsMatrix}
+use Rattle.traffic_matrix.specs.Limits.{IsSeries}
 use Rattle.plan.specs.declared.experiment.Experiment.{Experiment}
 use Rattle.plan.specs.Plan.{InRange}
 use Rattle.experiment.specs.Envelope.{envelope_of}
 use Rattle.experiment.specs.Published.{margin_set, published_set}
 use Rattle.experiment.proofs.Envelopes.{envelope_within}
 
-first_demands : (pairs : ℕ) (steps : List Matrix) (none : Matrix) → All (IsMatrix pairs) steps → AreDemands pairs none.demand →
+first_demands : (pairs : ℕ) (steps : List Matrix) (none : Matrix) → All (λ m. AreDemands pairs m.demand) steps → AreDemands pairs none.demand →
     AreDemands pairs (get_or steps zero none).demand
 first_demands pairs [] none all zeros = zeros
-first_demands pairs (m ∷ ms) none all zeros =
-    let matrix = all zero none (omega arith) in
-    record { count = matrix.count; small = matrix.demands }
+first_demands pairs (m ∷ ms) none all zeros = all zero none (omega arith)
 
 pub set_within : (n : ℕ) (plan : Experiment) (series : Series) → InRange plan → IsSeries n series →
     IsSetWithin (length series.pairs.list) (published_set plan series)

@@ -10,10 +10,10 @@ use Rattle.te_model.specs.declared.route.PairRoutes.{PairRoutes}
 use Rattle.te_model.specs.Network.{node_count, is_well_formed}
 use Rattle.te_model.specs.Pairs.{no_pair, pair_at, AscendPairs}
 use Rattle.te_model.specs.Path.{routes_at, no_routes, source_of, destination_of}
+use Rattle.te_model.proofs.FewPairs.{network_pairs_few}
 use Rattle.routing.specs.Routes.{IsRoutingOf, HasFewPaths}
 use Rattle.scheme.specs.Reach.{ArePairsOf, IsPairOf}
 use Rattle.best_blocks.specs.Conditions.{IsRoutingWithin}
-use Rattle.series_simulation.proofs.FewPairs.{network_pairs_few}
 
 -- the pair of the routes at a place
 same_pair : (pairs : List Pair) (routes : List PairRoutes) (p : ℕ) → map (λ r. r.pair) routes ≡ pairs → p < length routes →

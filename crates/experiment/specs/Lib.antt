@@ -3,3 +3,4 @@ pub mod Envelope
 pub mod Published
 pub mod Text
 pub mod Report
+pub mod Laws

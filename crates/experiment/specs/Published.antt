@@ -10,7 +10,7 @@ use Rattle.te_model.specs.FileLimit.{file_limit}
 use Rattle.te_model.specs.Inequalities.{Holds, first_failure}
 use Rattle.te_model.specs.Ratio.{IsObliviousRatio}
 use Rattle.te_model.specs.Text.{Spells, text}
-use Rattle.path_budget.specs.Budget.{trimmed}
+use Rattle.path_budget.specs.Budget.{trimmed_routes}
 use Rattle.ratio_certificate.specs.Made.{IsMade}
 use Rattle.traffic_matrix.specs.declared.series.Series.{Series}
 use Rattle.plan.specs.declared.experiment.Experiment.{Experiment}
@@ -45,7 +45,7 @@ pub record IsMadeFile (net : Network) (routes : List PairRoutes) (set : DemandSe
 pub record IsPublished (plan : Experiment) (net : Network) (series : Series) (bytes : List ℕ) : Type 0 where
   pub routes : List PairRoutes
   pub routing : IsSchemeRouting plan.publish plan net series.pairs.list routes
-  pub file : IsMadeFile net (trimmed plan.budget routes) (published_set plan series) bytes
+  pub file : IsMadeFile net (trimmed_routes plan.budget routes) (published_set plan series) bytes
 
 -- the bytes are no more than a certificate's file may have, and spell a valid certificate of which no inequality fails, so its ratio is an
 -- oblivious ratio of its routing

@@ -59,12 +59,12 @@ line word step f low =
     ∷ decimal f.lost_no_path ∷ decimal f.peak ∷ decimal f.parts ∷ low_text low ∷ [])
     ++ 10 ∷ []
 
-abbrev pub row_line : List ℕ → StepRow → List ℕ
-row_line word row = line word (decimal row.step) (figures_of row) row.low
+abbrev pub step_line : List ℕ → StepRow → List ℕ
+step_line word row = line word (decimal row.step) (figures_of row) row.low
 
 abbrev pub total_line : List ℕ → List StepRow → List ℕ
 total_line word rows = line word (codes "total") (total_of rows) None
 
 -- a line for each step, and the total
 abbrev pub scheme_lines : List ℕ → List StepRow → List ℕ
-scheme_lines word rows = flat_map (row_line word) rows ++ total_line word rows
+scheme_lines word rows = flat_map (step_line word) rows ++ total_line word rows

@@ -1,12 +1,23 @@
-//! Laws of what is published. A law is the contract of a function that does nothing.
+//! Laws of what is published and reported. A law is the contract of a function that does nothing.
 ghost use Rattle.std.specs.Prelude.{ℕ, List};
 ghost use Rattle.te_model.specs.declared.network.Network.{Network};
 ghost use Rattle.traffic_matrix.specs.declared.series.Series.{Series};
 ghost use Rattle.plan.specs.declared.experiment.Experiment.{Experiment};
+ghost use Rattle.experiment.specs.Laws.{PublicationsExist, ReportsExist};
 ghost use Rattle.experiment.specs.Published.{IsAccepted, IsPublished};
 
 /// Every published file spells a valid certificate of which no inequality fails, so a check of it answers yes.
 pub fn published_files_are_accepted()
     ensures { (plan : Experiment) → (network : Network) → (series : Series) → (bytes : List ℕ) →
         IsPublished plan network series bytes → IsAccepted bytes }
+{}
+
+/// Where each declared pair has a path, there is a file that a plan in range publishes.
+pub fn publications_exist()
+    ensures { PublicationsExist }
+{}
+
+/// There is a report of the schemes of a plan in range.
+pub fn reports_exist()
+    ensures { ReportsExist }
 {}

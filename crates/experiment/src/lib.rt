@@ -6,6 +6,7 @@
 //! - `certificate_file`: the file of the certificate that a plan publishes.
 //! - `report`: the report of a plan's schemes over a series.
 //! - `published_files_are_accepted`: what every published file is.
+//! - `publications_exist`, `reports_exist`: what a plan asks for exists.
 #![tactic(auto)]
 
 mod demand_set;
@@ -17,7 +18,7 @@ mod published_file;
 mod publishing;
 mod reporting;
 
-pub use laws::published_files_are_accepted;
+pub use laws::{publications_exist, published_files_are_accepted, reports_exist};
 pub use plan::{Experiment, Key, PlanFault, Recovery, SchemeName, read_plan};
 pub use published_file::certificate_file;
 pub use publishing::publish;

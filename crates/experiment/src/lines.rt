@@ -1,6 +1,6 @@
 //! The lines of a scheme.
 ghost use Rattle.std.specs.Prelude.{◌≡◌, ◌∷◌, ◌++◌, OnOk, codes, decimal};
-ghost use Rattle.experiment.specs.Text.{line, row_line, low_text};
+ghost use Rattle.experiment.specs.Text.{line, step_line, low_text};
 
 use crate::figures::Figures;
 use series_simulation::StepRow;
@@ -58,7 +58,7 @@ fn print_line(
 
 /// Writes the line of a step.
 pub fn print_row(text: &mut Vec<u8>, word: &str, row: &StepRow) -> Result<(), Memory>
-    ensures { OnOk result (text.new.items ≡ text.old.items ++ row_line word.now row.now) }
+    ensures { OnOk result (text.new.items ≡ text.old.items ++ step_line word.now row.now) }
 {
     let mut digits = itoa::Buffer::new();
     let step = digits.format(row.step);

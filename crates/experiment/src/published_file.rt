@@ -1,7 +1,7 @@
 //! The file of the certificate that a plan publishes.
 ghost use Rattle.std.specs.Prelude.{◌≤◌, IfOk, IfErr, OnOk, IsTrue, length};
 ghost use Rattle.te_model.specs.Network.{is_well_formed, link_count, node_count};
-ghost use Rattle.path_budget.specs.Budget.{trimmed};
+ghost use Rattle.path_budget.specs.Budget.{trimmed_routes};
 ghost use Rattle.best_blocks.specs.Conditions.{IsSetWithin};
 ghost use Rattle.scheme.specs.Fault.{IsFault};
 ghost use Rattle.scheme.specs.Reach.{AllReached, ArePairsOf};
@@ -39,7 +39,7 @@ fn scheme_file<S: Oblivious>(
     requires some { 1 ≤ budget }
     requires few { budget ≤ 32 }
     ensures file { IfOk result (λ file. (plan : S.Plan) × S.Scheme.is_plan scheme.now network.now pairs.now.list plan
-        × IsMadeFile network.now (trimmed budget (S.fixed_routes scheme.now plan)) set file.items) }
+        × IsMadeFile network.now (trimmed_routes budget (S.fixed_routes scheme.now plan)) set file.items) }
     ensures reached { OnOk result (AllReached network.now pairs.now.list) }
     ensures fault { IfErr result (IsFault network.now pairs.now.list) }
 {

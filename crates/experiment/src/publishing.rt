@@ -1,7 +1,7 @@
 //! The publishing of an oblivious routing with its certificate.
 ghost use Rattle.std.specs.Prelude.{◌≤◌, IfOk, IfErr, OnOk, IsTrue, length};
 ghost use Rattle.te_model.specs.Network.{is_well_formed, link_count};
-ghost use Rattle.path_budget.specs.Budget.{trimmed};
+ghost use Rattle.path_budget.specs.Budget.{trimmed_routes};
 ghost use Rattle.best_blocks.specs.Conditions.{IsSetWithin};
 ghost use Rattle.ratio_certificate.specs.Made.{IsMade};
 ghost use Rattle.scheme.specs.Fault.{IsFault};
@@ -36,7 +36,7 @@ pub fn publish<S: Oblivious>(
     requires some { 1 ≤ budget }
     requires few { budget ≤ 32 }
     ensures made { IfOk result (λ c. (plan : S.Plan) × S.Scheme.is_plan scheme.now net.now pairs.now.list plan
-        × IsMade net.now (trimmed budget (S.fixed_routes scheme.now plan)) set c) }
+        × IsMade net.now (trimmed_routes budget (S.fixed_routes scheme.now plan)) set c) }
     ensures reached { OnOk result (AllReached net.now pairs.now.list) }
     ensures fault { IfErr result (IsFault net.now pairs.now.list) }
 {

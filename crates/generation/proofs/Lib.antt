@@ -1,2 +1,3 @@
 pub mod Proving
 mod Summing
+pub mod Existence

@@ -6,7 +6,7 @@ use Rattle.te_model.specs.declared.network.Network.{Network}
 use Rattle.te_model.specs.declared.route.PairRoutes.{PairRoutes}
 use Rattle.te_model.specs.Ratio.{IsObliviousRatio}
 use Rattle.te_model.proofs.Oblivious.{holds_is_oblivious}
-use Rattle.path_budget.specs.Budget.{trimmed}
+use Rattle.path_budget.specs.Budget.{trimmed_routes}
 use Rattle.random_network.specs.Drawn.{network_of}
 use Rattle.ratio_certificate.proofs.MadeForms.{made_all}
 use Rattle.generation.specs.Summary.{IsSummary, ProvesRatio}
@@ -16,7 +16,7 @@ proves_ratio n seed text is =
     let certificate = is.published.made.certificate in
     let made = is.published.made.made in
     let head = certificate.head in
-    let routes = trimmed 32 is.published.routes in
+    let routes = trimmed_routes 32 is.published.routes in
     record {
       summary = is;
       ratio = subst (λ (net : Network). IsObliviousRatio net routes All head.ratio) made.network

@@ -18,7 +18,7 @@ use Rattle.ratio_checker.specs.Finding.{finding_of}
 use Rattle.series_simulation.specs.declared.step_row.StepRow.{StepRow}
 use Rattle.generation.specs.declared.lines.Summary.{Summary}
 use Rattle.generation.specs.Summary.{AreDrawnRows, AreLeastRows, IsDrawnFile, IsJudgedDraw, IsSummary, IsTotal, summary_text}
-use Rattle.generation.specs.Text.{lines_of}
+use Rattle.generation.specs.Text.{summary_lines}
 
 -- a drawn file spells its certificate
 pub drawn_spells : (seed : ℕ) (net : Network) (pairs : List Pair) (file bytes : List ℕ) (is : IsDrawnFile seed net pairs file) → bytes ≡ file →
@@ -48,7 +48,7 @@ judged_draw seed net pairs file bytes read ratio finding is same reads ratio_of 
 -- equal numbers have equal lines
 same_lines : (s : Summary) (net : Network) (pairs ratio : ℕ) (rows : List StepRow) → s.nodes ≡ node_count net → s.links ≡ link_count net → s.pairs ≡ pairs →
     s.ratio ≡ ratio → s.finding ≡ Yes → s.offered ≡ sum_by (λ (row : StepRow). row.result.offered) rows →
-    s.delivered ≡ sum_by (λ (row : StepRow). row.result.delivered) rows → lines_of s ≡ summary_text net pairs ratio rows
+    s.delivered ≡ sum_by (λ (row : StepRow). row.result.delivered) rows → summary_lines s ≡ summary_text net pairs ratio rows
 same_lines s net pairs ratio rows nodes links of_pairs of_ratio found offered delivered = rw (nodes, links, of_pairs, of_ratio, found, offered, delivered) refl
 
 -- the network and the series of a run
@@ -74,7 +74,7 @@ module _ (n seed : ℕ) (net : Network) (series : Series) (drawn : net ≡ netwo
 
   -- the lines of what was counted, judged and added up
   pub summed : (s : Summary) (text : List ℕ) → IsJudgedDraw seed net series.pairs.list s.ratio s.finding → IsTotal net series s.offered s.delivered →
-      s.nodes ≡ node_count net → s.links ≡ link_count net → s.pairs ≡ length series.pairs.list → text ≡ lines_of s → IsSummary n seed text
+      s.nodes ≡ node_count net → s.links ≡ link_count net → s.pairs ≡ length series.pairs.list → text ≡ summary_lines s → IsSummary n seed text
   summed s text of_draw total nodes_of links_of pairs_of lines =
       let at = judged s.ratio s.finding of_draw in
       let count : s.nodes ≡ node_count (network_of n seed) = nodes_of ∙ ap node_count drawn in

@@ -11,7 +11,7 @@ use Rattle.failure.specs.Series.{no_failures}
 use Rattle.traffic_matrix.specs.declared.series.Series.{Series}
 use Rattle.traffic_matrix.specs.Gravity.{every_pair, gravity_of}
 use Rattle.plan.specs.declared.recovery.Recovery.TheVariants.{Keep}
-use Rattle.path_budget.specs.Budget.{trimmed}
+use Rattle.path_budget.specs.Budget.{trimmed_routes}
 use Rattle.racke_mix.specs.declared.round.Round.{Round}
 use Rattle.racke_mix.specs.Racke.{IsRackePlan}
 use Rattle.ratio_checker.specs.declared.finding.Finding.{Finding}
@@ -22,7 +22,7 @@ use Rattle.series_simulation.specs.declared.step_row.StepRow.{StepRow}
 use Rattle.series_simulation.specs.Rows.{AreStepRows}
 use Rattle.experiment.specs.Published.{IsMadeFile}
 use Rattle.experiment.specs.Schemes.{SchemeMeaning, rule_scheme, spf_paths}
-use Rattle.generation.specs.Text.{lines_of}
+use Rattle.generation.specs.Text.{summary_lines}
 
 -- the file of a certificate, for all matrices, that is made of the routing over four trees of the seed, of which each pair keeps the 32
 -- heaviest paths
@@ -30,7 +30,7 @@ pub record IsDrawnFile (seed : ℕ) (net : Network) (pairs : List Pair) (file : 
   pub rounds : List Round
   pub routes : List PairRoutes
   pub mix : IsRackePlan 4 seed net pairs rounds routes
-  pub made : IsMadeFile net (trimmed 32 routes) All file
+  pub made : IsMadeFile net (trimmed_routes 32 routes) All file
 
 -- least paths by cost
 abbrev pub least_paths : SchemeMeaning
@@ -61,7 +61,7 @@ pub record IsTotal (net : Network) (series : Series) (offered delivered : ℕ) :
 
 -- the lines of the network, of all pairs of two nodes, of a ratio to which the verdict is yes, and of the sums over the rows
 abbrev pub summary_text : Network → ℕ → ℕ → List StepRow → List ℕ
-summary_text net pairs ratio rows = lines_of (record {
+summary_text net pairs ratio rows = summary_lines (record {
   nodes = node_count net;
   links = link_count net;
   pairs = pairs;
@@ -82,4 +82,4 @@ pub record IsSummary (n seed : ℕ) (text : List ℕ) : Type 0 where
 -- the ratio in the lines is an oblivious ratio, for all matrices, of the routing that was drawn
 pub record ProvesRatio (n seed : ℕ) (text : List ℕ) : Type 0 where
   pub summary : IsSummary n seed text
-  pub ratio : IsObliviousRatio (network_of n seed) (trimmed 32 summary.published.routes) All summary.published.made.certificate.head.ratio
+  pub ratio : IsObliviousRatio (network_of n seed) (trimmed_routes 32 summary.published.routes) All summary.published.made.certificate.head.ratio

@@ -20,5 +20,5 @@ last_lines s =
     codes "answer " ++ (answer_word s.finding ++ (codes "\noffered " ++ (decimal s.offered ++ (codes "\ndelivered "
     ++ (decimal s.delivered ++ 10 ∷ [])))))
 
-abbrev pub lines_of : Summary → List ℕ
-lines_of s = first_lines s ++ last_lines s
+abbrev pub summary_lines : Summary → List ℕ
+summary_lines s = first_lines s ++ last_lines s

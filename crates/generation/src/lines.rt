@@ -1,6 +1,6 @@
 //! The lines of a summary.
 ghost use Rattle.std.specs.Prelude.{◌≡◌, IfOk, string_bytes};
-ghost use Rattle.generation.specs.Text.{answer_word, first_lines, last_lines, lines_of};
+ghost use Rattle.generation.specs.Text.{answer_word, first_lines, last_lines, summary_lines};
 
 use ratio_checker::Finding;
 use std::alloc::Global;
@@ -63,7 +63,7 @@ fn last_lines(alloc: Global, summary: &Summary) -> Result<String, Memory>
 
 /// Writes the lines. The only error is `Memory`, where memory is wanting.
 pub fn print_lines(alloc: Global, summary: &Summary) -> Result<Vec<u8>, Memory>
-    ensures { IfOk result (λ text. text.items ≡ lines_of summary.now) }
+    ensures { IfOk result (λ text. text.items ≡ summary_lines summary.now) }
 {
     let mut text = first_lines(alloc, summary)?.into_bytes();
     let rest = last_lines(alloc, summary)?;

@@ -1,4 +1,4 @@
--- In a drawn network some links lead from each node to each other one: along the ring.
+-- In a drawn network some links lead from each node to each other one: along the ring. It has links, and it is well formed.
 use Rattle.std.proofs.Common.{ℕ, zero, suc, ◌+◌, ◌-◌, ◌%◌, ◌<◌, ◌≤◌, ◌≡◌, ◌∙◌, sym, ap, subst, List, [], ◌∷◌, ◌++◌, length, get_or, take, true, arith}
 use Rattle.std.specs.List.{flat_map, range_with_len}
 use Rattle.std.proofs.Math.Nat.{mod-eq_of_lt, mod_self}
@@ -14,7 +14,8 @@ use Rattle.te_model.specs.Path.{chains}
 use Rattle.te_model.proofs.Chains.{chain_from, chains-append}
 use Rattle.shortest_path.specs.Paths.{HasPath}
 use Rattle.random_network.specs.Drawn.{IsConnected, chords_of, network_of, ring_links, ring_of}
-use Rattle.random_network.proofs.Formed.{nodes_are, ring_length}
+use Rattle.random_network.specs.Laws.{DrawnNetworksAreFormed}
+use Rattle.random_network.proofs.Formed.{drawn_well_formed, nodes_are, ring_length}
 
 -- a link from one node to another
 record LinkBetween (net : Network) (i j : ℕ) : Type 0 where
@@ -82,3 +83,6 @@ drawn_connected n seed pair among =
 
 pub drawn_links : (n seed : ℕ) → 1 ≤ n → 1 ≤ link_count (network_of n seed)
 drawn_links n seed some = omega (arith, length-append (ring_of n seed) (chords_of n seed), ring_length n seed)
+
+pub drawn_networks_are_formed : DrawnNetworksAreFormed
+drawn_networks_are_formed n seed two few = (drawn_well_formed n seed two few, drawn_links n seed (omega arith), drawn_connected n seed)

@@ -7,18 +7,18 @@ use Rattle.rand_chacha.specs.ChaCha.{ChaCha, key_of, word_at}
 use Rattle.te_model.specs.declared.network.Link.{Link}
 use Rattle.te_model.specs.declared.network.Network.{Network}
 use Rattle.te_model.proofs.Lists.{range-more}
-use Rattle.random_words.specs.Words.{generator, seed_bytes, word, word_on}
+use Rattle.random_words.specs.Words.{generator, seed_bytes, word_of_seed, word_on}
 use Rattle.random_network.specs.Drawn.{both_ways, chord_links, chords_of, network_of, node_names, ring_of}
 
 -- k words on from where m were taken
-word_of : (seed m k n : ℕ) (rng : ChaCha) → rng ≡ generator seed 2 m → m + k ≡ n → word_on rng k ≡ word seed 2 n
-unfolding word
+word_of : (seed m k n : ℕ) (rng : ChaCha) → rng ≡ generator seed 2 m → m + k ≡ n → word_on rng k ≡ word_of_seed seed 2 n
+unfolding word_of_seed
 word_of seed m k n rng is sum =
     ap (λ (r : ChaCha). word_on r k) is ∙ ap (λ (p : ℕ). word_at 4 (key_of (seed_bytes seed 2)) 0 p) sum
 
 -- the word that the generator gives next
-pub next_word : (seed m : ℕ) (rng : ChaCha) → rng ≡ generator seed 2 m → word_at 4 rng.key rng.stream rng.word_pos ≡ word seed 2 m
-unfolding word
+pub next_word : (seed m : ℕ) (rng : ChaCha) → rng ≡ generator seed 2 m → word_at 4 rng.key rng.stream rng.word_pos ≡ word_of_seed seed 2 m
+unfolding word_of_seed
 next_word seed m rng is = ap (λ (r : ChaCha). word_at 4 r.key r.stream r.word_pos) is
 
 -- k words later
@@ -28,10 +28,10 @@ moved seed m k n rng next is then sum = then ∙ rw is (ap (generator seed 2) su
 
 -- the links that the next two words give
 pub drawn_links : (seed m i j : ℕ) (rng : ChaCha) → rng ≡ generator seed 2 m →
-    both_ways i j (word_on rng 0) (word_on rng 1) ≡ both_ways i j (word seed 2 m) (word seed 2 (m + 1))
+    both_ways i j (word_on rng 0) (word_on rng 1) ≡ both_ways i j (word_of_seed seed 2 m) (word_of_seed seed 2 (m + 1))
 drawn_links seed m i j rng is =
     ap (λ (w : ℕ). both_ways i j w (word_on rng 1)) (word_of seed m 0 m rng is (omega arith))
-    ∙ ap (both_ways i j (word seed 2 m)) (word_of seed m 1 (m + 1) rng is refl)
+    ∙ ap (both_ways i j (word_of_seed seed 2 m)) (word_of seed m 1 (m + 1) rng is refl)
 
 -- the links of one node more
 pub links_more : (f : ℕ → List Link) (start before after piece : List Link) (k : ℕ) → before ≡ start ++ flat_map f (range_with_len 0 k) →
@@ -41,14 +41,14 @@ links_more f start before after piece k was then is =
     ∙ ap (λ (r : List ℕ). start ++ flat_map f r) (sym (range-more k))
 
 -- the two words of the links of chord i, after that of its target
-pub chord_of : (n seed i drawn target : ℕ) (rng : ChaCha) → drawn ≡ word seed 2 (2 * n + 3 * i) →
+pub chord_of : (n seed i drawn target : ℕ) (rng : ChaCha) → drawn ≡ word_of_seed seed 2 (2 * n + 3 * i) →
     target ≡ (i + 2 + drawn % (n - 3)) % n → rng ≡ generator seed 2 (2 * n + 3 * i + 1) →
     both_ways i target (word_on rng 0) (word_on rng 1) ≡ chord_links n seed i
 chord_of n seed i drawn target rng is to at =
     let first = 2 * n + 3 * i in
     drawn_links seed (first + 1) i target rng at
-    ∙ ap (λ (j : ℕ). both_ways i j (word seed 2 (first + 1)) (word seed 2 (first + 1 + 1))) (to ∙ ap (λ (w : ℕ). (i + 2 + w % (n - 3)) % n) is)
-    ∙ ap (both_ways i ((i + 2 + word seed 2 first % (n - 3)) % n) (word seed 2 (first + 1))) (ap (word seed 2) (omega arith))
+    ∙ ap (λ (j : ℕ). both_ways i j (word_of_seed seed 2 (first + 1)) (word_of_seed seed 2 (first + 1 + 1))) (to ∙ ap (λ (w : ℕ). (i + 2 + w % (n - 3)) % n) is)
+    ∙ ap (both_ways i ((i + 2 + word_of_seed seed 2 first % (n - 3)) % n) (word_of_seed seed 2 (first + 1))) (ap (word_of_seed seed 2) (omega arith))
 
 -- the chords of four nodes or more
 pub chords_are : (n seed k : ℕ) (start links : List Link) → 4 ≤ n → k ≡ n / 2 →

@@ -15,7 +15,7 @@ use Rattle.te_model.proofs.Searches.{all_below_at, all_below_from}
 use Rattle.te_model.proofs.SoundLinks.{IsLink, sound_link}
 use Rattle.te_model.proofs.Tests.{all_to_tests}
 use Rattle.te_model.proofs.WellFormed.{well_formed_from}
-use Rattle.random_words.specs.Words.{word}
+use Rattle.random_words.specs.Words.{word_of_seed}
 use Rattle.random_network.specs.Drawn.{both_ways, chord_links, chords_of, network_of, node_names, ring_links, ring_of}
 
 drawn_link : (n i j w v : ℕ) → i < n → j < n → i ≢ j → IsLink n (record { tail = i; head = j; capacity = 1000 * (1 + w % 10); cost = 1 + v % 10 })
@@ -49,14 +49,14 @@ step_on n i x inside above below =
 ring_sound : (n seed i : ℕ) → 2 ≤ n → i < n → All (IsLink n) (ring_links n seed i)
 ring_sound n seed i two inside =
     let on = step_on n i (i + 1) inside (omega arith) (omega arith) in
-    both_sound n i ((i + 1) % n) (word seed 2 (2 * i)) (word seed 2 (2 * i + 1)) inside on.0 on.1
+    both_sound n i ((i + 1) % n) (word_of_seed seed 2 (2 * i)) (word_of_seed seed 2 (2 * i + 1)) inside on.0 on.1
 
 chord_sound : (n seed i : ℕ) → 4 ≤ n → i < n → All (IsLink n) (chord_links n seed i)
 chord_sound n seed i four inside =
     let first = 2 * n + 3 * i in
-    let less : word seed 2 first % (n - 3) < n - 3 = mod-lt (word seed 2 first) (omega arith) in
-    let on = step_on n i (i + 2 + word seed 2 first % (n - 3)) inside (omega arith) (omega (arith, less)) in
-    both_sound n i ((i + 2 + word seed 2 first % (n - 3)) % n) (word seed 2 (first + 1)) (word seed 2 (first + 2)) inside on.0 on.1
+    let less : word_of_seed seed 2 first % (n - 3) < n - 3 = mod-lt (word_of_seed seed 2 first) (omega arith) in
+    let on = step_on n i (i + 2 + word_of_seed seed 2 first % (n - 3)) inside (omega arith) (omega (arith, less)) in
+    both_sound n i ((i + 2 + word_of_seed seed 2 first % (n - 3)) % n) (word_of_seed seed 2 (first + 1)) (word_of_seed seed 2 (first + 2)) inside on.0 on.1
 
 All-flat_map : (P : Link → Type 0) (f : ℕ → List Link) (xs : List ℕ) → All (λ x. All P (f x)) xs → All P (flat_map f xs)
 All-flat_map P f [] all = All-nil P

@@ -1,3 +1,3 @@
 mod Drawing
 pub mod Formed
-mod Connected
+pub mod Connected

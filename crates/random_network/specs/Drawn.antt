@@ -8,7 +8,7 @@ use Rattle.te_model.specs.declared.route.Pair.{Pair}
 use Rattle.te_model.specs.Network.{node_count}
 use Rattle.te_model.specs.Pairs.{IsPairAmong}
 use Rattle.shortest_path.specs.Paths.{HasPath}
-use Rattle.random_words.specs.Words.{word}
+use Rattle.random_words.specs.Words.{word_of_seed}
 
 -- n0, n1 and so on
 abbrev pub node_names : ℕ → List (List ℕ)
@@ -22,7 +22,7 @@ both_ways i j w v =
 
 -- node i and the next one of the ring
 abbrev pub ring_links : ℕ → ℕ → ℕ → List Link
-ring_links n seed i = both_ways i ((i + 1) % n) (word seed 2 (2 * i)) (word seed 2 (2 * i + 1))
+ring_links n seed i = both_ways i ((i + 1) % n) (word_of_seed seed 2 (2 * i)) (word_of_seed seed 2 (2 * i + 1))
 
 abbrev pub ring_of : ℕ → ℕ → List Link
 ring_of n seed = flat_map (ring_links n seed) (range_with_len 0 n)
@@ -31,7 +31,7 @@ ring_of n seed = flat_map (ring_links n seed) (range_with_len 0 n)
 abbrev pub chord_links : ℕ → ℕ → ℕ → List Link
 chord_links n seed i =
     let first = 2 * n + 3 * i in
-    both_ways i ((i + 2 + word seed 2 first % (n - 3)) % n) (word seed 2 (first + 1)) (word seed 2 (first + 2))
+    both_ways i ((i + 2 + word_of_seed seed 2 first % (n - 3)) % n) (word_of_seed seed 2 (first + 1)) (word_of_seed seed 2 (first + 2))
 
 -- of the first half of the nodes, where there are four or more
 abbrev pub chords_of : ℕ → ℕ → List Link

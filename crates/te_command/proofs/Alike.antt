@@ -2,11 +2,11 @@
 use Rattle.std.proofs.Common.{◌≡◌, ℕ, List, Option, Some, inl, inr, refl, ◌∙◌, subst, arith}
 use Rattle.te_model.specs.declared.certificate.Certificate.{Certificate}
 use Rattle.te_model.specs.Text.{Spells, text as text_of}
-use Rattle.te_model.specs.Upgrade.{box_of, upgraded}
+use Rattle.te_model.specs.Upgrade.{box_of, upgraded_certificate}
 use Rattle.te_model.proofs.Upgrading.{failures_kept}
 use Rattle.cert_text.proofs.Laws.{one_spelling}
 use Rattle.text_size.proofs.ValidSizes.{fits_file}
-use Rattle.te_command.specs.Files.{told}
+use Rattle.te_command.specs.Files.{told_files}
 use Rattle.te_command.specs.Reading.{Means}
 use Rattle.te_command.specs.Check.{IsVerdict, yes_line}
 use Rattle.te_command.specs.Commands.{check, convert, reading_of}
@@ -14,11 +14,11 @@ use Rattle.te_command.specs.Converted.{SayYesAlike}
 use Rattle.te_command.proofs.Ending.{some_once}
 use Rattle.te_command.proofs.Converting.{spells_upgraded}
 
-no_kept : (c : Certificate) (line : List ℕ) → IsVerdict c 1 line → IsVerdict (upgraded c) 1 line
+no_kept : (c : Certificate) (line : List ℕ) → IsVerdict c 1 line → IsVerdict (upgraded_certificate c) 1 line
 no_kept c line (inl holds) = absurd (omega (arith, holds.0))
 no_kept c line (inr fails) = inr (refl, record { failure = fails.1.failure; fails = failures_kept c ∙ fails.1.fails; line_is = fails.1.line_is })
 
-yes_kept : (c : Certificate) (line : List ℕ) → IsVerdict c 0 line → (boxed : List ℕ) × SayYesAlike line boxed × IsVerdict (upgraded c) 0 boxed
+yes_kept : (c : Certificate) (line : List ℕ) → IsVerdict c 0 line → (boxed : List ℕ) × SayYesAlike line boxed × IsVerdict (upgraded_certificate c) 0 boxed
 yes_kept c line (inl holds) = (
   yes_line c.head.ratio (box_of c.head.set),
   record { ratio = c.head.ratio; set = c.head.set; line_is = holds.1.line_is; boxed_is = refl },
@@ -34,14 +34,14 @@ one_certificate content bytes all c d at is spells spelled =
 
 -- an answer on the made file is one on the certificate in the second format
 of_made : (content : List ℕ → Option (List ℕ)) (made bytes text line : List ℕ) (c : Certificate) (status : ℕ) → content made ≡ Some text →
-    Spells bytes c → text ≡ text_of (upgraded c) → IsVerdict (upgraded c) status line → Means (reading_of (check made)) (told content) status line
+    Spells bytes c → text ≡ text_of (upgraded_certificate c) → IsVerdict (upgraded_certificate c) status line → Means (reading_of (check made)) (told_files content) status line
 of_made content made bytes text line c status at spells is verdict =
     let spelled = spells_upgraded c bytes text spells is in
-    inr (upgraded c, (text, at, fits_file text (upgraded c) spelled, spelled), verdict)
+    inr (upgraded_certificate c, (text, at, fits_file text (upgraded_certificate c) spelled, spelled), verdict)
 
 pub no_alike : (content : List ℕ → Option (List ℕ)) (file made text line : List ℕ) → content made ≡ Some text →
-    Means (reading_of (convert file)) (told content) 0 text → Means (reading_of (check file)) (told content) 1 line →
-    Means (reading_of (check made)) (told content) 1 line
+    Means (reading_of (convert file)) (told_files content) 0 text → Means (reading_of (check file)) (told_files content) 1 line →
+    Means (reading_of (check made)) (told_files content) 1 line
 no_alike content file made text line at (inl (three, refused)) means = absurd (omega (arith, three))
 no_alike content file made text line at converted (inl (three, refused)) = absurd (omega (arith, three))
 no_alike content file made text line at (inr (c, (bytes, told_as, few, spells), (zero, is))) (inr (d, (all, told_is, short, spelled), verdict)) =
@@ -49,8 +49,8 @@ no_alike content file made text line at (inr (c, (bytes, told_as, few, spells), 
     (no_kept c line (subst (λ x. IsVerdict x 1 line) (one_certificate (content file) bytes all c d told_as told_is spells spelled) verdict))
 
 pub yes_alike : (content : List ℕ → Option (List ℕ)) (file made text line : List ℕ) → content made ≡ Some text →
-    Means (reading_of (convert file)) (told content) 0 text → Means (reading_of (check file)) (told content) 0 line →
-    (boxed : List ℕ) × SayYesAlike line boxed × Means (reading_of (check made)) (told content) 0 boxed
+    Means (reading_of (convert file)) (told_files content) 0 text → Means (reading_of (check file)) (told_files content) 0 line →
+    (boxed : List ℕ) × SayYesAlike line boxed × Means (reading_of (check made)) (told_files content) 0 boxed
 yes_alike content file made text line at (inl (three, refused)) means = absurd (omega (arith, three))
 yes_alike content file made text line at converted (inl (three, refused)) = absurd (omega (arith, three))
 yes_alike content file made text line at (inr (c, (bytes, told_as, few, spells), (zero, is))) (inr (d, (all, told_is, short, spelled), verdict)) =

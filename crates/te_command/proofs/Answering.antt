@@ -5,12 +5,12 @@ use Rattle.std.specs.declared.alloc.Global.{Global}
 use Rattle.te_ports.specs.Ports.{Rose}
 use Rattle.te_command.specs.declared.answer.Answer.{Answer}
 use Rattle.te_command.specs.declared.answer.Answer.TheVariants.{Done, No, NoPath}
-use Rattle.te_command.specs.Files.{given, told, known}
+use Rattle.te_command.specs.Files.{Files, given_files, told_files, known_files}
 use Rattle.te_command.specs.Reading.{Means, MeansStatus, IsTold, ReadFailed}
 use Rattle.te_command.specs.Commands.{Command, command_of, reading_of}
-use Rattle.te_command.specs.Form.{IsAnswer}
-use Rattle.te_command.specs.Outcome.{status_of, text_of}
-use Rattle.te_command.specs.Run.{OfCommand, OfToldCommand, Change, Says, Answered, HasForm, IsOrFails, GivesOrMemory}
+use Rattle.te_command.specs.Form.{MayAnswer}
+use Rattle.te_command.specs.Outcome.{status_of, answer_text}
+use Rattle.te_command.specs.Run.{OfCommand, OfToldCommand, Change, Says, SaysSome, Answered, WritesMeant, SaysMeant, WritesProof, WritesPartMeant, HasForm, IsOrFails, GivesOrMemory}
 use Rattle.te_command.proofs.Telling.{Agrees, given_is_known, means_along, failed_along, means_told, failed_told}
 use Rattle.te_command.proofs.Ending.{proved, formed, status_once, status_of_text}
 use Rattle.te_command.proofs.Table.{sound, regular}
@@ -30,49 +30,69 @@ of_asked P asked words is holds command named = subst P (asked_is (command_of wo
     asked_is o x y p q = cc
 
 known_means : (asked : Command) (content : List ℕ → Option (List ℕ)) (gave : List ℕ → ℕ → List ℕ → Type 0) (s : ℕ) (text : List ℕ) → Agrees content gave →
-    Means (reading_of asked) (given gave) s text → Means (reading_of asked) (known gave content) s text
-known_means asked content gave s text agrees = means_along (reading_of asked) (given gave) (known gave content) s text (regular asked) (given_is_known content gave agrees)
+    Means (reading_of asked) (given_files gave) s text → Means (reading_of asked) (known_files gave content) s text
+known_means asked content gave s text agrees = means_along (reading_of asked) (given_files gave) (known_files gave content) s text (regular asked) (given_is_known content gave agrees)
 
 told_means : (asked : Command) (content : List ℕ → Option (List ℕ)) (gave : List ℕ → ℕ → List ℕ → Type 0) (s : ℕ) (text : List ℕ) → Agrees content gave →
-    Means (reading_of asked) (given gave) s text → IsTold (reading_of asked) content → Means (reading_of asked) (told content) s text
+    Means (reading_of asked) (given_files gave) s text → IsTold (reading_of asked) content → Means (reading_of asked) (told_files content) s text
 told_means asked content gave s text agrees means is =
     means_told (reading_of asked) content gave s text is (known_means asked content gave s text agrees means)
+
+-- what is promised at each status, of the command of the words
+pub record AnsweredBy (words : List (List ℕ)) (files : Files) (result : ℕ) (out err : Change) : Type 0 where
+  pub yes : result ≡ 0 → WritesMeant words files 0 out
+  pub no : result ≡ 1 → WritesMeant words files 1 out
+  pub refused : result ≡ 3 → SaysMeant words files 3 err
+  pub no_path : result ≡ 7 → SaysMeant words files 7 err
+  pub proves : result ≡ 0 → WritesProof words files out
+  pub part : result ≡ 5 → WritesPartMeant words files out
+
+at_each_status : (words : List (List ℕ)) (files : Files) (result : ℕ) (out err : Change) →
+    OfCommand words (λ command. Answered (reading_of command) files result out err) → AnsweredBy words files result out err
+at_each_status words files result out err of = record {
+  yes = λ is command named. (of command named).yes is;
+  no = λ is command named. (of command named).no is;
+  refused = λ is command named. (of command named).refused is;
+  no_path = λ is command named. (of command named).no_path is;
+  proves = λ is command named. (of command named).proves is;
+  part = λ is command named. (of command named).part is;
+}
 
 -- what reads gave, of any depot
 pub answer_given : (asked : Command) (words : List (List ℕ)) (content : List ℕ → Option (List ℕ)) (gave : List ℕ → ℕ → List ℕ → Type 0) (answer : Answer) (result : ℕ)
     (out err : Change) → IsAsked asked words → Agrees content gave → Delivered result answer out err →
-    Means (reading_of asked) (given gave) (status_of answer) (text_of answer) →
-    OfCommand words (λ command. Answered (reading_of command) (known gave content) result out err)
+    Means (reading_of asked) (given_files gave) (status_of answer) (answer_text answer) →
+    AnsweredBy words (known_files gave content) result out err
 answer_given asked words content gave answer result out err is agrees delivered means =
-    of_asked (λ k. Answered (reading_of k) (known gave content) result out err) asked words is
-    (answered (reading_of asked) (known gave content) answer result out err delivered
-    (λ text. proved (IsAnswer asked) (reading_of asked) (known gave content) text (sound asked))
-    (known_means asked content gave _ _ agrees means))
+    at_each_status words (known_files gave content) result out err (
+    of_asked (λ k. Answered (reading_of k) (known_files gave content) result out err) asked words is
+    (answered (reading_of asked) (known_files gave content) answer result out err delivered
+    (λ text. proved (MayAnswer asked) (reading_of asked) (known_files gave content) text (sound asked))
+    (known_means asked content gave _ _ agrees means)))
 
 pub refusal_given : (asked : Command) (words : List (List ℕ)) (content : List ℕ → Option (List ℕ)) (gave : List ℕ → ℕ → List ℕ → Type 0) (line : List ℕ)
-    (out err : Change) → IsAsked asked words → Agrees content gave → Says err line → Means (reading_of asked) (given gave) 3 line →
-    OfCommand words (λ command. Answered (reading_of command) (known gave content) 3 out err)
-refusal_given asked words content gave line out err is agrees says means =
-    of_asked (λ k. Answered (reading_of k) (known gave content) 3 out err) asked words is
-    (refused (reading_of asked) (known gave content) line out err says (known_means asked content gave 3 line agrees means))
+    (err : Change) → IsAsked asked words → Agrees content gave → Says err line → Means (reading_of asked) (given_files gave) 3 line →
+    SaysMeant words (known_files gave content) 3 err
+refusal_given asked words content gave line err is agrees says means =
+    of_asked (λ k. SaysSome (Means (reading_of k) (known_files gave content) 3) err) asked words is (line, known_means asked content gave 3 line agrees means, says)
 
 -- and of told files
 pub answer_told : (asked : Command) (words : List (List ℕ)) (content : List ℕ → Option (List ℕ)) (gave : List ℕ → ℕ → List ℕ → Type 0) (answer : Answer) (result : ℕ)
     (out err : Change) → IsAsked asked words → Agrees content gave → Delivered result answer out err →
-    Means (reading_of asked) (given gave) (status_of answer) (text_of answer) →
-    OfToldCommand words content (λ command. Answered (reading_of command) (told content) result out err)
+    Means (reading_of asked) (given_files gave) (status_of answer) (answer_text answer) →
+    OfToldCommand words content (λ command. Answered (reading_of command) (told_files content) result out err)
 answer_told asked words content gave answer result out err is agrees delivered means =
-    of_asked (λ k. IsTold (reading_of k) content → Answered (reading_of k) (told content) result out err) asked words is
-    (λ tells. answered (reading_of asked) (told content) answer result out err delivered
-    (λ text. proved (IsAnswer asked) (reading_of asked) (told content) text (sound asked))
+    of_asked (λ k. IsTold (reading_of k) content → Answered (reading_of k) (told_files content) result out err) asked words is
+    (λ tells. answered (reading_of asked) (told_files content) answer result out err delivered
+    (λ text. proved (MayAnswer asked) (reading_of asked) (told_files content) text (sound asked))
     (told_means asked content gave _ _ agrees means tells))
 
 pub refusal_told : (asked : Command) (words : List (List ℕ)) (content : List ℕ → Option (List ℕ)) (gave : List ℕ → ℕ → List ℕ → Type 0) (line : List ℕ)
-    (out err : Change) → IsAsked asked words → Agrees content gave → Says err line → Means (reading_of asked) (given gave) 3 line →
-    OfToldCommand words content (λ command. Answered (reading_of command) (told content) 3 out err)
+    (out err : Change) → IsAsked asked words → Agrees content gave → Says err line → Means (reading_of asked) (given_files gave) 3 line →
+    OfToldCommand words content (λ command. Answered (reading_of command) (told_files content) 3 out err)
 refusal_told asked words content gave line out err is agrees says means =
-    of_asked (λ k. IsTold (reading_of k) content → Answered (reading_of k) (told content) 3 out err) asked words is
-    (λ tells. refused (reading_of asked) (told content) line out err says (told_means asked content gave 3 line agrees means tells))
+    of_asked (λ k. IsTold (reading_of k) content → Answered (reading_of k) (told_files content) 3 out err) asked words is
+    (λ tells. refused (reading_of asked) (told_files content) line out err says (told_means asked content gave 3 line agrees means tells))
 
 -- no answer has the status of a refusal
 no_refusal : (answer : Answer) → status_of answer ≢ 3
@@ -83,82 +103,82 @@ no_refusal (NoPath line) is = omega (arith, is)
 -- the form of an answer
 pub answer_form : (asked : Command) (words : List (List ℕ)) (gave : List ℕ → ℕ → List ℕ → Type 0) (answer : Answer) (result : ℕ)
     (out err : Change) → IsAsked asked words → Delivered result answer out err →
-    Means (reading_of asked) (given gave) (status_of answer) (text_of answer) → OfCommand words (λ command. HasForm command result out err)
+    Means (reading_of asked) (given_files gave) (status_of answer) (answer_text answer) → OfCommand words (λ command. HasForm command result out err)
 answer_form asked words gave answer result out err is delivered means =
     of_asked (λ k. HasForm k result out err) asked words is
-    (has_form asked answer result out err delivered (formed (IsAnswer asked) (reading_of asked) (given gave) _ _ (sound asked) (no_refusal answer) means))
+    (has_form asked answer result out err delivered (formed (MayAnswer asked) (reading_of asked) (given_files gave) _ _ (sound asked) (no_refusal answer) means))
 
 -- the status that is meant
-one_status : (asked : Command) (content : List ℕ → Option (List ℕ)) (s status : ℕ) (text : List ℕ) → Means (reading_of asked) (told content) s text →
-    MeansStatus (reading_of asked) (told content) status → s ≡ status
+one_status : (asked : Command) (content : List ℕ → Option (List ℕ)) (s status : ℕ) (text : List ℕ) → Means (reading_of asked) (told_files content) s text →
+    MeansStatus (reading_of asked) (told_files content) status → s ≡ status
 one_status asked content s status text means is =
-    status_once (IsAnswer asked) (reading_of asked) content s status (regular asked) (sound asked)
-    (status_of_text (IsAnswer asked) (reading_of asked) (told content) s text (sound asked) means) is
+    status_once (MayAnswer asked) (reading_of asked) content s status (regular asked) (sound asked)
+    (status_of_text (MayAnswer asked) (reading_of asked) (told_files content) s text (sound asked) means) is
 
 pub answer_exact : (asked : Command) (words : List (List ℕ)) (content : List ℕ → Option (List ℕ)) (gave : List ℕ → ℕ → List ℕ → Type 0) (answer : Answer) (result : ℕ)
     (out err : Change) → IsAsked asked words → Agrees content gave → Delivered result answer out err →
-    Means (reading_of asked) (given gave) (status_of answer) (text_of answer) →
-    OfToldCommand words content (λ command. (status : ℕ) → MeansStatus (reading_of command) (told content) status →
+    Means (reading_of asked) (given_files gave) (status_of answer) (answer_text answer) →
+    OfToldCommand words content (λ command. (status : ℕ) → MeansStatus (reading_of command) (told_files content) status →
     IsOrFails result status)
 answer_exact asked words content gave answer result out err is agrees delivered means =
-    of_asked (λ k. IsTold (reading_of k) content → (status : ℕ) → MeansStatus (reading_of k) (told content) status →
+    of_asked (λ k. IsTold (reading_of k) content → (status : ℕ) → MeansStatus (reading_of k) (told_files content) status →
     IsOrFails result status) asked words is
     (λ tells status meant. exact answer result status out err delivered
     (one_status asked content _ status _ (told_means asked content gave _ _ agrees means tells) meant))
 
 pub refusal_exact : (asked : Command) (words : List (List ℕ)) (content : List ℕ → Option (List ℕ)) (gave : List ℕ → ℕ → List ℕ → Type 0) (line : List ℕ) →
-    IsAsked asked words → Agrees content gave → Means (reading_of asked) (given gave) 3 line →
-    OfToldCommand words content (λ command. (status : ℕ) → MeansStatus (reading_of command) (told content) status →
+    IsAsked asked words → Agrees content gave → Means (reading_of asked) (given_files gave) 3 line →
+    OfToldCommand words content (λ command. (status : ℕ) → MeansStatus (reading_of command) (told_files content) status →
     IsOrFails 3 status)
 refusal_exact asked words content gave line is agrees means =
-    of_asked (λ k. IsTold (reading_of k) content → (status : ℕ) → MeansStatus (reading_of k) (told content) status →
+    of_asked (λ k. IsTold (reading_of k) content → (status : ℕ) → MeansStatus (reading_of k) (told_files content) status →
     IsOrFails 3 status) asked words is
     (λ tells status meant. inl (one_status asked content 3 status line (told_means asked content gave 3 line agrees means tells) meant))
 
 -- and its text
 pub answer_complete : (asked : Command) (words : List (List ℕ)) (content : List ℕ → Option (List ℕ)) (gave : List ℕ → ℕ → List ℕ → Type 0) (Fails : List ℕ → Type 0)
     (answer : Answer) (result : ℕ) (out err : Change) → IsAsked asked words → Agrees content gave → Delivered result answer out err →
-    Means (reading_of asked) (given gave) (status_of answer) (text_of answer) →
-    OfToldCommand words content (λ command. (status : ℕ) → MeansStatus (reading_of command) (told content) status →
-    ¬ ReadFailed (reading_of command) (told content) Fails → ¬ Rose out.before out.now →
-    GivesOrMemory result out status (Means (reading_of command) (told content) status))
+    Means (reading_of asked) (given_files gave) (status_of answer) (answer_text answer) →
+    OfToldCommand words content (λ command. (status : ℕ) → MeansStatus (reading_of command) (told_files content) status →
+    ¬ ReadFailed (reading_of command) (told_files content) Fails → ¬ Rose out.before out.now →
+    GivesOrMemory result out status (Means (reading_of command) (told_files content) status))
 answer_complete asked words content gave Fails answer result out err is agrees delivered means =
-    of_asked (λ k. IsTold (reading_of k) content → (status : ℕ) → MeansStatus (reading_of k) (told content) status →
-    ¬ ReadFailed (reading_of k) (told content) Fails → ¬ Rose out.before out.now →
-    GivesOrMemory result out status (Means (reading_of k) (told content) status)) asked words is
+    of_asked (λ k. IsTold (reading_of k) content → (status : ℕ) → MeansStatus (reading_of k) (told_files content) status →
+    ¬ ReadFailed (reading_of k) (told_files content) Fails → ¬ Rose out.before out.now →
+    GivesOrMemory result out status (Means (reading_of k) (told_files content) status)) asked words is
     (λ tells status meant unread steady.
     let at = told_means asked content gave _ _ agrees means tells in
-    complete (Means (reading_of asked) (told content)) answer result status out err delivered (one_status asked content _ status _ at meant) at steady)
+    complete (Means (reading_of asked) (told_files content)) answer result status out err delivered (one_status asked content _ status _ at meant) at steady)
 
 pub refusal_complete : (asked : Command) (words : List (List ℕ)) (content : List ℕ → Option (List ℕ)) (gave : List ℕ → ℕ → List ℕ → Type 0) (Fails : List ℕ → Type 0)
-    (line : List ℕ) (out : Change) → IsAsked asked words → Agrees content gave → Means (reading_of asked) (given gave) 3 line →
-    OfToldCommand words content (λ command. (status : ℕ) → MeansStatus (reading_of command) (told content) status →
-    ¬ ReadFailed (reading_of command) (told content) Fails → ¬ Rose out.before out.now →
-    GivesOrMemory 3 out status (Means (reading_of command) (told content) status))
+    (line : List ℕ) (out : Change) → IsAsked asked words → Agrees content gave → Means (reading_of asked) (given_files gave) 3 line →
+    OfToldCommand words content (λ command. (status : ℕ) → MeansStatus (reading_of command) (told_files content) status →
+    ¬ ReadFailed (reading_of command) (told_files content) Fails → ¬ Rose out.before out.now →
+    GivesOrMemory 3 out status (Means (reading_of command) (told_files content) status))
 refusal_complete asked words content gave Fails line out is agrees means =
-    of_asked (λ k. IsTold (reading_of k) content → (status : ℕ) → MeansStatus (reading_of k) (told content) status →
-    ¬ ReadFailed (reading_of k) (told content) Fails → ¬ Rose out.before out.now →
-    GivesOrMemory 3 out status (Means (reading_of k) (told content) status)) asked words is
+    of_asked (λ k. IsTold (reading_of k) content → (status : ℕ) → MeansStatus (reading_of k) (told_files content) status →
+    ¬ ReadFailed (reading_of k) (told_files content) Fails → ¬ Rose out.before out.now →
+    GivesOrMemory 3 out status (Means (reading_of k) (told_files content) status)) asked words is
     (λ tells status meant unread steady.
     let at = one_status asked content 3 status line (told_means asked content gave 3 line agrees means tells) meant in
     inl (at, λ small. absurd (omega (arith, at, small))))
 
 -- a failed read
 pub failed_given : (asked : Command) (words : List (List ℕ)) (content : List ℕ → Option (List ℕ)) (gave : List ℕ → ℕ → List ℕ → Type 0) (Fails : List ℕ → Type 0) →
-    IsAsked asked words → Agrees content gave → ReadFailed (reading_of asked) (given gave) Fails →
-    OfCommand words (λ command. ReadFailed (reading_of command) (known gave content) Fails)
+    IsAsked asked words → Agrees content gave → ReadFailed (reading_of asked) (given_files gave) Fails →
+    OfCommand words (λ command. ReadFailed (reading_of command) (known_files gave content) Fails)
 failed_given asked words content gave Fails is agrees failed =
-    of_asked (λ k. ReadFailed (reading_of k) (known gave content) Fails) asked words is
-    (failed_along (reading_of asked) (given gave) (known gave content) Fails (given_is_known content gave agrees) failed)
+    of_asked (λ k. ReadFailed (reading_of k) (known_files gave content) Fails) asked words is
+    (failed_along (reading_of asked) (given_files gave) (known_files gave content) Fails (given_is_known content gave agrees) failed)
 
 pub failed_complete : (asked : Command) (words : List (List ℕ)) (content : List ℕ → Option (List ℕ)) (gave : List ℕ → ℕ → List ℕ → Type 0) (Fails : List ℕ → Type 0)
-    (out : Change) → IsAsked asked words → Agrees content gave → ReadFailed (reading_of asked) (given gave) Fails →
-    OfToldCommand words content (λ command. (status : ℕ) → MeansStatus (reading_of command) (told content) status →
-    ¬ ReadFailed (reading_of command) (told content) Fails → ¬ Rose out.before out.now →
-    GivesOrMemory 4 out status (Means (reading_of command) (told content) status))
+    (out : Change) → IsAsked asked words → Agrees content gave → ReadFailed (reading_of asked) (given_files gave) Fails →
+    OfToldCommand words content (λ command. (status : ℕ) → MeansStatus (reading_of command) (told_files content) status →
+    ¬ ReadFailed (reading_of command) (told_files content) Fails → ¬ Rose out.before out.now →
+    GivesOrMemory 4 out status (Means (reading_of command) (told_files content) status))
 failed_complete asked words content gave Fails out is agrees failed =
-    of_asked (λ k. IsTold (reading_of k) content → (status : ℕ) → MeansStatus (reading_of k) (told content) status →
-    ¬ ReadFailed (reading_of k) (told content) Fails → ¬ Rose out.before out.now →
-    GivesOrMemory 4 out status (Means (reading_of k) (told content) status)) asked words is
+    of_asked (λ k. IsTold (reading_of k) content → (status : ℕ) → MeansStatus (reading_of k) (told_files content) status →
+    ¬ ReadFailed (reading_of k) (told_files content) Fails → ¬ Rose out.before out.now →
+    GivesOrMemory 4 out status (Means (reading_of k) (told_files content) status)) asked words is
     (λ tells status meant unread steady. absurd (unread (failed_told (reading_of asked) content gave Fails tells
-    (failed_along (reading_of asked) (given gave) (known gave content) Fails (given_is_known content gave agrees) failed))))
+    (failed_along (reading_of asked) (given_files gave) (known_files gave content) Fails (given_is_known content gave agrees) failed))))

@@ -4,12 +4,12 @@ use Rattle.te_model.specs.declared.certificate.Certificate.{Certificate}
 use Rattle.te_model.specs.declared.demand.DemandSet.{DemandSet}
 use Rattle.te_model.specs.declared.demand.DemandSet.TheVariants.{All, Margin, Box}
 use Rattle.te_model.specs.Text.{Spells, text as text_of}
-use Rattle.te_model.specs.Upgrade.{box_of, upgraded}
+use Rattle.te_model.specs.Upgrade.{box_of, upgraded_certificate}
 use Rattle.te_model.proofs.UpgradeValid.{valid_kept}
 use Rattle.text_size.proofs.ValidSizes.{fits_file}
 use Rattle.te_command.specs.Convert.{conversion_of}
 use Rattle.te_command.specs.Form.{IsConverted}
-use Rattle.te_command.proofs.Ending.{IsSound, HasOneText}
+use Rattle.te_command.proofs.Ending.{IsSound, HasOneText, HasText}
 
 box_once : (set : DemandSet) → box_of (box_of set) ≡ box_of set
 box_once All = refl
@@ -22,23 +22,23 @@ with_set c set = record {
   blocks = c.blocks;
 }
 
-upgraded_once : (c : Certificate) → upgraded (upgraded c) ≡ upgraded c
+upgraded_once : (c : Certificate) → upgraded_certificate (upgraded_certificate c) ≡ upgraded_certificate c
 unfolding with_set
 upgraded_once c = ap (with_set c) (box_once c.head.set)
 
-pub spells_upgraded : (c : Certificate) (bytes file : List ℕ) → Spells bytes c → file ≡ text_of (upgraded c) → Spells file (upgraded c)
+pub spells_upgraded : (c : Certificate) (bytes file : List ℕ) → Spells bytes c → file ≡ text_of (upgraded_certificate c) → Spells file (upgraded_certificate c)
 spells_upgraded c bytes file spells is = (valid_kept c spells.0, is)
 
-is_converted : (c : Certificate) (bytes file : List ℕ) → Spells bytes c → file ≡ text_of (upgraded c) → IsConverted file
+is_converted : (c : Certificate) (bytes file : List ℕ) → Spells bytes c → file ≡ text_of (upgraded_certificate c) → IsConverted file
 is_converted c bytes file spells is =
     let spelled = spells_upgraded c bytes file spells is in
-    let fits = fits_file file (upgraded c) spelled in
+    let fits = fits_file file (upgraded_certificate c) spelled in
     record {
       fits = fits;
-      certificate = upgraded c;
+      certificate = upgraded_certificate c;
       spelled = spelled;
       format = refl;
-      answer = λ name. inr (upgraded c, (file, refl, fits, spelled), (refl, is ∙ ap text_of (sym (upgraded_once c))));
+      answer = λ name. inr (upgraded_certificate c, (file, refl, fits, spelled), (refl, is ∙ ap text_of (sym (upgraded_once c))));
     }
 
 pub conversion_sound : (bytes : List ℕ) (c : Certificate) → Spells bytes c → IsSound (λ s file. (s ≡ 0) × IsConverted file) (conversion_of c)
@@ -51,5 +51,8 @@ conversion_sound bytes c spells = record {
   accepted = λ file is. omega (arith, is.0);
 }
 
-pub conversion_text : (c : Certificate) → HasOneText (conversion_of c)
-conversion_text c = record { some = (0, text_of (upgraded c), (refl, refl)); once = λ s t x y p q. p.1 ∙ sym q.1 }
+pub conversion_text : (c : Certificate) → HasText (conversion_of c)
+conversion_text c = (0, text_of (upgraded_certificate c), (refl, refl))
+
+pub conversion_once : (c : Certificate) → HasOneText (conversion_of c)
+conversion_once c = λ s t x y p q. p.1 ∙ sym q.1

@@ -7,9 +7,9 @@ use Rattle.te_command.specs.declared.answer.Answer.TheVariants.{Done, No, NoPath
 use Rattle.te_command.specs.Files.{Files}
 use Rattle.te_command.specs.Reading.{Reading, Means, Proves}
 use Rattle.te_command.specs.Commands.{Command}
-use Rattle.te_command.specs.Outcome.{status_of, text_of}
+use Rattle.te_command.specs.Outcome.{status_of, answer_text}
 use Rattle.te_command.specs.Run.{Change, Says, SaysSome, Writes, WritesPart, Answered, HasForm, IsOrFails, GivesOrMemory, Written, message}
-use Rattle.te_command.specs.Form.{IsAnswer}
+use Rattle.te_command.specs.Form.{MayAnswer}
 
 -- the statuses of what was delivered
 abbrev pub IsForm : ℕ → Type 0
@@ -19,9 +19,9 @@ IsForm result = (result ≤ 1) ⊎ (result ≡ 5) ⊎ (result ≡ 7)
 pub record Delivered (result : ℕ) (answer : Answer) (out err : Change) : Type 0 where
   pub status : (result ≡ status_of answer) ⊎ ((result ≡ 5) × (status_of answer ≤ 1))
   pub form : IsForm result
-  pub whole : result ≤ 1 → out.new ≡ append_known out.old (text_of answer)
-  pub part : result ≡ 5 → AppendsPart out.old out.new (text_of answer)
-  pub named : result ≡ 7 → Says err (text_of answer)
+  pub whole : result ≤ 1 → out.new ≡ append_known out.old (answer_text answer)
+  pub part : result ≡ 5 → AppendsPart out.old out.new (answer_text answer)
+  pub named : result ≡ 7 → Says err (answer_text answer)
   pub write : result ≡ 5 → Rose out.before out.now
 
 pub other_status : (result status : ℕ) → IsForm result → 2 ≤ status → status ≢ 5 → status ≢ 7 → result ≡ status → ⊥
@@ -35,25 +35,25 @@ status_is result answer (inr failed) other = absurd (other failed.0)
 
 -- the answer has the meaning of the status that was given
 at_status : (P : ℕ → List ℕ → Type 0) (answer : Answer) (result status : ℕ) (out err : Change) → Delivered result answer out err → result ≡ status → result ≢ 5 →
-    P (status_of answer) (text_of answer) → P status (text_of answer)
+    P (status_of answer) (answer_text answer) → P status (answer_text answer)
 at_status P answer result status out err delivered is other meant =
-    subst (λ (n : ℕ). P n (text_of answer)) (status_is result answer delivered.status other ∙ is) meant
+    subst (λ (n : ℕ). P n (answer_text answer)) (status_is result answer delivered.status other ∙ is) meant
 
 -- the text of that meaning was written
 written : (P : ℕ → List ℕ → Type 0) (answer : Answer) (result status : ℕ) (out err : Change) → Delivered result answer out err →
-    P (status_of answer) (text_of answer) → status ≤ 1 → result ≡ status → Writes (P status) out
+    P (status_of answer) (answer_text answer) → status ≤ 1 → result ≡ status → Writes (P status) out
 written P answer result status out err delivered meant small is =
-    (text_of answer, at_status P answer result status out err delivered is (λ five. absurd (omega arith)) meant, delivered.whole (omega arith))
+    (answer_text answer, at_status P answer result status out err delivered is (λ five. absurd (omega arith)) meant, delivered.whole (omega arith))
 
 -- the message of that meaning was said
 said : (P : ℕ → List ℕ → Type 0) (answer : Answer) (result : ℕ) (out err : Change) → Delivered result answer out err →
-    P (status_of answer) (text_of answer) → result ≡ 7 → SaysSome (P 7) err
+    P (status_of answer) (answer_text answer) → result ≡ 7 → SaysSome (P 7) err
 said P answer result out err delivered meant is =
-    (text_of answer, at_status P answer result 7 out err delivered is (λ five. absurd (omega arith)) meant, delivered.named is)
+    (answer_text answer, at_status P answer result 7 out err delivered is (λ five. absurd (omega arith)) meant, delivered.named is)
 
 -- a part of the text of a yes or a no was written
 part_written : (P : ℕ → List ℕ → Type 0) (answer : Answer) (result : ℕ) (out : Change) → (result ≡ status_of answer) ⊎ ((result ≡ 5) × (status_of answer ≤ 1)) →
-    P (status_of answer) (text_of answer) → result ≡ 5 → AppendsPart out.old out.new (text_of answer) → WritesPart (λ text. P 0 text ⊎ P 1 text) out
+    P (status_of answer) (answer_text answer) → result ≡ 5 → AppendsPart out.old out.new (answer_text answer) → WritesPart (λ text. P 0 text ⊎ P 1 text) out
 part_written P (Done text) result out status meant is part = (text.items, inl meant, part)
 part_written P (No line) result out status meant is part = (line.items, inr meant, part)
 part_written P (NoPath line) result out (inl seven) meant is part = absurd (omega arith)
@@ -61,7 +61,7 @@ part_written P (NoPath line) result out (inr failed) meant is part = absurd (ome
 
 -- an answer that the files mean
 pub answered : (r : Reading) (files : Files) (answer : Answer) (result : ℕ) (out err : Change) → Delivered result answer out err →
-    ((text : List ℕ) → Means r files 0 text → Proves r files text) → Means r files (status_of answer) (text_of answer) → Answered r files result out err
+    ((text : List ℕ) → Means r files 0 text → Proves r files text) → Means r files (status_of answer) (answer_text answer) → Answered r files result out err
 answered r files answer result out err delivered proves meant = record {
   yes = λ is. written (Means r files) answer result 0 out err delivered meant (omega arith) is;
   no = λ is. written (Means r files) answer result 1 out err delivered meant (omega arith) is;
@@ -86,10 +86,10 @@ refused r files line out err says meant = record {
 
 -- an answer of the command's form
 pub has_form : (command : Command) (answer : Answer) (result : ℕ) (out err : Change) → Delivered result answer out err →
-    IsAnswer command (status_of answer) (text_of answer) → HasForm command result out err
+    MayAnswer command (status_of answer) (answer_text answer) → HasForm command result out err
 has_form command answer result out err delivered form = record {
-  written = λ small. written (IsAnswer command) answer result result out err delivered form small refl;
-  named = λ is. said (IsAnswer command) answer result out err delivered form is;
+  written = λ small. written (MayAnswer command) answer result result out err delivered form small refl;
+  named = λ is. said (MayAnswer command) answer result out err delivered form is;
 }
 
 -- the status is the one that is meant, unless a write failed
@@ -103,7 +103,7 @@ exact answer result status out err delivered same = go delivered.status
 
 -- and its text was written whole
 pub complete : (P : ℕ → List ℕ → Type 0) (answer : Answer) (result status : ℕ) (out err : Change) → Delivered result answer out err → status_of answer ≡ status →
-    P (status_of answer) (text_of answer) → ¬ Rose out.before out.now → GivesOrMemory result out status (P status)
+    P (status_of answer) (answer_text answer) → ¬ Rose out.before out.now → GivesOrMemory result out status (P status)
 complete P answer result status out err delivered same meant steady = go delivered.status
   where
     go : (result ≡ status_of answer) ⊎ ((result ≡ 5) × (status_of answer ≤ 1)) → GivesOrMemory result out status (P status)

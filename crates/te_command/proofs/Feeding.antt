@@ -9,14 +9,14 @@ use Rattle.te_model.specs.Validity.{follows}
 use Rattle.block_reader.specs.declared.block_reader.BlockReader.{BlockReader}
 use Rattle.block_reader.specs.declared.stream_fault.StreamFault.{StreamFault}
 use Rattle.block_reader.specs.declared.stream_fault.StreamFault.TheVariants as faults
-use Rattle.block_reader.specs.Blocks.{HasRead, IsTextOf, name_of, block_of, last_link}
+use Rattle.block_reader.specs.Blocks.{HasRead, IsTextOf, name_of, lent_block, last_link}
 use Rattle.ratio_checker.specs.declared.feed.Feed.{Feed}
 use Rattle.ratio_checker.specs.Feeds.{StandsFor, next_link}
 use Rattle.te_command.specs.declared.answer.Fault.{Fault}
 use Rattle.te_command.specs.declared.answer.Fault.TheVariants.{Refused, Read, Memory}
 use Rattle.te_command.specs.CertificateFile.{certificates, shape_reason, rule_reason}
 use Rattle.te_ports.specs.Shown.{Shown}
-use Rattle.te_command.specs.Outcome.{Reads, ReadsFile, OnRead}
+use Rattle.te_command.specs.Outcome.{KeepsDepot, ReadsFile, OnRead}
 use Rattle.te_command.specs.Blocks.{IsFed, IsFedWhole, ReadsOn, IsAnswerTo, FeedsFile, link_after}
 use Rattle.te_command.proofs.Following.{both}
 
@@ -31,21 +31,21 @@ pub record StandsFed (file : List ℕ) (old new : Shown) (reader : BlockReader) 
   pub fed : IsFed (new.gave file) reader feed head blocks
   pub named : name_of reader ≡ file
   pub steady : new.faults ≡ old.faults
-  pub may : Reads old new
+  pub may : KeepsDepot old new
 
 -- the same after one block more
 pub fed_more : (file : List ℕ) (old mid new : Shown) (reader next : BlockReader) (feed more : Feed) (block : Block) →
     StandsFed file old mid reader feed →
     ((head : Head) (blocks : List Block) → HasRead (mid.gave (name_of reader)) reader head blocks →
-    HasRead (new.gave (name_of reader)) next head (blocks ++ block_of next ∷ [])) →
+    HasRead (new.gave (name_of reader)) next head (blocks ++ lent_block next ∷ [])) →
     ((head : Head) (blocks : List Block) → StandsFor feed head blocks → StandsFor more head (blocks ++ block ∷ [])) →
-    block ≡ block_of next → last_link next ≡ Some (block_of next).link → next_link more ≡ block.link + 1 →
-    name_of next ≡ name_of reader → new.faults ≡ mid.faults → Reads mid new → StandsFed file old new next more
+    block ≡ lent_block next → last_link next ≡ Some (lent_block next).link → next_link more ≡ block.link + 1 →
+    name_of next ≡ name_of reader → new.faults ≡ mid.faults → KeepsDepot mid new → StandsFed file old new next more
 fed_more file old mid new reader next feed more block s handed given same last follows named steady may = record {
   head = s.head;
-  blocks = s.blocks ++ block_of next ∷ [];
+  blocks = s.blocks ++ lent_block next ∷ [];
   fed = record {
-    read = subst (λ f. HasRead (new.gave f) next s.head (s.blocks ++ block_of next ∷ [])) s.named
+    read = subst (λ f. HasRead (new.gave f) next s.head (s.blocks ++ lent_block next ∷ [])) s.named
         (handed s.head s.blocks (subst (λ f. HasRead (mid.gave f) reader s.head s.blocks) (sym s.named) s.fed.read));
     fed = subst (λ b. StandsFor more s.head (s.blocks ++ b ∷ [])) same (given s.head s.blocks s.fed.fed);
     next = follows ∙ ap (λ b. b.link + 1) same ∙ sym (ap link_after last);
@@ -56,14 +56,14 @@ fed_more file old mid new reader next feed more block s handed given same last f
 }
 
 -- the block is above those before it
-pub may_follow : (reader next : BlockReader) (feed : Feed) (block : Block) → next_link feed ≡ link_after (last_link reader) → block ≡ block_of next →
-    IsTrue (follows (last_link reader) (block_of next).link) → next_link feed ≤ block.link
+pub may_follow : (reader next : BlockReader) (feed : Feed) (block : Block) → next_link feed ≡ link_after (last_link reader) → block ≡ lent_block next →
+    IsTrue (follows (last_link reader) (lent_block next).link) → next_link feed ≤ block.link
 may_follow reader next feed block at same above =
-    rw (at, same) (follows_after (last_link reader) (block_of next).link above)
+    rw (at, same) (follows_after (last_link reader) (lent_block next).link above)
 
 -- the file was read to its end
 pub fed_on : (file : List ℕ) (old mid new : Shown) (reader : BlockReader) (feed : Feed) → StandsFed file old mid reader feed →
-    new.faults ≡ mid.faults → Reads mid new → ReadsOn {A = Unit {0}} file old new (Ok tt)
+    new.faults ≡ mid.faults → KeepsDepot mid new → ReadsOn {A = Unit {0}} file old new (Ok tt)
 fed_on file old mid new reader feed s steady may = record {
   refused = λ fault is. absurd (cc);
   failed = λ is. absurd (cc);
@@ -85,7 +85,7 @@ fed_whole file old mid new reader feed s whole = (
 )
 
 -- which is what the file gives
-pub fed_file : (file name : List ℕ) (old mid new : Shown) (feed : Feed) → name ≡ file → mid.faults ≡ old.faults → Reads old mid →
+pub fed_file : (file name : List ℕ) (old mid new : Shown) (feed : Feed) → name ≡ file → mid.faults ≡ old.faults → KeepsDepot old mid →
     ReadsOn {A = Unit {0}} name mid new (Ok tt) → IsFedWhole (new.gave name) feed → FeedsFile file old new (Ok feed)
 fed_file file name old mid new feed named steady may on whole =
     let text = subst (λ f. IsTextOf (new.gave f) whole.0 whole.1) named whole.3 in (
@@ -137,7 +137,7 @@ refuses file old new (faults.Rule rule) Memory on is =
 
 -- the same where the file was read before, under the same name, and no read failed
 pub refuses_later : {A : Type 0} (file name : List ℕ) (old mid new : Shown) (fault : StreamFault) (answer : Fault) → name ≡ file →
-    mid.faults ≡ old.faults → Reads old mid → ReadsOn {A = A} name mid new (Err fault) → IsAnswerTo file fault answer →
+    mid.faults ≡ old.faults → KeepsDepot old mid → ReadsOn {A = A} name mid new (Err fault) → IsAnswerTo file fault answer →
     ReadsFile certificates file old new (Err answer)
 refuses_later {A} file name old mid new fault answer named steady may on is =
     let here = subst (λ f. ReadsOn {A = A} f mid new (Err fault)) named on in

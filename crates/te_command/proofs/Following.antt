@@ -6,14 +6,14 @@ use Rattle.te_ports.proofs.Giving.{read_kept}
 use Rattle.te_command.specs.declared.answer.Answer.{Answer}
 use Rattle.te_command.specs.declared.answer.Fault.{Fault}
 use Rattle.te_command.specs.declared.answer.Fault.TheVariants.{Refused, Read, Memory}
-use Rattle.te_command.specs.Files.{Files, given}
+use Rattle.te_command.specs.Files.{Files, given_files}
 use Rattle.te_command.specs.Reading.{Kind, Answers, Reading, answers, reads, GivesIn, Means, ReadFailed}
 use Rattle.te_ports.specs.Shown.{Shown}
-use Rattle.te_command.specs.Outcome.{Reads, ReadsFile, Meant, OnRead, Follows, status_of, text_of}
+use Rattle.te_command.specs.Outcome.{KeepsDepot, ReadsFile, Meant, OnRead, Follows, status_of, answer_text}
 
 -- what a file gave it still gives
 pub gives_kept : (A : Type 0) (kind : Kind A) (file : List ℕ) (value : A) (old new : Shown) → Grows old.gave new.gave →
-    GivesIn kind (given old.gave) file value → GivesIn kind (given new.gave) file value
+    GivesIn kind (given_files old.gave) file value → GivesIn kind (given_files new.gave) file value
 gives_kept A kind file value old new grows (bytes, read, few, gives) =
     (bytes, read_kept (old.gave file) (new.gave file) bytes (grows file) read, few, gives)
 
@@ -33,10 +33,10 @@ failed_on A kind file next value files Fails (Err Read) gives failed = inr (valu
 failed_on A kind file next value files Fails (Err Memory) gives failed = tt
 
 -- a call after which nothing changed, and one call after another
-pub no_change : (s : Shown) → Reads s s
+pub no_change : (s : Shown) → KeepsDepot s s
 no_change s = record { kept = λ name at bytes is. is; later = λ file. omega arith; content = refl }
 
-pub both : (old mid new : Shown) → Reads old mid → Reads mid new → Reads old new
+pub both : (old mid new : Shown) → KeepsDepot old mid → KeepsDepot mid new → KeepsDepot old new
 both old mid new a b = record {
   kept = λ name at bytes is. b.kept name at bytes (a.kept name at bytes is);
   later = λ file. let x = a.later file in let y = b.later file in omega arith;
@@ -44,11 +44,11 @@ both old mid new a b = record {
 }
 
 -- what follows after a call that was no failed read follows from before it
-pub after : (r : Reading) (old mid new : Shown) (result : Result Answer Fault) → Reads old mid → mid.faults ≡ old.faults → Follows r mid new result →
+pub after : (r : Reading) (old mid new : Shown) (result : Result Answer Fault) → KeepsDepot old mid → mid.faults ≡ old.faults → Follows r mid new result →
     Follows r old new result
 after r old mid new result may same rest = record {
   means = rest.means;
-  failed = subst (λ (b : List ℕ → ℕ). OnRead result (ReadFailed r (given new.gave) (λ f. Rose (b f) (new.faults f)))) same rest.failed;
+  failed = subst (λ (b : List ℕ → ℕ). OnRead result (ReadFailed r (given_files new.gave) (λ f. Rose (b f) (new.faults f)))) same rest.failed;
   steady = λ other. rest.steady other ∙ same;
   may = both old mid new may rest.may;
 }
@@ -60,8 +60,8 @@ goes_on A kind file next value old mid new result read rest =
     let still = gives_kept A kind file value mid new rest.may.kept read.reads in
     let on = after (next value) old mid new result read.may (read.steady (λ e. cc)) rest in
     record {
-      means = meant_on A kind file next value (given new.gave) result still on.means;
-      failed = failed_on A kind file next value (given new.gave) (λ f. Rose (old.faults f) (new.faults f)) result still on.failed;
+      means = meant_on A kind file next value (given_files new.gave) result still on.means;
+      failed = failed_on A kind file next value (given_files new.gave) (λ f. Rose (old.faults f) (new.faults f)) result still on.failed;
       steady = on.steady;
       may = on.may;
     }
@@ -75,7 +75,7 @@ stops A kind file next old new Read read = record { means = tt; failed = inl rea
 stops A kind file next old new Memory read = record { means = tt; failed = tt; steady = λ other. read.steady (λ e. cc); may = read.may }
 
 -- all files were read, and this is the answer, or memory was short for it
-pub ends : (a : Answers) (s : Shown) (answer : Answer) → a.text (status_of answer) (text_of answer) → Follows (answers a) s s (Ok answer)
+pub ends : (a : Answers) (s : Shown) (answer : Answer) → a.text (status_of answer) (answer_text answer) → Follows (answers a) s s (Ok answer)
 ends a s answer is = record { means = is; failed = tt; steady = λ other. refl; may = no_change s }
 
 pub falls_short : (r : Reading) (s : Shown) → Follows r s s (Err Memory)

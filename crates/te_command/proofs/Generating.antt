@@ -7,10 +7,10 @@ use Rattle.std.proofs.lemmas.Bool.{and_parts, lt-ltb, ltb-true}
 use Rattle.std.proofs.lemmas.Fmt.{decimal_is_IsNumeral, parse-decimal}
 use Rattle.std.proofs.lemmas.Option.{same_Some}
 use Rattle.std.proofs.lemmas.Slice.Eq.{bytes_eq-Decides}
-use Rattle.te_command.specs.Generate.{number_of}
+use Rattle.te_command.specs.Generate.{decimal_number}
 
 -- the word is the decimal of no number
-number_none : (word : List ℕ) → ((n : ℕ) → n < 2 ^ 64 → decimal n ≢ word) → None ≡ number_of word
+number_none : (word : List ℕ) → ((n : ℕ) → n < 2 ^ 64 → decimal n ≢ word) → None ≡ decimal_number word
 number_none word none = go (nat_lt value (2 ^ 64) && bytes_eq (decimal value) word) refl
   where
     value : ℕ
@@ -35,17 +35,17 @@ module _ {E : Type 0} (word : List ℕ) (r : Result ℕ E) (parses : ParsesUnsig
   read_of n low is = ap result_ok (parse-decimal 64 n word r low low (sym is) parses)
 
   -- it is the decimal of the number
-  pub same_read : (n : ℕ) → Some n ≡ result_ok r → bytes_eq (decimal n) word ≡ true → Some n ≡ number_of word
+  pub same_read : (n : ℕ) → Some n ≡ result_ok r → bytes_eq (decimal n) word ≡ true → Some n ≡ decimal_number word
   same_read n read same =
       let is : decimal n ≡ word = (bytes_eq-Decides (decimal n) word).0 same in
       let value : digits_value 10 word ≡ n = ap (digits_value 10) (sym is) ∙ (decimal_is_IsNumeral n (small n read)).1 in
       rw (value, lt-ltb n (2 ^ 64) (small n read), same) refl
 
   -- it is not, as where a sign or a zero stands before it
-  pub other_read : (n : ℕ) → Some n ≡ result_ok r → bytes_eq (decimal n) word ≡ false → None ≡ number_of word
+  pub other_read : (n : ℕ) → Some n ≡ result_ok r → bytes_eq (decimal n) word ≡ false → None ≡ decimal_number word
   other_read n read other =
       number_none word (λ m low is. grind (arith, sym other ∙ (bytes_eq-Decides (decimal n) word).1 (ap decimal (same_Some n m (read ∙ read_of m low is)) ∙ is)))
 
   -- no number was read
-  pub none_read : None ≡ result_ok r → None ≡ number_of word
+  pub none_read : None ≡ result_ok r → None ≡ decimal_number word
   none_read none = number_none word (λ m low is. grind (arith, none ∙ read_of m low is))

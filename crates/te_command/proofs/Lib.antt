@@ -12,3 +12,4 @@ pub mod Delivering
 pub mod Answering
 pub mod Refusing
 mod Generating
+mod Texts

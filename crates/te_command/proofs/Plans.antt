@@ -7,7 +7,7 @@ use Rattle.plan.specs.declared.experiment.Experiment.{Experiment}
 use Rattle.te_command.specs.declared.answer.Answer.{Answer}
 use Rattle.te_command.specs.declared.answer.Fault.{Fault}
 use Rattle.te_command.specs.declared.answer.Fault.TheVariants.{Refused, Read, Memory}
-use Rattle.te_command.specs.Files.{Files, given}
+use Rattle.te_command.specs.Files.{Files, given_files}
 use Rattle.te_command.specs.Reading.{Reading, answers, reads, Means, ReadFailed}
 use Rattle.te_command.specs.TopologyFile.{topologies}
 use Rattle.te_command.specs.MatrixFile.{matrices}
@@ -78,9 +78,9 @@ plan_failed file next files Fails (inr (p, gives, inr (n, makes, inr (s, demands
 pub plan_stops : (file : List ℕ) (next : Experiment → Network → Series → Reading) (old new : Shown) (fault : Fault) →
     Follows (with_plan file (λ plan network series. answers no_answer)) old new (Err fault) → Follows (with_plan file next) old new (Err fault)
 plan_stops file next old new (Refused line) follows =
-    record { means = plan_means file next (given new.gave) _ follows.means; failed = tt; steady = follows.steady; may = follows.may }
+    record { means = plan_means file next (given_files new.gave) _ follows.means; failed = tt; steady = follows.steady; may = follows.may }
 plan_stops file next old new Read follows =
-    record { means = tt; failed = plan_failed file next (given new.gave) _ follows.failed; steady = follows.steady; may = follows.may }
+    record { means = tt; failed = plan_failed file next (given_files new.gave) _ follows.failed; steady = follows.steady; may = follows.may }
 plan_stops file next old new Memory follows = record { means = tt; failed = tt; steady = follows.steady; may = follows.may }
 
 pub plan_goes_on : (file : List ℕ) (next : Experiment → Network → Series → Reading) (plan : Experiment) (network : Network) (series : Series)

@@ -34,10 +34,10 @@ use Rattle.te_command.specs.Generate.{summary_of}
 use Rattle.te_command.specs.Commands.{publish, run, generate, with_failures}
 use Rattle.te_command.specs.Form.{IsAnsweredYes}
 use Rattle.te_command.specs.Commands.{Command, check, check_network, convert, reading_of}
-use Rattle.te_command.specs.Form.{IsAnswer, IsOfCertificate}
+use Rattle.te_command.specs.Form.{MayAnswer, IsOfCertificate}
 use Rattle.te_command.proofs.Ending.{AtEnd, AreRegular, IsSound, HasOneText}
 use Rattle.te_command.proofs.Regular.{certificates_regular, inputs_regular}
-use Rattle.te_command.proofs.Converting.{conversion_sound, conversion_text}
+use Rattle.te_command.proofs.Converting.{conversion_once, conversion_sound}
 
 failure_once : (o : Option LinkFailure) (f g : LinkFailure) → o ≡ Some f → o ≡ Some g → f ≡ g
 failure_once o f g ef eg = cc
@@ -61,14 +61,14 @@ network_verdict_once c n s t a b (inr x) (inl y) = absurd (x.0 y.0)
 network_verdict_once c n s t a b (inr x) (inr y) = (x.1 ∙ sym y.1, x.2 ∙ sym y.2)
 
 -- there is one
-verdict_some : (c : Certificate) → (s : ℕ) × (text : List ℕ) × IsVerdict c s text
+pub verdict_some : (c : Certificate) → (s : ℕ) × (text : List ℕ) × IsVerdict c s text
 verdict_some c = go (first_failure c) refl
   where
     go : (o : Option LinkFailure) → first_failure c ≡ o → (s : ℕ) × (text : List ℕ) × IsVerdict c s text
     go None is = (0, yes_line c.head.ratio c.head.set, inl (refl, record { holds = is; line_is = refl }))
     go (Some f) is = (1, no_line f.link f.rule f.place, inr (refl, record { failure = f; fails = is; line_is = refl }))
 
-network_verdict_some : (c : Certificate) (n : Network) → (s : ℕ) × (text : List ℕ) × IsNetworkVerdict c n s text
+pub network_verdict_some : (c : Certificate) (n : Network) → (s : ℕ) × (text : List ℕ) × IsNetworkVerdict c n s text
 network_verdict_some c n = go (same_or_not c.head.network n) (verdict_some c)
   where
     go : (c.head.network ≡ n) ⊎ ¬ (c.head.network ≡ n) → (s : ℕ) × (text : List ℕ) × IsVerdict c s text → (s : ℕ) × (text : List ℕ) × IsNetworkVerdict c n s text
@@ -203,7 +203,7 @@ summary_sound n seed = record {
   accepted = λ text is. omega (arith, is.0);
 }
 
-pub sound : (command : Command) → AtEnd (reading_of command) (IsSound (IsAnswer command))
+pub sound : (command : Command) → AtEnd (reading_of command) (IsSound (MayAnswer command))
 sound (check file) = λ bytes c spells. verdict_sound bytes c spells
 sound (check_network file topology) = λ bytes c spells rows n makes. network_verdict_sound bytes c n spells
 sound (convert file) = λ bytes c spells. conversion_sound bytes c spells
@@ -231,10 +231,9 @@ regular (generate n seed) = tt
 
 -- an answer on a certificate has one text
 pub one_text : (command : Command) → IsOfCertificate command → AtEnd (reading_of command) HasOneText
-one_text (check file) is = λ bytes c spells. record { some = verdict_some c; once = λ s t x y p q. (verdict_once c s t x y p q).1 }
-one_text (check_network file topology) is = λ bytes c spells rows n makes.
-    record { some = network_verdict_some c n; once = λ s t x y p q. (network_verdict_once c n s t x y p q).1 }
-one_text (convert file) is = λ bytes c spells. conversion_text c
+one_text (check file) is = λ bytes c spells s t x y p q. (verdict_once c s t x y p q).1
+one_text (check_network file topology) is = λ bytes c spells rows n makes s t x y p q. (network_verdict_once c n s t x y p q).1
+one_text (convert file) is = λ bytes c spells. conversion_once c
 one_text (publish file) is = absurd is
 one_text (run file) is = absurd is
 one_text (generate n seed) is = absurd is

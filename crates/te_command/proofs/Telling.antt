@@ -6,7 +6,7 @@ use Rattle.te_ports.specs.Record.{IsPiece, IsPieceOf, HasGiven, nothing, more, I
 use Rattle.te_ports.specs.PieceOf.{piece_of_told}
 use Rattle.te_ports.specs.Limit.{IsLimit}
 use Rattle.te_ports.proofs.Giving.{read_is, past_allowed}
-use Rattle.te_command.specs.Files.{Files, given, told, known}
+use Rattle.te_command.specs.Files.{Files, given_files, told_files, known_files}
 use Rattle.te_command.specs.Reading.{Reading, answers, reads, Means, IsTold, ReadFailed}
 use Rattle.te_command.proofs.Ending.{AreRegular}
 
@@ -20,7 +20,7 @@ pub record Covers (f g : Files) : Type 0 where
   pub longer : (file : List ℕ) (limit : List ℕ → ℕ) → IsLimit limit → f.longer file limit → g.longer file limit
 
 -- what reads gave of a told file is what is told
-pub given_is_known : (content : List ℕ → Option (List ℕ)) (gave : List ℕ → ℕ → List ℕ → Type 0) → Agrees content gave → Covers (given gave) (known gave content)
+pub given_is_known : (content : List ℕ → Option (List ℕ)) (gave : List ℕ → ℕ → List ℕ → Type 0) → Agrees content gave → Covers (given_files gave) (known_files gave content)
 given_is_known content gave agrees = record {
   whole = λ file bytes read. (read, λ all at. read_is (gave file) all bytes (agrees file all at) read);
   longer = λ file limit is past. (past, λ all at. past_allowed (gave file) all limit is (agrees file all at) past);
@@ -42,7 +42,7 @@ failed_along (reads A kind file next) f g Fails covers (inr (value, (bytes, read
 
 -- what is known of files that are told is what is told
 pub means_told : (r : Reading) (content : List ℕ → Option (List ℕ)) (gave : List ℕ → ℕ → List ℕ → Type 0) (s : ℕ) (text : List ℕ) →
-    IsTold r content → Means r (known gave content) s text → Means r (told content) s text
+    IsTold r content → Means r (known_files gave content) s text → Means r (told_files content) s text
 means_told (answers a) content gave s text is means = means
 means_told (reads A kind file next) content gave s text (all, at, rest) (inl (three, inl ((past, long), line))) =
     inl (three, inl ((all, at, long all at), line))
@@ -55,7 +55,7 @@ means_told (reads A kind file next) content gave s text (all, at, rest) (inr (va
     inr (value, (bytes, at ∙ ap Some (sym same), few, gives), means_told (next value) content gave s text on later)
 
 pub failed_told : (r : Reading) (content : List ℕ → Option (List ℕ)) (gave : List ℕ → ℕ → List ℕ → Type 0) (Fails : List ℕ → Type 0) →
-    IsTold r content → ReadFailed r (known gave content) Fails → ReadFailed r (told content) Fails
+    IsTold r content → ReadFailed r (known_files gave content) Fails → ReadFailed r (told_files content) Fails
 failed_told (answers a) content gave Fails is failed = failed
 failed_told (reads A kind file next) content gave Fails is (inl here) = inl here
 failed_told (reads A kind file next) content gave Fails (all, at, rest) (inr (value, (bytes, (read, is), few, gives), later)) =
@@ -100,13 +100,13 @@ longer_to all limit bytes is at many = record {
   past = omega (arith, length-take (limit bytes + 1) bytes, front_limit limit bytes is many);
 }
 
-pub pieces_are_told : (content : List ℕ → Option (List ℕ)) → Covers (given (λ file. IsPieceOf (content file))) (told content)
+pub pieces_are_told : (content : List ℕ → Option (List ℕ)) → Covers (given_files (λ file. IsPieceOf (content file))) (told_files content)
 pieces_are_told content = record {
   whole = λ file bytes. whole_from (content file) bytes;
   longer = λ file limit is past. content_of (content file) limit is past past.bytes past.given (let past_is = past.past in omega arith);
 }
 
-pub told_are_pieces : (content : List ℕ → Option (List ℕ)) → Covers (told content) (given (λ file. IsPieceOf (content file)))
+pub told_are_pieces : (content : List ℕ → Option (List ℕ)) → Covers (told_files content) (given_files (λ file. IsPieceOf (content file)))
 told_are_pieces content = record {
   whole = λ file bytes. whole_to (content file) bytes;
   longer = λ file limit is long. longer_to (content file) limit long.0 is long.1 long.2;

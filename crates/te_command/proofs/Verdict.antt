@@ -8,22 +8,22 @@ use Rattle.ratio_checker.specs.Finding.{finding_of}
 use Rattle.ratio_checker.specs.declared.finding.Finding.{Finding}
 use Rattle.te_command.specs.declared.answer.Answer.{Answer}
 use Rattle.te_command.specs.Check.{IsVerdict, IsNetworkVerdict}
-use Rattle.te_command.specs.Outcome.{IsLineOf, status_of, text_of}
+use Rattle.te_command.specs.Outcome.{IsLineOf, status_of, answer_text}
 
 -- what the first failure gives
 line_of_failure : (c : Certificate) (failure : Option LinkFailure) (answer : Answer) → first_failure c ≡ failure →
-    IsLineOf c (finding_of failure) answer → IsVerdict c (status_of answer) (text_of answer)
+    IsLineOf c (finding_of failure) answer → IsVerdict c (status_of answer) (answer_text answer)
 line_of_failure c None answer is line = inl (line.0, record { holds = is; line_is = line.1 })
 line_of_failure c (Some failure) answer is line = inr (line.0, record { failure = failure; fails = is; line_is = line.1 })
 
 pub verdict_found : (c : Certificate) (finding : Finding) (r : Result Answer Memory) → finding ≡ finding_of (first_failure c) →
-    IfOk r (IsLineOf c finding) → IfOk r (λ answer. IsVerdict c (status_of answer) (text_of answer))
+    IfOk r (IsLineOf c finding) → IfOk r (λ answer. IsVerdict c (status_of answer) (answer_text answer))
 verdict_found c finding (Ok answer) is line = line_of_failure c (first_failure c) answer refl (rw is at line)
 verdict_found c finding (Err e) is line = line
 
 -- which is also that on a certificate of its network
 pub network_found : (c : Certificate) (network : Network) (r : Result Answer Memory) → c.head.network ≡ network →
-    IfOk r (λ answer. IsVerdict c (status_of answer) (text_of answer)) →
-    IfOk r (λ answer. IsNetworkVerdict c network (status_of answer) (text_of answer))
+    IfOk r (λ answer. IsVerdict c (status_of answer) (answer_text answer)) →
+    IfOk r (λ answer. IsNetworkVerdict c network (status_of answer) (answer_text answer))
 network_found c network (Ok answer) same is = inl (same, is)
 network_found c network (Err e) same is = is

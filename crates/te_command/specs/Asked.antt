@@ -3,10 +3,10 @@ use Rattle.te_command.specs.declared.words.Command.{Command as Asked}
 use Rattle.te_command.specs.declared.words.Command.TheVariants as asked
 use Rattle.te_command.specs.Commands.{Command, check, check_network, convert, publish, run, generate}
 
-abbrev pub meant : Asked → Command
-meant (asked.Check c) = check c.certificate.now
-meant (asked.CheckNetwork c) = check_network c.certificate.now c.topology.now
-meant (asked.Convert c) = convert c.certificate.now
-meant (asked.Publish c) = publish c.plan.now
-meant (asked.Run c) = run c.plan.now
-meant (asked.Generate c) = generate c.nodes c.seed
+abbrev pub command_meant : Asked → Command
+command_meant (asked.Check c) = check c.certificate.now
+command_meant (asked.CheckNetwork c) = check_network c.certificate.now c.topology.now
+command_meant (asked.Convert c) = convert c.certificate.now
+command_meant (asked.Publish c) = publish c.plan.now
+command_meant (asked.Run c) = run c.plan.now
+command_meant (asked.Generate c) = generate c.nodes c.seed

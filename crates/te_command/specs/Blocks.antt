@@ -14,7 +14,7 @@ use Rattle.te_command.specs.declared.answer.Fault.TheVariants.{Read, Memory}
 use Rattle.te_command.specs.Reading.{too_long}
 use Rattle.te_command.specs.CertificateFile.{certificates, shape_reason, rule_reason}
 use Rattle.te_ports.specs.Shown.{Shown}
-use Rattle.te_command.specs.Outcome.{Reads, ReadsFile, IsRefusal}
+use Rattle.te_command.specs.Outcome.{KeepsDepot, ReadsFile, IsRefusal}
 
 -- the least link that may follow this one
 abbrev pub link_after : Option ℕ → ℕ
@@ -36,7 +36,7 @@ pub record ReadsOn {A : Type 0} (file : List ℕ) (old new : Shown) (result : Re
   pub refused : (fault : StreamFault) → result ≡ Err fault → IsFaultOf (new.gave file) fault
   pub failed : IsErrOf result faults.Failed → Rose (old.faults file) (new.faults file)
   pub steady : result ≢ Err faults.Failed → new.faults ≡ old.faults
-  pub may : Reads old new
+  pub may : KeepsDepot old new
 
 -- what is answered where the file has this fault
 abbrev pub IsAnswerTo : List ℕ → StreamFault → Fault → Type 0

@@ -2,7 +2,7 @@
 use Rattle.std.specs.Prelude.{◌≡◌, ℕ, List, Option, Some}
 use Rattle.te_model.specs.declared.demand.DemandSet.{DemandSet}
 use Rattle.te_model.specs.Upgrade.{box_of}
-use Rattle.te_command.specs.Files.{told}
+use Rattle.te_command.specs.Files.{told_files}
 use Rattle.te_command.specs.Reading.{Means}
 use Rattle.te_command.specs.Check.{yes_line}
 use Rattle.te_command.specs.Commands.{convert, reading_of}
@@ -10,7 +10,7 @@ use Rattle.te_command.specs.Commands.{convert, reading_of}
 -- both are told, the second as what `convert` answers of the first
 pub record AreConverted (content : List ℕ → Option (List ℕ)) (file made : List ℕ) : Type 0 where
   pub text : List ℕ
-  pub converted : Means (reading_of (convert file)) (told content) 0 text
+  pub converted : Means (reading_of (convert file)) (told_files content) 0 text
   pub told_as : content made ≡ Some text
 
 -- the lines of a yes to one ratio, of a demand set and of its box

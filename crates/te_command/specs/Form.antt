@@ -3,7 +3,7 @@ use Rattle.std.specs.Prelude.{◌≡◌, ◌≤◌, ◌⊎◌, ℕ, List, length
 use Rattle.te_model.specs.declared.certificate.Certificate.{Certificate}
 use Rattle.te_model.specs.declared.limits.TheConstants.{FORMAT_2}
 use Rattle.te_model.specs.Text.{Spells}
-use Rattle.te_command.specs.Files.{told}
+use Rattle.te_command.specs.Files.{told_files}
 use Rattle.te_command.specs.Reading.{Means}
 use Rattle.te_command.specs.CertificateFile.{certificates}
 use Rattle.te_command.specs.Check.{IsProof, yes_line}
@@ -16,7 +16,7 @@ pub record IsAnsweredYes (bytes : List ℕ) : Type 0 where
   pub spelled : Spells bytes certificate
   pub proof : IsProof certificate
   pub answer : (file : List ℕ) →
-      Means (reading_of (check file)) (told (λ name. Some bytes)) 0 (yes_line certificate.head.ratio certificate.head.set)
+      Means (reading_of (check file)) (told_files (λ name. Some bytes)) 0 (yes_line certificate.head.ratio certificate.head.set)
 
 -- a file that `convert` has made: it is not too long, spells a certificate of the second format, and under any name is converted to
 -- the same bytes
@@ -25,17 +25,17 @@ pub record IsConverted (bytes : List ℕ) : Type 0 where
   pub certificate : Certificate
   pub spelled : Spells bytes certificate
   pub format : certificate.head.format ≡ FORMAT_2.format
-  pub answer : (file : List ℕ) → Means (reading_of (convert file)) (told (λ name. Some bytes)) 0 bytes
+  pub answer : (file : List ℕ) → Means (reading_of (convert file)) (told_files (λ name. Some bytes)) 0 bytes
 
 -- `check` says yes or no, `convert` writes a file of the second format, `publish` writes a file to which `check` says yes, or names
 -- a pair without a path, `run` writes a report, and `gen` a summary
-abbrev pub IsAnswer : Command → ℕ → List ℕ → Type 0
-IsAnswer (check certificate) status text = status ≤ 1
-IsAnswer (check_network certificate topology) status text = status ≤ 1
-IsAnswer (convert certificate) status text = (status ≡ 0) × IsConverted text
-IsAnswer (publish plan) status text = ((status ≡ 0) × IsAnsweredYes text) ⊎ (status ≡ 7)
-IsAnswer (run plan) status text = status ≡ 0
-IsAnswer (generate nodes seed) status text = status ≡ 0
+abbrev pub MayAnswer : Command → ℕ → List ℕ → Type 0
+MayAnswer (check certificate) status text = status ≤ 1
+MayAnswer (check_network certificate topology) status text = status ≤ 1
+MayAnswer (convert certificate) status text = (status ≡ 0) × IsConverted text
+MayAnswer (publish plan) status text = ((status ≡ 0) × IsAnsweredYes text) ⊎ (status ≡ 7)
+MayAnswer (run plan) status text = status ≡ 0
+MayAnswer (generate nodes seed) status text = status ≡ 0
 
 -- the command is of a certificate, and then told files mean one text
 abbrev pub IsOfCertificate : Command → Type 0

@@ -5,8 +5,8 @@ use Rattle.generation.specs.Summary.{IsSummary, ProvesRatio}
 use Rattle.te_command.specs.Reading.{Answers}
 
 -- the number of which the word is the decimal, where it is below 2^64
-abbrev pub number_of : List ℕ → Option ℕ
-number_of word = if nat_lt (digits_value 10 word) (2 ^ 64) && bytes_eq (decimal (digits_value 10 word)) word then Some (digits_value 10 word) else None
+abbrev pub decimal_number : List ℕ → Option ℕ
+decimal_number word = if nat_lt (digits_value 10 word) (2 ^ 64) && bytes_eq (decimal (digits_value 10 word)) word then Some (digits_value 10 word) else None
 
 -- 2 to 64 nodes, and a seed
 abbrev pub nodes_and_seed : Option ℕ → Option ℕ → Option (ℕ × ℕ)
@@ -15,7 +15,7 @@ nodes_and_seed (Some n) None = None
 nodes_and_seed (Some n) (Some s) = if nat_le 2 n && nat_le n 64 then Some (n, s) else None
 
 abbrev pub drawn_of : List ℕ → List ℕ → Option (ℕ × ℕ)
-drawn_of nodes seed = nodes_and_seed (number_of nodes) (number_of seed)
+drawn_of nodes seed = nodes_and_seed (decimal_number nodes) (decimal_number seed)
 
 -- its ratio is proved
 abbrev pub summary_of : ℕ → ℕ → Answers

@@ -17,7 +17,7 @@ use Rattle.te_command.specs.declared.answer.Fault.TheVariants.{Refused, Read, Me
 use Rattle.te_command.specs.declared.inputs.Inputs.{Inputs}
 use Rattle.te_command.specs.declared.refusal.BytesFault.{BytesFault}
 use Rattle.te_command.specs.declared.refusal.BytesFault.TheVariants as bytes_fault
-use Rattle.te_command.specs.Files.{Files, given}
+use Rattle.te_command.specs.Files.{Files, given_files}
 use Rattle.te_command.specs.Reading.{Kind, Answers, Reading, answers, refused_line, GivesIn, RefusedIn, Means, ReadFailed}
 use Rattle.te_command.specs.TopologyFile.{topologies}
 use Rattle.te_command.specs.MatrixFile.{matrices}
@@ -29,7 +29,7 @@ use Rattle.te_command.specs.Check.{yes_line, no_line}
 use Rattle.te_command.specs.Commands.{with_plan}
 
 -- what a call may do to a depot
-pub record Reads (old new : Shown) : Type 0 where
+pub record KeepsDepot (old new : Shown) : Type 0 where
   pub kept : Grows old.gave new.gave
   pub later : (file : List ℕ) → old.faults file ≤ new.faults file
   pub content : new.content ≡ old.content
@@ -40,15 +40,15 @@ status_of (Done text) = 0
 status_of (No line) = 1
 status_of (NoPath line) = 7
 
-abbrev pub text_of : Answer → List ℕ
-text_of (Done text) = text.items
-text_of (No line) = line.items
-text_of (NoPath line) = line.items
+abbrev pub answer_text : Answer → List ℕ
+answer_text (Done text) = text.items
+answer_text (No line) = line.items
+answer_text (NoPath line) = line.items
 
 -- the answer says what was found of the certificate
 abbrev pub IsLineOf : Certificate → Finding → Answer → Type 0
-IsLineOf c finding.Yes answer = (status_of answer ≡ 0) × (text_of answer ≡ yes_line c.head.ratio c.head.set)
-IsLineOf c (finding.No link rule place) answer = (status_of answer ≡ 1) × (text_of answer ≡ no_line link rule place)
+IsLineOf c finding.Yes answer = (status_of answer ≡ 0) × (answer_text answer ≡ yes_line c.head.ratio c.head.set)
+IsLineOf c (finding.No link rule place) answer = (status_of answer ≡ 1) × (answer_text answer ≡ no_line link rule place)
 
 -- a fact of the line that refuses a file, where one does
 abbrev pub OnRefused : Fault → (List ℕ → Type 0) → Type 0
@@ -84,28 +84,28 @@ ReadsBytesOf kind file bytes (Err Read) = ⊥
 ReadsBytesOf kind file bytes (Err Memory) = Unit {0}
 
 -- the file gives the value, or is refused, which the line says
-abbrev pub ReadsAs : {A : Type 0} → Kind A → Files → List ℕ → Result A Fault → Type 0
-ReadsAs kind files file (Ok value) = GivesIn kind files file value
-ReadsAs kind files file (Err fault) = OnRefused fault (RefusedIn kind files file)
+abbrev pub ReadsValueOrRefusal : {A : Type 0} → Kind A → Files → List ℕ → Result A Fault → Type 0
+ReadsValueOrRefusal kind files file (Ok value) = GivesIn kind files file value
+ReadsValueOrRefusal kind files file (Err fault) = OnRefused fault (RefusedIn kind files file)
 
 -- the contract of a reader of a file
 pub record ReadsFile {A : Type 0} (kind : Kind A) (file : List ℕ) (old new : Shown) (result : Result A Fault) : Type 0 where
-  pub reads : ReadsAs kind (given new.gave) file result
+  pub reads : ReadsValueOrRefusal kind (given_files new.gave) file result
   pub failed : OnRead result (Rose (old.faults file) (new.faults file))
   pub steady : result ≢ Err Read → new.faults ≡ old.faults
-  pub may : Reads old new
+  pub may : KeepsDepot old new
 
 -- the status and the text are what is meant, unless a read failed or memory was short
 abbrev pub Meant : (ℕ → List ℕ → Type 0) → Result Answer Fault → Type 0
-Meant Answer (Ok answer) = Answer (status_of answer) (text_of answer)
+Meant Answer (Ok answer) = Answer (status_of answer) (answer_text answer)
 Meant Answer (Err fault) = OnRefused fault (Answer 3)
 
 -- the contract of a command
 pub record Follows (reading : Reading) (old new : Shown) (result : Result Answer Fault) : Type 0 where
-  pub means : Meant (Means reading (given new.gave)) result
-  pub failed : OnRead result (ReadFailed reading (given new.gave) (λ file. Rose (old.faults file) (new.faults file)))
+  pub means : Meant (Means reading (given_files new.gave)) result
+  pub failed : OnRead result (ReadFailed reading (given_files new.gave) (λ file. Rose (old.faults file) (new.faults file)))
   pub steady : result ≢ Err Read → new.faults ≡ old.faults
-  pub may : Reads old new
+  pub may : KeepsDepot old new
 
 -- nothing is answered
 abbrev pub no_answer : Answers
@@ -113,11 +113,11 @@ no_answer = record { status = λ status. ⊥; text = λ status text. ⊥; proves
 
 -- the files of a plan gave this plan, its network and its series
 pub record GivesPlan (file : List ℕ) (old new : Shown) (plan : Experiment) (network : Network) (series : Series) : Type 0 where
-  pub plan_given : GivesIn plans (given new.gave) file plan
-  pub network_given : GivesIn topologies (given new.gave) plan.topology network
-  pub series_given : GivesIn (matrices network) (given new.gave) plan.matrices series
+  pub plan_given : GivesIn plans (given_files new.gave) file plan
+  pub network_given : GivesIn topologies (given_files new.gave) plan.topology network
+  pub series_given : GivesIn (matrices network) (given_files new.gave) plan.matrices series
   pub steady : new.faults ≡ old.faults
-  pub may : Reads old new
+  pub may : KeepsDepot old new
 
 -- a plan, its network and its series are read, or one of their files is refused or not read
 abbrev pub ReadsInputs : List ℕ → Shown → Shown → Result Inputs Fault → Type 0
@@ -129,4 +129,4 @@ pub record ReadsFailures (network : Network) (series : Series) (named : Option (
   pub unnamed : named ≡ None → result ≡ Ok no_failures
   pub reads : (file : List ℕ) → named ≡ Some file → ReadsFile (failure_files network series) file old new result
   pub steady : result ≢ Err Read → new.faults ≡ old.faults
-  pub may : Reads old new
+  pub may : KeepsDepot old new

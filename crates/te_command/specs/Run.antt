@@ -7,7 +7,7 @@ use Rattle.te_ports.specs.Ports.{Rose, AppendsPart}
 use Rattle.te_command.specs.Files.{Files}
 use Rattle.te_command.specs.Reading.{Reading, Means, Proves, IsTold}
 use Rattle.te_command.specs.Commands.{Command, command_of, reading_of}
-use Rattle.te_command.specs.Form.{IsAnswer}
+use Rattle.te_command.specs.Form.{MayAnswer}
 
 -- the words as bytes
 abbrev pub texts : Vec (String Global) Global → List (List ℕ)
@@ -65,10 +65,26 @@ pub record Answered (reading : Reading) (files : Files) (result : ℕ) (out err 
   pub proves : result ≡ 0 → Writes (Proves reading files) out
   pub part : result ≡ 5 → WritesPart (λ text. Means reading files 0 text ⊎ Means reading files 1 text) out
 
+-- by these files some text was written, or said, that the command of the words means at this status
+abbrev pub WritesMeant : List (List ℕ) → Files → ℕ → Change → Type 0
+WritesMeant words files status out = OfCommand words (λ command. Writes (Means (reading_of command) files status) out)
+
+abbrev pub SaysMeant : List (List ℕ) → Files → ℕ → Change → Type 0
+SaysMeant words files status err = OfCommand words (λ command. SaysSome (Means (reading_of command) files status) err)
+
+-- a text was written that proves what the command of the words is for
+abbrev pub WritesProof : List (List ℕ) → Files → Change → Type 0
+WritesProof words files out = OfCommand words (λ command. Writes (Proves (reading_of command) files) out)
+
+-- a part of a text was written that the command of the words means at status 0 or 1
+abbrev pub WritesPartMeant : List (List ℕ) → Files → Change → Type 0
+WritesPartMeant words files out =
+    OfCommand words (λ command. WritesPart (λ text. Means (reading_of command) files 0 text ⊎ Means (reading_of command) files 1 text) out)
+
 -- the command may answer so
 pub record HasForm (command : Command) (result : ℕ) (out err : Change) : Type 0 where
-  pub written : result ≤ 1 → Writes (IsAnswer command result) out
-  pub named : result ≡ 7 → SaysSome (IsAnswer command 7) err
+  pub written : result ≤ 1 → Writes (MayAnswer command result) out
+  pub named : result ≡ 7 → SaysSome (MayAnswer command 7) err
 
 -- the status is this one, or that of a failed read, a failed write or the want of memory
 abbrev pub IsOrFails : ℕ → ℕ → Type 0

@@ -1,6 +1,6 @@
 //! What every command promises.
 ghost use Rattle.te_command.specs.Reading.{Reading};
-ghost use Rattle.te_ports.specs.Shown.{shown};
+ghost use Rattle.te_ports.specs.Shown.{shown_by};
 ghost use Rattle.te_command.specs.Outcome.{Follows};
 
 use crate::answer::{Answer, Fault};
@@ -16,6 +16,6 @@ pub trait Ask {
     ///
     /// `Refused` comes only for what reads of a file gave, and `Read` only where a read of one failed in the call.
     fn answer<D: Depot>(&self, alloc: Global, depot: &mut D) -> Result<Answer, Fault>
-        ensures { Follows (reading self.now) (shown D.content D.gave D.faults depot.old)
-            (shown D.content D.gave D.faults depot.new) result };
+        ensures { Follows (reading self.now) (shown_by D.content D.gave D.faults depot.old)
+            (shown_by D.content D.gave D.faults depot.new) result };
 }

@@ -1,9 +1,9 @@
 //! Reading the file of a certificate one block at a time: what is found of it, or the line that refuses it.
 ghost use Rattle.std.specs.Prelude.{◌≡◌, [], OnOk};
 ghost use Rattle.block_reader.specs.Blocks.{name_of};
-ghost use Rattle.ratio_checker.specs.Feeds.{head_of};
+ghost use Rattle.ratio_checker.specs.Feeds.{head_of_feed};
 ghost use Rattle.te_command.specs.Blocks.{FeedsFile, IsFed, IsFedWhole, IsAnswerTo, ReadsOn};
-ghost use Rattle.te_ports.specs.Shown.{shown};
+ghost use Rattle.te_ports.specs.Shown.{shown_by};
 
 use crate::answer::Fault;
 use crate::files::{refuse, too_long};
@@ -32,10 +32,10 @@ fn feed_blocks<D: Depot>(
     reader: &mut BlockReader,
     feed: &mut Feed,
 ) -> Result<(), StreamFault>
-    requires { IsFed (D.gave depot.old (name_of reader.old)) reader.old feed.old (head_of feed.old) [] }
+    requires { IsFed (D.gave depot.old (name_of reader.old)) reader.old feed.old (head_of_feed feed.old) [] }
     ensures whole { OnOk result (IsFedWhole (D.gave depot.new (name_of reader.old)) feed.new) }
-    ensures reads { ReadsOn (name_of reader.old) (shown D.content D.gave D.faults depot.old)
-        (shown D.content D.gave D.faults depot.new) result }
+    ensures reads { ReadsOn (name_of reader.old) (shown_by D.content D.gave D.faults depot.old)
+        (shown_by D.content D.gave D.faults depot.new) result }
 {
     'rest: while reader.next(depot)? {
         feed.block(reader.block());
@@ -48,8 +48,8 @@ fn feed_blocks<D: Depot>(
 ///
 /// `Refused` comes only for bytes that reads of the file gave, and `Read` only where a read of it failed in the call.
 pub fn feed_in<D: Depot>(alloc: Global, depot: &mut D, file: &str) -> Result<Feed, Fault>
-    ensures { FeedsFile file.now (shown D.content D.gave D.faults depot.old)
-        (shown D.content D.gave D.faults depot.new) result }
+    ensures { FeedsFile file.now (shown_by D.content D.gave D.faults depot.old)
+        (shown_by D.content D.gave D.faults depot.new) result }
 {
     let (mut reader, head) = match BlockReader::open(alloc, depot, file) {
         Ok(opened) => opened,

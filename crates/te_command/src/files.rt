@@ -2,7 +2,7 @@
 ghost use Rattle.std.specs.Prelude.{◌≤◌, List, length, IfOk};
 ghost use Rattle.te_command.specs.Reading.{refused_line, too_long};
 ghost use Rattle.te_command.specs.Refusals.{reason};
-ghost use Rattle.te_ports.specs.Shown.{shown};
+ghost use Rattle.te_ports.specs.Shown.{shown_by};
 ghost use Rattle.te_command.specs.Outcome.{IsRefusal, ReadsBytesOf, ReadsFile};
 
 use crate::answer::Fault;
@@ -74,8 +74,8 @@ pub fn value_in<D: Depot, K: FileKind>(
     file: &str,
 ) -> Result<K::Value, Fault>
     requires { K.is_ready kind.now }
-    ensures reads { ReadsFile (K.kind kind.now) file.now (shown D.content D.gave D.faults depot.old)
-        (shown D.content D.gave D.faults depot.new) result }
+    ensures reads { ReadsFile (K.kind kind.now) file.now (shown_by D.content D.gave D.faults depot.old)
+        (shown_by D.content D.gave D.faults depot.new) result }
     ensures sound { IfOk result (K.IsSound kind.now) }
 {
     match load_within(alloc, depot, file, &LimitOf { kind }) {

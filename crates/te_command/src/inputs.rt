@@ -3,7 +3,7 @@ ghost use Rattle.std.specs.Prelude.{◌≤◌, IfOk, IsTrue};
 ghost use Rattle.te_model.specs.Network.{is_well_formed, link_count, node_count};
 ghost use Rattle.traffic_matrix.specs.Limits.{IsSeries};
 ghost use Rattle.plan.specs.Plan.{InRange};
-ghost use Rattle.te_ports.specs.Shown.{shown};
+ghost use Rattle.te_ports.specs.Shown.{shown_by};
 ghost use Rattle.te_command.specs.Outcome.{ReadsInputs, ReadsFailures};
 
 use crate::answer::Fault;
@@ -33,7 +33,7 @@ pub fn inputs_in<D: Depot>(alloc: Global, depot: &mut D, plan: &str) -> Result<I
     ensures formed { IfOk result (λ inputs. IsTrue (is_well_formed inputs.network)) }
     ensures links { IfOk result (λ inputs. 1 ≤ link_count inputs.network) }
     ensures series { IfOk result (λ inputs. IsSeries (node_count inputs.network) inputs.series) }
-    ensures reads { ReadsInputs plan.now (shown D.content D.gave D.faults depot.old) (shown D.content D.gave D.faults depot.new) result }
+    ensures reads { ReadsInputs plan.now (shown_by D.content D.gave D.faults depot.old) (shown_by D.content D.gave D.faults depot.new) result }
 {
     let named = value_in(alloc, depot, &Plans, plan)?;
     let topology = named.topology.as_str();
@@ -60,7 +60,7 @@ pub fn outages_in<D: Depot>(
     requires network { IsTrue (is_well_formed inputs.now.network) }
     requires series { IsSeries (node_count inputs.now.network) inputs.now.series }
     ensures reads { ReadsFailures inputs.now.network inputs.now.series inputs.now.plan.failures
-        (shown D.content D.gave D.faults depot.old) (shown D.content D.gave D.faults depot.new) result }
+        (shown_by D.content D.gave D.faults depot.old) (shown_by D.content D.gave D.faults depot.new) result }
 {
     let kind = FailureFiles {
         network: &inputs.network,

@@ -2,10 +2,10 @@
 ghost use Rattle.std.specs.Prelude.{◌≡◌, ◌↔◌, ℕ, None};
 ghost use Rattle.te_ports.specs.Ports.{Rose};
 ghost use Rattle.te_ports.specs.Record.{Grows};
-ghost use Rattle.te_command.specs.Files.{known, told};
+ghost use Rattle.te_command.specs.Files.{known_files, told_files};
 ghost use Rattle.te_command.specs.Reading.{Means, MeansStatus, ReadFailed};
 ghost use Rattle.te_command.specs.Commands.{command_of, reading_of};
-ghost use Rattle.te_command.specs.Run.{texts, change, OfCommand, OfToldCommand, Answered, HasForm, IsOrFails, GivesOrMemory, Written, Steady, Later};
+ghost use Rattle.te_command.specs.Run.{texts, change, OfCommand, OfToldCommand, Answered, WritesMeant, SaysMeant, WritesProof, WritesPartMeant, HasForm, IsOrFails, GivesOrMemory, Written, Steady, Later};
 
 use crate::answer::Fault;
 use crate::ask::Ask;
@@ -38,14 +38,25 @@ pub fn run<D: Depot, O: Sink, E: Sink>(
     // 2 exactly where the words are no form of a command.
     ensures usage { (result ≡ 2) ↔ (command_of (texts words.now) ≡ None) }
 
-    // What is answered is what the bytes mean that reads gave: of any depot, and of a file that is told the told bytes.
-    ensures given { OfCommand (texts words.now) (λ command.
-        Answered (reading_of command) (known (D.gave depot.new) (D.content depot.old)) result
-        (change O.written O.faults out.old out.new) (change E.written E.faults err.old err.new)) }
+    // 0, 1, 3 and 7 only where that is what the bytes mean that reads gave: of any depot, and of a file that is told the told bytes.
+    ensures yes { result ≡ 0 → WritesMeant (texts words.now) (known_files (D.gave depot.new) (D.content depot.old)) 0
+        (change O.written O.faults out.old out.new) }
+    ensures no { result ≡ 1 → WritesMeant (texts words.now) (known_files (D.gave depot.new) (D.content depot.old)) 1
+        (change O.written O.faults out.old out.new) }
+    ensures refused { result ≡ 3 → SaysMeant (texts words.now) (known_files (D.gave depot.new) (D.content depot.old)) 3
+        (change E.written E.faults err.old err.new) }
+    ensures no_path { result ≡ 7 → SaysMeant (texts words.now) (known_files (D.gave depot.new) (D.content depot.old)) 7
+        (change E.written E.faults err.old err.new) }
 
-    // Where all files are told that are to be read, it is what the told files mean.
+    // What was written at 0 is proved, and at 5 it was a part of what was to be written.
+    ensures proves { result ≡ 0 → WritesProof (texts words.now) (known_files (D.gave depot.new) (D.content depot.old))
+        (change O.written O.faults out.old out.new) }
+    ensures part { result ≡ 5 → WritesPartMeant (texts words.now) (known_files (D.gave depot.new) (D.content depot.old))
+        (change O.written O.faults out.old out.new) }
+
+    // Where all files are told that are to be read: the same of what the told files mean.
     ensures told { OfToldCommand (texts words.now) (D.content depot.old) (λ command.
-        Answered (reading_of command) (told (D.content depot.old)) result
+        Answered (reading_of command) (told_files (D.content depot.old)) result
         (change O.written O.faults out.old out.new) (change E.written E.faults err.old err.new)) }
 
     // Whatever the files hold, the command may answer so: each file that is published is one to which `check` says yes, and each
@@ -55,20 +66,20 @@ pub fn run<D: Depot, O: Sink, E: Sink>(
 
     // 4 only by a failed read of a file that is reached by what reads gave of those before it, and 5 only by a failed write.
     ensures read { result ≡ 4 → OfCommand (texts words.now) (λ command.
-        ReadFailed (reading_of command) (known (D.gave depot.new) (D.content depot.old))
+        ReadFailed (reading_of command) (known_files (D.gave depot.new) (D.content depot.old))
         (λ file. Rose (D.faults depot.old file) (D.faults depot.new file))) }
     ensures write { result ≡ 5 → Rose (O.faults out.old) (O.faults out.new) }
 
     // What the told files mean is answered, unless a read or a write failed or memory was short.
     ensures exact { OfToldCommand (texts words.now) (D.content depot.old) (λ command. (status : ℕ) →
-        MeansStatus (reading_of command) (told (D.content depot.old)) status →
+        MeansStatus (reading_of command) (told_files (D.content depot.old)) status →
         IsOrFails result status) }
     ensures complete { OfToldCommand (texts words.now) (D.content depot.old) (λ command. (status : ℕ) →
-        MeansStatus (reading_of command) (told (D.content depot.old)) status →
-        ¬ ReadFailed (reading_of command) (told (D.content depot.old)) (λ file. Rose (D.faults depot.old file) (D.faults depot.new file)) →
+        MeansStatus (reading_of command) (told_files (D.content depot.old)) status →
+        ¬ ReadFailed (reading_of command) (told_files (D.content depot.old)) (λ file. Rose (D.faults depot.old file) (D.faults depot.new file)) →
         ¬ Rose (O.faults out.old) (O.faults out.new) →
         GivesOrMemory result (change O.written O.faults out.old out.new) status
-        (Means (reading_of command) (told (D.content depot.old)) status)) }
+        (Means (reading_of command) (told_files (D.content depot.old)) status)) }
 
     // What is written, and that nothing else is.
     ensures written { Written result (change O.written O.faults out.old out.new) (change E.written E.faults err.old err.new) }

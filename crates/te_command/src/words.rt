@@ -2,7 +2,7 @@
 ghost use Rattle.std.specs.Prelude.{◌≡◌, map, string_bytes};
 ghost use Rattle.std.specs.Option.{option_map};
 ghost use Rattle.te_command.specs.Commands.{command_of};
-ghost use Rattle.te_command.specs.Asked.{meant};
+ghost use Rattle.te_command.specs.Asked.{command_meant};
 
 use crate::answer::{Answer, Fault};
 use crate::ask::Ask;
@@ -24,7 +24,7 @@ pub enum Command<'a> {
 impl<'a> Ask for Command<'a> {
     ghost use Rattle.te_command.specs.Commands.{reading_of};
 
-    ghost reading = { λ c. reading_of (meant c) };
+    ghost reading = { λ c. reading_of (command_meant c) };
 
     fn answer<D: Depot>(&self, alloc: Global, depot: &mut D) -> Result<Answer, Fault> {
         match self {
@@ -40,7 +40,7 @@ impl<'a> Ask for Command<'a> {
 
 /// The command of the words, where they are one of the forms.
 pub fn command_of(words: &[String]) -> Option<Command<'_>>
-    ensures { option_map meant result ≡ command_of (map string_bytes words.now) }
+    ensures { option_map command_meant result ≡ command_of (map string_bytes words.now) }
 {
     match words {
         [word, certificate] if word.as_str() == "check" => Some(Command::Check(Check {

@@ -2,7 +2,7 @@
 ghost use Rattle.std.specs.Prelude.{◌≡◌, ◌≢◌, ◌≤◌, ◌⊎◌};
 ghost use Rattle.std.specs.Io.KnownBytes.{append_known};
 ghost use Rattle.te_ports.specs.Ports.{Rose, AppendsPart};
-ghost use Rattle.te_command.specs.Outcome.{status_of, text_of};
+ghost use Rattle.te_command.specs.Outcome.{status_of, answer_text};
 ghost use Rattle.te_command.specs.Run.{message, change, Says};
 
 use crate::answer::Answer;
@@ -42,10 +42,10 @@ pub fn write<O: Sink, E: Sink>(out: &mut O, err: &mut E, text: &[u8], status: u8
 pub fn deliver<O: Sink, E: Sink>(out: &mut O, err: &mut E, answer: &Answer) -> u8
     ensures status { (result ≡ status_of answer.now) ⊎ ((result ≡ 5) × (status_of answer.now ≤ 1)) }
     ensures form { (result ≤ 1) ⊎ (result ≡ 5) ⊎ (result ≡ 7) }
-    ensures whole { result ≤ 1 → O.written out.new ≡ append_known (O.written out.old) (text_of answer.now) }
-    ensures part { result ≡ 5 → AppendsPart (O.written out.old) (O.written out.new) (text_of answer.now) }
+    ensures whole { result ≤ 1 → O.written out.new ≡ append_known (O.written out.old) (answer_text answer.now) }
+    ensures part { result ≡ 5 → AppendsPart (O.written out.old) (O.written out.new) (answer_text answer.now) }
     ensures write { result ≡ 5 → Rose (O.faults out.old) (O.faults out.new) }
-    ensures named { result ≡ 7 → Says (change E.written E.faults err.old err.new) (text_of answer.now) }
+    ensures named { result ≡ 7 → Says (change E.written E.faults err.old err.new) (answer_text answer.now) }
     ensures silent { 2 ≤ result → result ≢ 5 → O.written out.new ≡ O.written out.old }
     ensures said { result ≡ 5 → Says (change E.written E.faults err.old err.new) (message 5) }
     ensures quiet { result ≤ 1 → E.written err.new ≡ E.written err.old }

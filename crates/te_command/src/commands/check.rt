@@ -5,7 +5,7 @@ ghost use Rattle.te_model.specs.declared.certificate.Certificate.{Certificate};
 ghost use Rattle.te_model.specs.declared.certificate.Head.{Head};
 ghost use Rattle.ratio_checker.specs.Feeds.{StandsFor};
 ghost use Rattle.te_command.specs.Check.{IsVerdict, yes_line};
-ghost use Rattle.te_command.specs.Outcome.{IsLineOf, status_of, text_of};
+ghost use Rattle.te_command.specs.Outcome.{IsLineOf, status_of, answer_text};
 
 use crate::answer::{Answer, Fault};
 use crate::ask::Ask;
@@ -63,7 +63,7 @@ fn line_of(alloc: Global, yes: String, finding: Finding) -> Result<Answer, Memor
 pub fn judge(alloc: Global, feed: Feed) -> Result<Answer, Memory>
     requires { (head : Head) × (blocks : List Block) × StandsFor feed head blocks }
     ensures { (head : Head) → (blocks : List Block) → StandsFor feed head blocks →
-        IfOk result (λ answer. IsVerdict (record { head = head; blocks = blocks }) (status_of answer) (text_of answer)) }
+        IfOk result (λ answer. IsVerdict (record { head = head; blocks = blocks }) (status_of answer) (answer_text answer)) }
 {
     let yes = yes_line(alloc, feed.head().ratio, &feed.head().set)?;
     line_of(alloc, yes, feed.finish())

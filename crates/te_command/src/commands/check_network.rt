@@ -4,7 +4,7 @@ ghost use Rattle.te_model.specs.declared.certificate.Block.{Block};
 ghost use Rattle.te_model.specs.declared.certificate.Head.{Head};
 ghost use Rattle.ratio_checker.specs.Feeds.{StandsFor};
 ghost use Rattle.te_command.specs.Check.{IsNetworkVerdict};
-ghost use Rattle.te_command.specs.Outcome.{status_of, text_of};
+ghost use Rattle.te_command.specs.Outcome.{status_of, answer_text};
 
 use super::check::judge;
 use crate::answer::{Answer, Fault};
@@ -41,7 +41,7 @@ fn compare(alloc: Global, feed: Feed, network: &Network) -> Result<Answer, Memor
     requires { (head : Head) × (blocks : List Block) × StandsFor feed head blocks }
     ensures { (head : Head) → (blocks : List Block) → StandsFor feed head blocks →
         IfOk result (λ answer. IsNetworkVerdict (record { head = head; blocks = blocks }) network.now
-        (status_of answer) (text_of answer)) }
+        (status_of answer) (answer_text answer)) }
 {
     if same_network(&feed.head().network, network) {
         judge(alloc, feed)

@@ -2,7 +2,7 @@
 ghost use Rattle.std.specs.Prelude.{IfOk};
 ghost use Rattle.te_model.specs.Validity.{IsValid};
 ghost use Rattle.te_command.specs.Convert.{conversion_of};
-ghost use Rattle.te_command.specs.Outcome.{status_of, text_of};
+ghost use Rattle.te_command.specs.Outcome.{status_of, answer_text};
 
 use crate::answer::{Answer, Fault};
 use crate::ask::Ask;
@@ -26,14 +26,14 @@ impl<'a> Ask for Convert<'a> {
 
     fn answer<D: Depot>(&self, alloc: Global, depot: &mut D) -> Result<Answer, Fault> {
         let spelled = value_in(alloc, depot, &Certificates, self.certificate)?;
-        Ok(converted(alloc, spelled)?)
+        Ok(upgraded_file(alloc, spelled)?)
     }
 }
 
 // The file of the certificate in the second format.
-fn converted(alloc: Global, certificate: Certificate) -> Result<Answer, Memory>
+fn upgraded_file(alloc: Global, certificate: Certificate) -> Result<Answer, Memory>
     requires { IsValid certificate }
-    ensures { IfOk result (λ answer. (conversion_of certificate).text (status_of answer) (text_of answer)) }
+    ensures { IfOk result (λ answer. (conversion_of certificate).text (status_of answer) (answer_text answer)) }
 {
     let upgraded = upgrade(alloc, certificate)?;
     let file = print(alloc, &upgraded)?;

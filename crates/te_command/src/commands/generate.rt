@@ -1,7 +1,7 @@
 //! `gen NODES SEED`: the summary of a network that is drawn from a seed.
 ghost use Rattle.std.specs.Prelude.{◌≡◌, ◌≤◌};
 ghost use Rattle.std.specs.Option.{option_map};
-ghost use Rattle.te_command.specs.Generate.{drawn_of, number_of};
+ghost use Rattle.te_command.specs.Generate.{drawn_of, decimal_number};
 
 use crate::answer::{Answer, Fault};
 use crate::ask::Ask;
@@ -31,7 +31,7 @@ impl Ask for Generate {
 
 // The number of which the word is the decimal, where it is below 2^64.
 fn number(word: &str) -> Option<u64>
-    ensures { result ≡ number_of word.now }
+    ensures { result ≡ decimal_number word.now }
 {
     let number = word.parse::<u64>().ok()?;
     if itoa::Buffer::new().format(number) == word {

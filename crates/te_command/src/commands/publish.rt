@@ -4,7 +4,7 @@ ghost use Rattle.te_model.specs.Network.{is_well_formed, link_count, node_count}
 ghost use Rattle.traffic_matrix.specs.Limits.{IsSeries};
 ghost use Rattle.plan.specs.Plan.{InRange};
 ghost use Rattle.te_command.specs.Publish.{IsPublication, no_path_line};
-ghost use Rattle.te_command.specs.Outcome.{status_of, text_of};
+ghost use Rattle.te_command.specs.Outcome.{status_of, answer_text};
 
 use crate::answer::{Answer, Fault};
 use crate::ask::Ask;
@@ -56,7 +56,7 @@ fn certify(
     requires network { IsTrue (is_well_formed network.now) }
     requires links { 1 ≤ link_count network.now }
     requires series { IsSeries (node_count network.now) series.now }
-    ensures { IfOk result (λ answer. IsPublication plan.now network.now series.now (status_of answer) (text_of answer)) }
+    ensures { IfOk result (λ answer. IsPublication plan.now network.now series.now (status_of answer) (answer_text answer)) }
 {
     match experiment::certificate_file(alloc, plan, network, series) {
         Ok(file) => Ok(Answer::Done(file)),

@@ -2,7 +2,7 @@ use Rattle.std.proofs.Common.{◌≡◌, List, length, arith, ap, sym, subst, �
 use Rattle.te_model.specs.declared.route.PairRoutes.{PairRoutes}
 use Rattle.te_model.specs.declared.route.Pair.{Pair}
 use Rattle.routing.specs.Routes.{IsRoutingOf}
-use Rattle.path_budget.specs.Budget.{trimmed}
+use Rattle.path_budget.specs.Budget.{trimmed_routes}
 use Rattle.best_blocks.specs.Conditions.{IsSetWithin}
 use Rattle.ratio_certificate.specs.Made.{IsMade}
 use Rattle.std.proofs.lemmas.List.{length-map}
@@ -31,7 +31,7 @@ make-requires-clause-set g c =
 
 pub returns-clause-made : goal.returns-clause-made
 returns-clause-made g c =
-    let is = c.in_ok-routing.ensures.trimmed ∙ ap (trimmed c.args.budget) c.fixed.ensures in (
+    let is = c.in_ok-routing.ensures.trimmed ∙ ap (trimmed_routes c.args.budget) c.fixed.ensures in (
       c.in_ok-plan.plan,
       c.in_ok-plan.ensures.plan,
       subst (λ (r : List PairRoutes). IsMade c.args.net.now r c.args.set c.in_ok-certificate.certificate) is c.in_ok-certificate.ensures,

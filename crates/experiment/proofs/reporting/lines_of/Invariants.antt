@@ -2,7 +2,7 @@ use Rattle.std.proofs.Common.{◌≡◌, ◌*◌, ◌^◌, List}
 use Rattle.std.specs.List.{flat_map}
 use Rattle.series_simulation.specs.declared.step_row.StepRow.{StepRow}
 use Rattle.series_simulation.proofs.Rowing.{AreRowsBefore}
-use Rattle.experiment.specs.Text.{AmountsAtMost, row_line, total_of}
+use Rattle.experiment.specs.Text.{AmountsAtMost, step_line, total_of}
 use Rattle.experiment.proofs.reporting.lines_of.Given as goal
 
 abbrev pub invariant-loop-step : goal.invariant-loop-step
@@ -10,6 +10,6 @@ invariant-loop-step g l = record {
   written : (rows : List StepRow)
       × AreRowsBefore g.S.Scheme.PATHS (g.S.Scheme.is_plan l.scheme) (g.S.Scheme.relates l.scheme) g.S.Note.LowNote.low l.network l.series l.failures
       l.recovery l.prepared.plan l.step rows
-      × (l.text.items ≡ flat_map (row_line l.word) rows) × (l.total ≡ total_of rows);
+      × (l.text.items ≡ flat_map (step_line l.word) rows) × (l.total ≡ total_of rows);
   small : AmountsAtMost (l.step * 2 ^ 64) l.total;
 }

@@ -1,7 +1,7 @@
-use Rattle.std.proofs.Common.{◌<◌, sym, subst, arith}
+use Rattle.std.proofs.Common.{sym, subst, arith}
 use Rattle.std.proofs.lemmas.List.Elements.{All-weaker}
-use Rattle.te_model.specs.declared.route.Pair.{Pair}
 use Rattle.te_model.specs.Network.{node_count}
+use Rattle.te_model.specs.Pairs.{IsNodePair}
 use Rattle.local_recovery.specs.Rates.{ArePairs}
 use Rattle.measure.proofs.Listed.{IsBelow, listed_ascend}
 use Rattle.measure.proofs.pairs.pairs_from.Goals as goal
@@ -12,7 +12,7 @@ returns-clause-ascending c =
     let listed = c.loop-place.invariant in
     subst (ArePairs net) (sym c.new.ensures)
     (record {
-      nodes = All-weaker (IsBelow c.loop-place.place) (λ (p : Pair). (p.src < node_count net) × (p.dst < node_count net))
-          (λ p of. (omega (arith, of.src, c.requires.nodes), omega (arith, of.dst, c.requires.nodes))) c.loop-place.list.items listed.each;
+      nodes = All-weaker (IsBelow c.loop-place.place) (IsNodePair (node_count net))
+          (λ p of. record { src = omega (arith, of.src, c.requires.nodes); dst = omega (arith, of.dst, c.requires.nodes) }) c.loop-place.list.items listed.each;
       ascending = listed_ascend c.loop-place.place c.loop-place.list.items listed;
     })

@@ -1,5 +1,5 @@
 use Rattle.std.proofs.Common.{ap, Ok}
-use Rattle.te_ports.specs.Shown.{shown}
+use Rattle.te_ports.specs.Shown.{shown_by}
 use Rattle.te_command.proofs.Feeding.{fed_more, fed_on, fed_whole, may_follow}
 use Rattle.te_command.proofs.certificates.feed_blocks.Goals as goal
 
@@ -16,7 +16,7 @@ rest-preserved g c =
 
 pub returns-clause-whole : goal.returns-clause-whole
 returns-clause-whole g c =
-    let seen = shown g.D.Depot.content g.D.Depot.gave g.D.Depot.faults in
+    let seen = shown_by g.D.Depot.content g.D.Depot.gave g.D.Depot.faults in
     fed_whole _ _ (seen c.rest.depot) (seen c.next.new.depot) _ _ c.rest.invariant (c.in_ok-next.ensures.whole (ap Ok c.if-branch.false))
 
 pub returns-clause-reads : goal.returns-clause-reads

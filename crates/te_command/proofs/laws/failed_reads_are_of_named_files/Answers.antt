@@ -1,6 +1,6 @@
 use Rattle.std.proofs.Common.{◌⊎◌, ℕ, List, inl, inr}
 use Rattle.te_ports.specs.Ports.{Rose}
-use Rattle.te_command.specs.Files.{Files, given}
+use Rattle.te_command.specs.Files.{Files, given_files}
 use Rattle.te_command.specs.Reading.{ReadFailed}
 use Rattle.te_command.specs.Commands.{check_network, reading_of}
 use Rattle.te_command.proofs.laws.failed_reads_are_of_named_files.Goals as goal
@@ -14,4 +14,4 @@ named certificate topology files Fails (inr (spelled, gives, inr (network, makes
 pub returns : goal.returns
 returns g c = λ certificate topology before failed.
     let depot = c.args.depot.now in
-    named certificate topology (given (g.D.Depot.gave depot)) (λ file. Rose (before file) (g.D.Depot.faults depot file)) failed
+    named certificate topology (given_files (g.D.Depot.gave depot)) (λ file. Rose (before file) (g.D.Depot.faults depot file)) failed
