@@ -31,4 +31,4 @@ pub step_demands : (n pairs : ℕ) (series : Series) (k : ℕ) → IsSeries n se
     AreDemands pairs (get_or series.steps k no_matrix).demand
 step_demands n pairs series k is count below =
     let matrix = is.matrices k no_matrix below in
-    record { count = omega (arith, matrix.count, count); small = matrix.demands }
+    record { count = omega (arith, matrix.count, count); small = matrix.small }

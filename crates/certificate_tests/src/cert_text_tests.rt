@@ -1,3 +1,4 @@
+//! The text of certificates: where it leaves the format, which rule it fails, and that what is printed is what was read.
 use cert_text::*;
 use std::alloc::{AllocError, Global};
 use std::test::*;

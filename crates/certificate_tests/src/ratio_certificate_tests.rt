@@ -1,31 +1,22 @@
+//! The best blocks of links, what they need, and certificates that are made, each of the straight routes of three nodes.
 ghost use Rattle.std.specs.Prelude.{◌≡◌, ◌^◌, ◌<◌, ◌≤◌, All, IfOk, length};
-ghost use Rattle.te_model.specs.ThreeNodes.{straight_routes, three_nodes};
+ghost use Rattle.te_model.specs.ThreeNodes.{straight_routes};
 ghost use Rattle.best_blocks.specs.Conditions.{IsSetWithin};
 
 use ratio_certificate::*;
 use routing::Routing;
-use sample_networks::{matrix, network, weighted_routes};
+use sample_networks::{matrix, straight_routes, three_nodes};
 use std::alloc::{AllocError, Global};
 use std::test::Fail;
-use te_model::{Block, Certificate, DemandSet, Memory, Network, Row};
+use te_model::{Block, Certificate, DemandSet, Memory, Row};
 
-/// The nodes a, b and c, with links from a and from b to c, and both ways between a and b.
-fn three_nodes(alloc: Global) -> Result<Network, AllocError>
-    ensures { IfOk result (λ n. n ≡ three_nodes) }
-{
-    let ends = [(0, 2, 10, 1), (1, 2, 10, 1), (0, 1, 10, 1), (1, 0, 10, 1)];
-    network(alloc, &["a", "b", "c"], &ends)
-}
-
-/// The demands from a and from b to c, each on its own link.
-fn straight_routes(alloc: Global) -> Result<Routing, AllocError>
+/// The straight routes as a routing.
+fn straight_routing(alloc: Global) -> Result<Routing, AllocError>
     ensures { IfOk result (λ r. r.routes ≡ straight_routes) }
 {
-    let routes = weighted_routes(
-        alloc,
-        &[(0, 2, &[(&[0], 1_000_000)]), (1, 2, &[(&[1], 1_000_000)])],
-    )?;
-    Ok(Routing { routes })
+    Ok(Routing {
+        routes: straight_routes(alloc)?,
+    })
 }
 
 /// The matrices in which both demands are equal, or all.
@@ -66,7 +57,7 @@ fn best_on(
     requires small { All (λ w. w ≤ 2 ^ 28) weights.now }
 {
     let net = three_nodes(alloc)?;
-    let routing = straight_routes(alloc)?;
+    let routing = straight_routing(alloc)?;
     match scale(alloc, &net, &routing, set, link, weights)? {
         Some(block) => {
             let least = need(&net, &block);
@@ -175,7 +166,7 @@ fn made(alloc: Global, set: DemandSet) -> Result<Certificate, Memory>
     requires { IsSetWithin 2 set }
 {
     let net = three_nodes(alloc)?;
-    let routing = straight_routes(alloc)?;
+    let routing = straight_routing(alloc)?;
     make(alloc, &net, &routing, set)
 }
 

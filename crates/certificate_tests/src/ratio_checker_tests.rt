@@ -1,3 +1,4 @@
+//! The verdict on certificates that keep the rules, yes or no, on the whole and on its blocks one at a time.
 ghost use Rattle.std.specs.Prelude.{◌≡◌, ◌∷◌, [], IfOk};
 ghost use Rattle.te_model.specs.declared.demand.DemandSet.TheVariants.{All};
 ghost use Rattle.te_model.specs.ThreeNodes.{blocks_for_all, block_for_double, blocks_for_double, block_for_equal, box_between, double_demands, equal_demands, three_nodes_in};
@@ -6,37 +7,15 @@ ghost use Rattle.te_model.specs.Validity.{IsValid};
 ghost use Rattle.certificate_tests.specs.RatioCheckerSamples.{equal_blocks, straight_block};
 
 use ratio_checker::{Feed, Finding, verdict};
+use sample_networks::{network, parallel_links, straight_routes, three_nodes, weighted_routes};
 use std::alloc::{AllocError, Global};
 use std::test::Fail;
-use te_model::{
-    Block, Certificate, DemandSet, Head, Items, Link, Matrix, Memory, Name, Network, Pair,
-    PairRoutes, PathShare, Row,
-};
+use te_model::{Block, Certificate, DemandSet, Head, Items, Matrix, Memory, Row};
 
 fn numbers(alloc: Global, numbers: &[u64]) -> Result<Items<u64>, AllocError>
     ensures { IfOk result (λ items. items ≡ numbers.now) }
 {
     Ok(Items::new(numbers.to_vec(alloc)?))
-}
-
-fn link(tail: u32, head: u32, capacity: u64) -> Link
-    ensures { result ≡ record { tail = tail; head = head; capacity = capacity; cost = 1 } }
-{
-    Link {
-        tail,
-        head,
-        capacity,
-        cost: 1,
-    }
-}
-
-fn path(alloc: Global, link: u32, weight: u64) -> Result<PathShare, AllocError>
-    ensures { IfOk result (λ path. path ≡ record { links = link ∷ []; weight = weight }) }
-{
-    Ok(PathShare {
-        links: Items::new(vec![in alloc; link]?),
-        weight,
-    })
 }
 
 fn row(alloc: Global, source: u32, potential: &[u64]) -> Result<Row, AllocError>
@@ -52,22 +31,11 @@ fn row(alloc: Global, source: u32, potential: &[u64]) -> Result<Row, AllocError>
 fn parallel(alloc: Global, blocks: Vec<Block>) -> Result<Certificate, AllocError>
     ensures { IfOk result (λ cert. cert ≡ parallel_certificate blocks.items) }
 {
-    let names = vec![in alloc;
-        Name::new("a".to_string(alloc)?),
-        Name::new("b".to_string(alloc)?),
-    ]?;
-    let routes = PairRoutes {
-        pair: Pair { src: 0, dst: 1 },
-        paths: Items::new(vec![in alloc; path(alloc, 0, 500_000)?, path(alloc, 1, 500_000)?]?),
-    };
     Ok(Certificate {
         head: Head {
             format: 1,
-            network: Network {
-                names: Items::new(names),
-                links: Items::new(vec![in alloc; link(0, 1, 10), link(0, 1, 30)]?),
-            },
-            routes: Items::new(vec![in alloc; routes]?),
+            network: parallel_links(alloc)?,
+            routes: weighted_routes(alloc, &[(0, 1, &[(&[0], 500_000), (&[1], 500_000)])])?,
             set: DemandSet::All,
             ratio: 2_000_000,
         },
@@ -89,7 +57,7 @@ fn half(alloc: Global, link: u32) -> Result<Block, AllocError>
     })
 }
 
-fn three_nodes(
+fn three_nodes_in(
     alloc: Global,
     format: u32,
     set: DemandSet,
@@ -98,32 +66,11 @@ fn three_nodes(
 ) -> Result<Certificate, AllocError>
     ensures { IfOk result (λ cert. cert ≡ three_nodes_in format set ratio blocks.items) }
 {
-    let names = vec![in alloc;
-        Name::new("a".to_string(alloc)?),
-        Name::new("b".to_string(alloc)?),
-        Name::new("c".to_string(alloc)?),
-    ]?;
-    let from_a = PairRoutes {
-        pair: Pair { src: 0, dst: 2 },
-        paths: Items::new(vec![in alloc; path(alloc, 0, 1_000_000)?]?),
-    };
-    let from_b = PairRoutes {
-        pair: Pair { src: 1, dst: 2 },
-        paths: Items::new(vec![in alloc; path(alloc, 1, 1_000_000)?]?),
-    };
     Ok(Certificate {
         head: Head {
             format,
-            network: Network {
-                names: Items::new(names),
-                links: Items::new(vec![in alloc;
-                    link(0, 2, 10),
-                    link(1, 2, 10),
-                    link(0, 1, 10),
-                    link(1, 0, 10),
-                ]?),
-            },
-            routes: Items::new(vec![in alloc; from_a, from_b]?),
+            network: three_nodes(alloc)?,
+            routes: straight_routes(alloc)?,
             set,
             ratio,
         },
@@ -151,7 +98,7 @@ fn for_all(alloc: Global, ratio: u64) -> Result<Certificate, AllocError>
 {
     let first = straight_block(alloc, 0)?;
     let second = straight_block(alloc, 1)?;
-    three_nodes(
+    three_nodes_in(
         alloc,
         1,
         DemandSet::All,
@@ -193,7 +140,7 @@ fn for_equal(alloc: Global, minus: &[u64]) -> Result<Certificate, AllocError>
             demand: numbers(alloc, &[10, 10])?,
         },
     };
-    three_nodes(alloc, 1, set, 1_000_000, equal(alloc, minus)?)
+    three_nodes_in(alloc, 1, set, 1_000_000, equal(alloc, minus)?)
 }
 
 fn between(alloc: Global, lower: &[u64], upper: &[u64]) -> Result<DemandSet, AllocError>
@@ -214,7 +161,7 @@ fn for_box(alloc: Global, upper: &[u64]) -> Result<Certificate, AllocError>
     ensures { IfOk result (λ cert. cert ≡ three_nodes_in 2 (box_between (10 ∷ 10 ∷ []) upper.now) 1000000 (equal_blocks (0 ∷ 1 ∷ []))) }
 {
     let set = between(alloc, &[10, 10], upper)?;
-    three_nodes(alloc, 2, set, 1_000_000, equal(alloc, &[0, 1])?)
+    three_nodes_in(alloc, 2, set, 1_000_000, equal(alloc, &[0, 1])?)
 }
 
 fn double_block(alloc: Global, link: u32, plus: &[u64], minus: &[u64]) -> Result<Block, AllocError>
@@ -237,21 +184,12 @@ fn for_double(alloc: Global, ratio: u64) -> Result<Certificate, AllocError>
     let set = between(alloc, &[10, 10], &[20, 20])?;
     let first = double_block(alloc, 0, &[1, 0], &[0, 2])?;
     let second = double_block(alloc, 1, &[0, 1], &[2, 0])?;
-    three_nodes(alloc, 2, set, ratio, vec![in alloc; first, second]?)
+    three_nodes_in(alloc, 2, set, ratio, vec![in alloc; first, second]?)
 }
 
 fn out_of_reach(alloc: Global, potential: u64) -> Result<Certificate, AllocError>
     ensures { IfOk result (λ cert. cert ≡ out_of_reach_certificate potential) }
 {
-    let names = vec![in alloc;
-        Name::new("a".to_string(alloc)?),
-        Name::new("b".to_string(alloc)?),
-        Name::new("z".to_string(alloc)?),
-    ]?;
-    let routes = PairRoutes {
-        pair: Pair { src: 0, dst: 1 },
-        paths: Items::new(vec![in alloc; path(alloc, 0, 1_000_000)?]?),
-    };
     let block = Block {
         link: 0,
         a: 1_000_000,
@@ -264,11 +202,8 @@ fn out_of_reach(alloc: Global, potential: u64) -> Result<Certificate, AllocError
     Ok(Certificate {
         head: Head {
             format: 1,
-            network: Network {
-                names: Items::new(names),
-                links: Items::new(vec![in alloc; link(0, 1, 10), link(2, 1, 10)]?),
-            },
-            routes: Items::new(vec![in alloc; routes]?),
+            network: network(alloc, &["a", "b", "z"], &[(0, 1, 10, 1), (2, 1, 10, 1)])?,
+            routes: weighted_routes(alloc, &[(0, 1, &[(&[0], 1_000_000)])])?,
             set: DemandSet::All,
             ratio: 1_000_000,
         },
@@ -299,7 +234,7 @@ fn no(link: u32, rule: u8, place: u64) -> Option<Finding> {
 }
 
 #[test]
-fn parallel_links(rt: HostRuntime) -> Result<(), Fail> {
+fn two_parallel_links(rt: HostRuntime) -> Result<(), Fail> {
     let alloc = rt.alloc();
     let both = vec![in alloc; half(alloc, 0)?, half(alloc, 1)?]?;
     assert_eq!(rt; found(alloc, parallel(alloc, both)?)?, yes());
@@ -318,7 +253,7 @@ fn two_of_three_nodes_send(rt: HostRuntime) -> Result<(), Fail> {
     assert_eq!(rt; found(alloc, for_equal(alloc, &[0, 1])?)?, yes());
     assert_eq!(rt; found(alloc, for_equal(alloc, &[0, 0])?)?, no(0, 3, 0));
     let second = vec![in alloc; straight_block(alloc, 1)?]?;
-    let cert = three_nodes(alloc, 1, DemandSet::All, 1_999_999, second)?;
+    let cert = three_nodes_in(alloc, 1, DemandSet::All, 1_999_999, second)?;
     assert_eq!(rt; found(alloc, cert)?, no(0, 2, 0));
     Ok(())
 }

@@ -1,3 +1,4 @@
+//! Records of a file of comma-separated values, and numbers in their fields.
 use csv_records::*;
 use std::test::Fail;
 

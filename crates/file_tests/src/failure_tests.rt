@@ -1,3 +1,4 @@
+//! Files of outages: their faults, the links that fail in each step, and the network that is left.
 ghost use Rattle.std.specs.Prelude.{IsTrue};
 ghost use Rattle.te_model.specs.Network.{is_well_formed};
 

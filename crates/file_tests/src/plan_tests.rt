@@ -1,3 +1,4 @@
+//! Plans: their faults, and what a plan says where a member is left out.
 use plan::*;
 use std::alloc::Global;
 use std::test::Fail;

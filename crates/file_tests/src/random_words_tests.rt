@@ -1,3 +1,4 @@
+//! The words that are drawn from a seed.
 use random_words::*;
 use std::test::Fail;
 

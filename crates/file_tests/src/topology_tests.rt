@@ -1,3 +1,4 @@
+//! Files of a network: their faults, the order of its nodes, and the most nodes and links.
 use std::alloc::Global;
 use std::test::Fail;
 use topology::*;

@@ -1,3 +1,4 @@
+//! Files of matrices: their faults, their steps and pairs, and series that are drawn and read back.
 ghost use Rattle.std.specs.Prelude.{IsTrue};
 ghost use Rattle.te_model.specs.Network.{is_well_formed};
 
@@ -8,7 +9,7 @@ use te_model::Network;
 use traffic_matrix::*;
 
 // Three nodes a, b, c with a link from a to b.
-fn three_nodes(alloc: Global) -> Result<Network, AllocError> {
+fn one_link(alloc: Global) -> Result<Network, AllocError> {
     network(alloc, &["a", "b", "c"], &[(0, 1, 10, 1)])
 }
 
@@ -29,7 +30,7 @@ fn second_row(alloc: Global, net: &Network, row: &str) -> Result<Option<MatrixFa
 #[test]
 fn first_faults(rt: HostRuntime) -> Result<(), Fail> {
     let alloc = rt.alloc();
-    let net = three_nodes(alloc)?;
+    let net = one_link(alloc)?;
     assert!(rt; te_model::well_formed(&net));
     for text in ["", "step,source,target\n"] {
         assert_eq!(rt;
@@ -56,7 +57,7 @@ fn first_faults(rt: HostRuntime) -> Result<(), Fail> {
 #[test]
 fn steps_and_declared_pairs(rt: HostRuntime) -> Result<(), Fail> {
     let alloc = rt.alloc();
-    let net = three_nodes(alloc)?;
+    let net = one_link(alloc)?;
     assert!(rt; te_model::well_formed(&net));
     let series = read(
         alloc,
@@ -78,7 +79,7 @@ fn steps_and_declared_pairs(rt: HostRuntime) -> Result<(), Fail> {
 #[test]
 fn a_header_alone(rt: HostRuntime) -> Result<(), Fail> {
     let alloc = rt.alloc();
-    let net = three_nodes(alloc)?;
+    let net = one_link(alloc)?;
     assert!(rt; te_model::well_formed(&net));
     let empty = read(alloc, &net, b"step,source,target,demand\n")?;
     assert_eq!(rt; empty.steps.as_slice().len(), 0);
@@ -88,7 +89,7 @@ fn a_header_alone(rt: HostRuntime) -> Result<(), Fail> {
 #[test]
 fn drawn_series_read_back(rt: HostRuntime) -> Result<(), Fail> {
     let alloc = rt.alloc();
-    let net = three_nodes(alloc)?;
+    let net = one_link(alloc)?;
     assert!(rt; te_model::well_formed(&net));
     let series = gravity(alloc, &net, 7, 2)?;
     let pairs = series.pairs.list.as_slice();

@@ -3,15 +3,15 @@ use Rattle.std.specs.Prelude.{ℕ, List, [], ◌∷◌, codes}
 use Rattle.te_model.specs.declared.network.Network.{Network}
 use Rattle.te_model.specs.declared.route.PathShare.{PathShare}
 use Rattle.te_model.specs.declared.route.PairRoutes.{PairRoutes}
-use Rattle.sample_networks.specs.Literals.{network_of, routes_of, share_of}
+use Rattle.sample_networks.specs.Literals.{network_with, routes_of, share_of}
 
 -- the nodes s, t and x, a straight link from s to t, a way over x, and a link from x back to s
-abbrev pub three_nodes : Network
-three_nodes = network_of (codes "s" ∷ codes "t" ∷ codes "x" ∷ []) ((0, 1, 10, 1) ∷ (0, 2, 10, 1) ∷ (2, 1, 10, 1) ∷ (2, 0, 10, 1) ∷ [])
+abbrev pub way_and_back : Network
+way_and_back = network_with (codes "s" ∷ codes "t" ∷ codes "x" ∷ []) ((0, 1, 10, 1) ∷ (0, 2, 10, 1) ∷ (2, 1, 10, 1) ∷ (2, 0, 10, 1) ∷ [])
 
 -- the nodes s, t, x, y and z, with links from s to each of x, y and z, and from each of these to t
 abbrev pub three_middles : Network
-three_middles = network_of (codes "s" ∷ codes "t" ∷ codes "x" ∷ codes "y" ∷ codes "z" ∷ [])
+three_middles = network_with (codes "s" ∷ codes "t" ∷ codes "x" ∷ codes "y" ∷ codes "z" ∷ [])
     ((0, 2, 10, 1) ∷ (0, 3, 10, 1) ∷ (0, 4, 10, 1) ∷ (2, 1, 10, 1) ∷ (3, 1, 10, 1) ∷ (4, 1, 10, 1) ∷ [])
 
 -- a third of a million over each of x, y and z
@@ -20,7 +20,7 @@ thirds = 333334 ∷ 333333 ∷ 333333 ∷ 333334 ∷ 333333 ∷ 333333 ∷ []
 
 -- the nodes a, m and b: a link from a to m, two from m to b, and one from b back to a
 abbrev pub fork : Network
-fork = network_of (codes "a" ∷ codes "m" ∷ codes "b" ∷ []) ((0, 1, 10, 1) ∷ (1, 2, 10, 1) ∷ (1, 2, 10, 1) ∷ (2, 0, 10, 1) ∷ [])
+fork = network_with (codes "a" ∷ codes "m" ∷ codes "b" ∷ []) ((0, 1, 10, 1) ∷ (1, 2, 10, 1) ∷ (1, 2, 10, 1) ∷ (2, 0, 10, 1) ∷ [])
 
 -- half of the demand on each of two paths
 abbrev pub half_each : List ℕ → List ℕ → List PathShare

@@ -1,3 +1,4 @@
+//! Even splits over least paths, and the paths that they come apart into.
 use crate::thirds::assert_thirds;
 use ecmp_split::*;
 use routing::decompose;

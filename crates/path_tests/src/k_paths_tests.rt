@@ -1,3 +1,4 @@
+//! The least paths of a pair in order, and even weights on them.
 use k_paths::*;
 use sample_networks::{network, pairs, three_ways};
 use scheme::{Oblivious, Scheme};

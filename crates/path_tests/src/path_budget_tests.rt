@@ -1,3 +1,4 @@
+//! The heaviest paths of a pair, where it has more than it may keep.
 use path_budget::*;
 use routing::Routing;
 use sample_networks::weighted_routes;

@@ -1,5 +1,6 @@
+//! Routings: shares, loads, loops that are cut, equal paths that are merged, and flows that come apart into paths.
 ghost use Rattle.std.specs.Prelude.{◌≡◌, IfOk, length};
-ghost use Rattle.path_tests.specs.RoutingSamples.{fork, halves, three_middles, three_nodes};
+ghost use Rattle.path_tests.specs.RoutingSamples.{fork, halves, three_middles, way_and_back};
 
 use crate::thirds::assert_thirds;
 use routing::*;
@@ -9,8 +10,8 @@ use std::test::Fail;
 use te_model::{Items, Memory, Network, Pair, Path, PathShare};
 
 /// The nodes s, t and x: a straight link from s to t, a way over x, and a link from x back to s.
-fn three_nodes(alloc: Global) -> Result<Network, AllocError>
-    ensures { IfOk result (λ n. n ≡ three_nodes) }
+fn way_and_back(alloc: Global) -> Result<Network, AllocError>
+    ensures { IfOk result (λ n. n ≡ way_and_back) }
 {
     let ends = [(0, 1, 10, 1), (0, 2, 10, 1), (2, 1, 10, 1), (2, 0, 10, 1)];
     network(alloc, &["s", "t", "x"], &ends)
@@ -19,7 +20,7 @@ fn three_nodes(alloc: Global) -> Result<Network, AllocError>
 #[test]
 fn shares_and_loads(rt: HostRuntime) -> Result<(), Fail> {
     let alloc = rt.alloc();
-    let net = three_nodes(alloc)?;
+    let net = way_and_back(alloc)?;
     let routing = Routing {
         routes: weighted_routes(alloc, &[(0, 1, &[(&[0], 750_000), (&[1, 2], 250_000)])])?,
     };
@@ -35,7 +36,7 @@ fn shares_and_loads(rt: HostRuntime) -> Result<(), Fail> {
 #[test]
 fn loops_and_equal_paths(rt: HostRuntime) -> Result<(), Fail> {
     let alloc = rt.alloc();
-    let net = three_nodes(alloc)?;
+    let net = way_and_back(alloc)?;
     match cut_loops(alloc, &net, 0, &[1, 3, 0]) {
         Ok(cut) => assert!(rt; cut.as_slice() == [0].as_slice()),
         Err(_) => assert!(rt; false),

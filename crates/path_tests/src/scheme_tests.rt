@@ -1,3 +1,4 @@
+//! The least path of each pair as a scheme, and schemes in generic code.
 mod generic;
 
 use generic::{fixed_copy, planned};

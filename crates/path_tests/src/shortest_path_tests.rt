@@ -1,3 +1,4 @@
+//! Least distances, and the paths that have them.
 use sample_networks::four_nodes;
 use shortest_path::*;
 use std::test::Fail;

@@ -11,8 +11,8 @@ abbrev pub link_of : ℕ × ℕ × ℕ × ℕ → Link
 link_of l = record { tail = l.0; head = l.1; capacity = l.2; cost = l.3 }
 
 -- the network of these nodes and links
-abbrev pub network_of : List (List ℕ) → List (ℕ × ℕ × ℕ × ℕ) → Network
-network_of nodes ends = record { names = nodes; links = map link_of ends }
+abbrev pub network_with : List (List ℕ) → List (ℕ × ℕ × ℕ × ℕ) → Network
+network_with nodes ends = record { names = nodes; links = map link_of ends }
 
 -- the pair of this source and this destination
 abbrev pub pair_of : ℕ × ℕ → Pair

@@ -7,4 +7,6 @@ pub mod networks;
 
 pub use backbone::BACKBONE;
 pub use literals::{WeightedPath, matrix, network, pairs, weighted_paths, weighted_routes};
-pub use networks::{four_nodes, one_way, parallel_links, three_ways, two_nodes};
+pub use networks::{
+    four_nodes, one_way, parallel_links, straight_routes, three_nodes, three_ways, two_nodes,
+};

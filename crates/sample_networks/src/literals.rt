@@ -1,6 +1,6 @@
 //! Networks, pairs, paths and demands, each made from a list of names or numbers.
 ghost use Rattle.std.specs.Prelude.{◌≡◌, IfOk, map};
-ghost use Rattle.sample_networks.specs.Literals.{link_of, network_of, pair_of, routes_of, share_of};
+ghost use Rattle.sample_networks.specs.Literals.{link_of, network_with, pair_of, routes_of, share_of};
 
 use std::alloc::{AllocError, Global};
 use te_model::{Items, Link, Matrix, Name, Network, Pair, PairRoutes, Pairs, PathShare};
@@ -39,7 +39,7 @@ pub fn network(
     nodes: &[&str],
     ends: &[(u32, u32, u64, u32)],
 ) -> Result<Network, AllocError>
-    ensures { IfOk result (λ n. n ≡ network_of (map (λ s. s.now) nodes.now) ends.now) }
+    ensures { IfOk result (λ n. n ≡ network_with (map (λ s. s.now) nodes.now) ends.now) }
 {
     let names = names(alloc, nodes)?;
     let links = links(alloc, ends)?;

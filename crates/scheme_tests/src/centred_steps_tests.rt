@@ -1,11 +1,10 @@
-ghost use Rattle.std.specs.Prelude.{◌≡◌, ◌^◌, ◌≤◌, IfOk};
-ghost use Rattle.te_model.specs.ThreeNodes.{three_nodes};
+//! A step of the weights from the mean of the usages, and loads along the least ways.
+ghost use Rattle.std.specs.Prelude.{◌^◌, ◌≤◌};
 
 use centred_steps::*;
-use sample_networks::{network, parallel_links};
+use sample_networks::{parallel_links, three_nodes};
 use std::alloc::{AllocError, Global};
 use std::test::Fail;
-use te_model::Network;
 
 /// The weights of the parallel links of capacities 10 and 30 after a step, where the first has a load of 40.
 fn stepped(alloc: Global, first: u64, second: u64, parts: u64) -> Result<(u64, u64), AllocError>
@@ -16,7 +15,7 @@ fn stepped(alloc: Global, first: u64, second: u64, parts: u64) -> Result<(u64, u
     let net = parallel_links(alloc)?;
     let mut weights = [first, second];
     let loads = [40, 0];
-    step(&net, &mut weights, &loads, parts);
+    step_weights(&net, &mut weights, &loads, parts);
     Ok((weights[0], weights[1]))
 }
 
@@ -47,14 +46,6 @@ fn weights_stay_within_their_limits(rt: HostRuntime) -> Result<(), Fail> {
     Ok(())
 }
 
-/// The nodes a, b and c, with links from a and from b to c, and both ways between a and b.
-fn three_nodes(alloc: Global) -> Result<Network, AllocError>
-    ensures { IfOk result (λ n. n ≡ three_nodes) }
-{
-    let ends = [(0, 2, 10, 1), (1, 2, 10, 1), (0, 1, 10, 1), (1, 0, 10, 1)];
-    network(alloc, &["a", "b", "c"], &ends)
-}
-
 #[test]
 fn loads_lie_on_the_least_way(rt: HostRuntime) -> Result<(), Fail> {
     let alloc = rt.alloc();
@@ -69,7 +60,7 @@ fn loads_lie_on_the_least_way(rt: HostRuntime) -> Result<(), Fail> {
     assert!(rt; lasts == [None, Some(2), Some(1)]);
     assert_eq!(rt; narrowest_on(&net, &lasts, 2), 10);
     let mut loads = [0, 0, 0, 0];
-    add_along(&net, &lasts, 2, 5, &mut loads);
+    add_load_along(&net, &lasts, 2, 5, &mut loads);
     assert!(rt; loads == [0, 5, 5, 0]);
     assert!(rt; has_load(&loads));
     clear_loads(&mut loads);

@@ -1,3 +1,4 @@
+//! Bounds from lengths below what any routing needs, on two parallel links.
 ghost use Rattle.std.specs.Prelude.{◌≡◌, ◌^◌, ◌≤◌, ◌∷◌, [], IfOk};
 ghost use Rattle.scheme.specs.Low.{HasLow};
 

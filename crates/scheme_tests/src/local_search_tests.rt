@@ -1,3 +1,4 @@
+//! Moves of weight from one path to another, on two parallel links.
 ghost use Rattle.std.specs.Prelude.{◌∷◌, []};
 ghost use Rattle.routing.specs.Routes.{IsRoutingOf};
 ghost use Rattle.sample_networks.specs.Literals.{pair_of};

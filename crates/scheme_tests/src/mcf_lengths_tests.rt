@@ -1,5 +1,6 @@
+//! Rounds of least paths by lengths that grow with the load, on two parallel links.
 ghost use Rattle.std.specs.Prelude.{◌≡◌, ◌∷◌, [], IfOk};
-ghost use Rattle.mcf_lengths.specs.Rounds.{AreRounds, IsRoundsRouting};
+ghost use Rattle.mcf_lengths.specs.Rounds.{AreFlowRounds, IsRoundsRouting};
 ghost use Rattle.sample_networks.specs.Literals.{pair_of};
 ghost use Rattle.sample_networks.specs.Networks.{parallel_links};
 
@@ -12,7 +13,7 @@ use std::test::Fail;
 use te_model::Memory;
 
 fn sample_rounds(alloc: Global) -> Result<Vec<FlowRound>, Memory>
-    ensures { IfOk result (λ r. AreRounds parallel_links (pair_of (0, 1) ∷ []) (40 ∷ []) r.items) }
+    ensures { IfOk result (λ r. AreFlowRounds parallel_links (pair_of (0, 1) ∷ []) (40 ∷ []) r.items) }
 {
     let net = parallel_links(alloc)?;
     let pairs = pairs(alloc, &[(0, 1)])?;

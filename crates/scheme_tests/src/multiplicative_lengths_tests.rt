@@ -1,3 +1,4 @@
+//! Lengths that grow with the load, on two parallel links.
 use multiplicative_lengths::*;
 use sample_networks::parallel_links;
 use std::alloc::Global;

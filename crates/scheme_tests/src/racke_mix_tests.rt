@@ -1,3 +1,4 @@
+//! The mix of trees, on two nodes with one link each way.
 use racke_mix::*;
 use sample_networks::{matrix, pairs, two_nodes};
 use scheme::{Oblivious, Scheme};

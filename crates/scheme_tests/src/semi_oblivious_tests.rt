@@ -1,3 +1,4 @@
+//! Rates for one matrix over fixed paths, on two parallel links.
 use k_paths::Ksp;
 use racke_mix::Racke;
 use sample_networks::{matrix, pairs, parallel_links};

@@ -1,3 +1,4 @@
+//! Trees of centers, and the tree path of a pair.
 ghost use Rattle.std.specs.Prelude.{◌≡◌, ◌≢◌, ◌<◌, IfOk};
 ghost use Rattle.te_model.specs.Network.{node_count};
 ghost use Rattle.sample_networks.specs.Networks.{one_way, two_nodes};

@@ -1,9 +1,9 @@
 -- The routing of the tests is one of its network.
-use Rattle.std.proofs.Common.{nat_eq, ◌<◌, ◌≤◌, List, [], ◌∷◌, length, arith, refl}
+use Rattle.std.proofs.Common.{nat_eq, ◌≤◌, List, [], ◌∷◌, length, arith, refl}
 use Rattle.std.proofs.lemmas.List.Elements.{All-nil, All-cons}
-use Rattle.te_model.specs.declared.route.Pair.{Pair}
 use Rattle.te_model.specs.declared.route.PairRoutes.{PairRoutes}
 use Rattle.te_model.specs.Network.{node_count}
+use Rattle.te_model.specs.Pairs.{IsNodePair}
 use Rattle.te_model.specs.PathRouting.{IsPathRouting}
 use Rattle.routing.specs.Routes.{HasFewPaths}
 use Rattle.local_recovery.specs.Rates.{ArePairs}
@@ -27,8 +27,7 @@ two_ways_few = All-cons (λ (r : PairRoutes). length r.paths ≤ 4096) two_halve
 
 pub there_pairs : ArePairs four_nodes (pair_of (0, 1) ∷ [])
 there_pairs = record {
-  nodes = All-cons (λ (q : Pair). (q.src < node_count four_nodes) × (q.dst < node_count four_nodes)) (pair_of (0, 1)) []
-      (omega arith, omega arith) (All-nil (λ (q : Pair). (q.src < node_count four_nodes) × (q.dst < node_count four_nodes)));
+  nodes = All-cons (IsNodePair (node_count four_nodes)) (pair_of (0, 1)) [] (record { src = omega arith; dst = omega arith }) (All-nil (IsNodePair (node_count four_nodes)));
   ascending = λ k below. absurd (omega arith);
 }
 

@@ -1,3 +1,4 @@
+//! Reports of plans on small networks.
 use experiment::*;
 use sample_networks::{four_nodes, one_way, parallel_links};
 use std::alloc::Global;

@@ -1,3 +1,4 @@
+//! Summaries of networks that are drawn, published and simulated.
 use generation::*;
 use std::test::Fail;
 

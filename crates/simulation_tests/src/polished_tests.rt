@@ -2,13 +2,12 @@
 ghost use Rattle.std.specs.Prelude.{◌≡◌, ◌^◌, ◌<◌, ◌≤◌, ℕ, All, IfOk, IfSome, IsTrue, length, true};
 ghost use Rattle.te_model.specs.Formats.{limits_of};
 ghost use Rattle.te_model.specs.Network.{is_well_formed, link_count, node_count};
-ghost use Rattle.te_model.specs.Pairs.{IsPairAmong};
+ghost use Rattle.te_model.specs.Pairs.{IsPairAmong, AreDemands};
 ghost use Rattle.te_model.specs.Shape.{is_shaped_set};
 ghost use Rattle.te_model.specs.Validity.{has_margin_numbers, has_pair_bounds};
 ghost use Rattle.best_blocks.specs.Conditions.{IsRoutingWithin, IsSetWithin};
 ghost use Rattle.best_blocks.specs.Need.{HasNumbers};
 ghost use Rattle.best_blocks.specs.Sharing.{HasShare};
-ghost use Rattle.traffic_matrix.specs.Limits.{IsMatrix};
 
 use experiment::publish;
 use ratio_certificate::{need, scale};
@@ -354,7 +353,7 @@ enum Demands {
 /// The matrices whose demands lie between the first matrix over `num` and `num` times it, up to a common factor.
 fn margin(alloc: Global, num: u64, series: &Series) -> Result<DemandSet, Memory>
     requires num { (1 ≤ num) × (num ≤ 1000) }
-    requires series { All (IsMatrix (length series.now.pairs.list)) series.now.steps }
+    requires series { All (λ m. AreDemands (length series.now.pairs.list) m.demand) series.now.steps }
     ensures set { IfOk result (IsSetWithin (length series.now.pairs.list)) }
 {
     match series.steps.as_slice().first() {
@@ -371,7 +370,7 @@ fn margin(alloc: Global, num: u64, series: &Series) -> Result<DemandSet, Memory>
 
 /// The matrices of a series for which a certificate is made.
 fn demand_set(alloc: Global, demands: Demands, series: &Series) -> Result<DemandSet, Memory>
-    requires { All (IsMatrix (length series.now.pairs.list)) series.now.steps }
+    requires { All (λ m. AreDemands (length series.now.pairs.list) m.demand) series.now.steps }
     ensures set { IfOk result (IsSetWithin (length series.now.pairs.list)) }
 {
     match demands {

@@ -1,3 +1,4 @@
+//! How many nodes and links a drawn network has.
 use random_network::*;
 use std::test::Fail;
 

@@ -1,3 +1,4 @@
+//! A series of steps in which links fail, by each recovery, and pairs without a path.
 use k_paths::Ksp;
 use plan::Recovery;
 use sample_networks::four_nodes;

@@ -1,7 +1,7 @@
 use Rattle.std.proofs.Common.{◌≡◌, true, subst, sym}
 use Rattle.te_model.specs.declared.network.Network.{Network}
 use Rattle.te_model.specs.Network.{is_well_formed}
-use Rattle.series_simulation.proofs.SeriesLemmas.{ascending_pairs, series_pairs}
+use Rattle.series_simulation.proofs.SeriesLemmas.{series_pairs}
 use Rattle.simulation_tests.proofs.PolishedLaws.{made_shares, sound_parts}
 use Rattle.simulation_tests.proofs.polished_tests.certificate_of.Goals as goal
 
@@ -9,7 +9,7 @@ pub publish-requires-clause-pairs : goal.publish-requires-clause-pairs
 publish-requires-clause-pairs c = series_pairs c.in_ok-network.network c.in_ok-series.series c.in_ok-network.ensures.well_formed c.in_ok-series.ensures.in_range
 
 pub publish-requires-clause-ascending : goal.publish-requires-clause-ascending
-publish-requires-clause-ascending c = ascending_pairs _ c.in_ok-series.series c.in_ok-series.ensures.in_range
+publish-requires-clause-ascending c = c.in_ok-series.ensures.in_range.ascending
 
 pub invariant_of-routing : goal.invariant_of-routing
 invariant_of-routing c =

@@ -1,7 +1,7 @@
 use Rattle.std.proofs.Common.{◌∙◌, ap, subst, sym, refl, [], ◌∷◌}
 use Rattle.te_model.specs.Validity.{IsValid}
 use Rattle.te_model.specs.TwoLinks.{parallel_certificate}
-use Rattle.certificate_tests.proofs.ratio_checker_tests.parallel_links.Goals as goal
+use Rattle.certificate_tests.proofs.ratio_checker_tests.two_parallel_links.Goals as goal
 
 pub found-requires : goal.found-requires
 found-requires g c =
