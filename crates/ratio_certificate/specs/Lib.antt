@@ -1,5 +1,4 @@
 pub mod Changing
-pub mod Conditions
 pub mod Form
 pub mod Laws
 pub mod Made
