@@ -13,7 +13,7 @@ from .program import TOP
 
 RT = """#!/bin/sh
 case "$1 $2" in
-"version ") echo "rattle-kit-13b logic 0" ;;
+"version ") echo "rattle-kit-13f logic 0" ;;
 "all check") cat "$(dirname "$0")/said"; [ -f "$(dirname "$0")/wait" ] && exec sleep 60; exit "$(cat "$(dirname "$0")/status")" ;;
 "run --")
     mkdir -p out
@@ -30,7 +30,7 @@ CRATES = "# the layers\nlow:\nmiddle: low csv\nyates: middle\nbench: low\n"
 class Place:
     """A small repository with the launcher, and a kit beside it."""
 
-    def __init__(self, folder, said=PROVED, status=0, readme="proved with rattle-kit-13b\n"):
+    def __init__(self, folder, said=PROVED, status=0, readme="proved with rattle-kit-13f\n"):
         self.top, self.kit = os.path.join(folder, "repository"), os.path.join(folder, "kit")
         for name in ("tools", "docs", "crates/yates/data", "crates/yates/src", "crates/low/src", "crates/middle/src", "crates/bench/src"):
             os.makedirs(os.path.join(self.top, name))
@@ -111,7 +111,7 @@ def first_build():
     with tempfile.TemporaryDirectory() as folder:
         place = Place(folder)
         out, err, status = place.launch("check", "c")
-        faults = differences(err, r"^yates: the program is not built yet.*: 3 crates, up to \d+ at a time, with rattle-kit-13b$", r"^yates: .*log: crates/yates/out/build\.log$")
+        faults = differences(err, r"^yates: the program is not built yet.*: 3 crates, up to \d+ at a time, with rattle-kit-13f$", r"^yates: .*log: crates/yates/out/build\.log$")
         faults += differences(err, r"^1 of 3 low: proved, \d+ s$", r"^2 of 3 middle: proved before, \d+ s$", r"^3 of 3 yates: proved, \d+ s$", r"\Ayates:.*(\n.*){6}\n\Z")
         faults += differences(err, r"^yates: proved and built in \d+ s$") + [f"out {out!r}"] * (out != "yes\n") + [f"status {status}"] * (status != 0)
         out, err, status = place.launch("check", "c")
@@ -121,7 +121,7 @@ def first_build():
 def failing_build():
     with tempfile.TemporaryDirectory() as folder:
         out, err, status = Place(folder, FAILED, 1, "rattle-kit-12a").launch("check", "c")
-        faults = differences(err, r"rattle-kit-13b \(README.md names rattle-kit-12a", r"^2 of 3 middle: FAILED", r"^3 of 3 yates: not run")
+        faults = differences(err, r"rattle-kit-13f \(README.md names rattle-kit-12a", r"^2 of 3 middle: FAILED", r"^3 of 3 yates: not run")
         return faults + differences(err, r"^yates: not built: a crate was not proved; crates/yates/out/build\.log says why$") + [f"status {status}"] * (status != 70)
 
 
