@@ -4,15 +4,15 @@
 ghost use Rattle.std.specs.Prelude.{◌≡◌, ◌<◌, ◌≤◌, true, false, IfOk};
 ghost use Rattle.cert_text.specs.Place.{Reads, Passes};
 ghost use Rattle.cert_text.specs.Takes.{Takes};
-ghost use Rattle.cert_text.specs.Reading.{narrow_number, read_many, read_next_narrow};
+ghost use Rattle.cert_text.specs.Reading.{narrow_number, read_next_narrow};
 ghost use Rattle.te_model.specs.Shape.{is_count};
-ghost use Rattle.cert_text.specs.Listed.{IsListOf};
 ghost use Rattle.cert_text.specs.Fits.{IsWord, IsNamed, FitsLink, FitsNetwork, FitsPath, FitsPair, FitsRoutes, FitsList, FitsSet, FitsHead, FitsRow, FitsSides, FitsBlock};
 ghost use Rattle.cert_text.specs.Grammar.{read_counted, read_listing, read_name_line, read_link_line, read_network, read_path, read_pair, read_routes, read_all, read_margin, read_set, read_ratio, read_head, read_number_line, read_row, read_sides, read_block, read_closing, read_opening, read_certificate, counts_of, read_box, has_boxes, read_digit, read_format};
 ghost use Rattle.te_model.specs.Formats.{limits_of};
 
 use crate::cursor::Cursor;
 use crate::fault::Stop;
+use crate::item::{Item, many};
 use crate::limits::Counts;
 use crate::reader::Reader;
 use std::alloc::Global;
@@ -55,56 +55,48 @@ fn listing<C: Cursor>(
     Ok(Items::new(list))
 }
 
-#[tactic(auto, unfolding(crate::specs::Grammar::read_name_line))]
-fn name_line<C: Cursor>(r: &mut Reader<C>, alloc: Global) -> Result<Name, Stop>
-    ensures fits { IfOk result (λ x. IsNamed x) }
-    ensures takes { Takes r.old r.new (Reads result) read_name_line }
-{
-    let name = r.name(alloc)?;
-    r.end_line()?;
-    Ok(name)
-}
+// A node's name, on a line of its own.
+struct NameLine;
 
-#[tactic(auto, unfolding(crate::specs::Grammar::read_link_line))]
-fn link_line<C: Cursor>(r: &mut Reader<C>) -> Result<Link, Stop>
-    ensures fits { IfOk result (λ x. FitsLink x) }
-    ensures takes { Takes r.old r.new (Reads result) (read_link_line narrow_number) }
-{
-    let tail = r.narrow()?;
-    let head = r.next_narrow()?;
-    let capacity = r.next_number()?;
-    let cost = r.next_narrow()?;
-    r.end_line()?;
-    Ok(Link {
-        tail,
-        head,
-        capacity,
-        cost,
-    })
-}
+impl Item for NameLine {
+    type Value = Name;
 
-fn names<C: Cursor>(r: &mut Reader<C>, alloc: Global, count: u64) -> Result<Items<Name>, Stop>
-    ensures fits { IfOk result (λ x. IsListOf count IsNamed x) }
-    ensures takes { Takes r.old r.new (Reads result) (read_many count read_name_line) }
-{
-    let mut items = Vec::with_capacity(alloc, count as usize)?;
-    for _ in 0..count {
-        let item = name_line(r, alloc)?;
-        items.push(item)?;
+    ghost reading = { λ _. read_name_line };
+
+    ghost Fits = { λ _ x. IsNamed x };
+
+    #[tactic(auto, unfolding(crate::specs::Grammar::read_name_line))]
+    fn read<C: Cursor>(&self, r: &mut Reader<C>, alloc: Global) -> Result<Name, Stop> {
+        let name = r.name(alloc)?;
+        r.end_line()?;
+        Ok(name)
     }
-    Ok(Items::new(items))
 }
 
-fn links<C: Cursor>(r: &mut Reader<C>, alloc: Global, count: u64) -> Result<Items<Link>, Stop>
-    ensures fits { IfOk result (λ x. IsListOf count FitsLink x) }
-    ensures takes { Takes r.old r.new (Reads result) (read_many count (read_link_line narrow_number)) }
-{
-    let mut items = Vec::with_capacity(alloc, count as usize)?;
-    for _ in 0..count {
-        let item = link_line(r)?;
-        items.push(item)?;
+// A link, on a line of its own.
+struct LinkLine;
+
+impl Item for LinkLine {
+    type Value = Link;
+
+    ghost reading = { λ _. read_link_line narrow_number };
+
+    ghost Fits = { λ _ x. FitsLink x };
+
+    #[tactic(auto, unfolding(crate::specs::Grammar::read_link_line))]
+    fn read<C: Cursor>(&self, r: &mut Reader<C>, _alloc: Global) -> Result<Link, Stop> {
+        let tail = r.narrow()?;
+        let head = r.next_narrow()?;
+        let capacity = r.next_number()?;
+        let cost = r.next_narrow()?;
+        r.end_line()?;
+        Ok(Link {
+            tail,
+            head,
+            capacity,
+            cost,
+        })
     }
-    Ok(Items::new(items))
 }
 
 /// The counts and lines of the nodes and of the links.
@@ -122,51 +114,48 @@ pub fn network<C: Cursor>(
     ensures takes { Takes r.old r.new (Reads result) (read_network limits.now narrow_number) }
 {
     let nodes = counted(r, b"nodes ", 2, limits.nodes)?;
-    let names = names(r, alloc, nodes)?;
+    let names = many(r, alloc, nodes, &NameLine)?;
     let count = counted(r, b"links ", 1, limits.links)?;
-    let links = links(r, alloc, count)?;
+    let links = many(r, alloc, count, &LinkLine)?;
     Ok(Network { names, links })
 }
 
-fn hops<C: Cursor>(r: &mut Reader<C>, alloc: Global, count: u64) -> Result<Items<u32>, Stop>
-    ensures fits { IfOk result (λ x. IsListOf count IsWord x) }
-    ensures takes { Takes r.old r.new (Reads result) (read_many count (read_next_narrow narrow_number)) }
-{
-    let mut items = Vec::with_capacity(alloc, count as usize)?;
-    for _ in 0..count {
-        let item = r.next_narrow()?;
-        items.push(item)?;
+// A link of a path.
+struct Hop;
+
+impl Item for Hop {
+    type Value = u32;
+
+    ghost reading = { λ _. read_next_narrow narrow_number };
+
+    ghost Fits = { λ _ x. IsWord x };
+
+    fn read<C: Cursor>(&self, r: &mut Reader<C>, _alloc: Global) -> Result<u32, Stop> {
+        r.next_narrow()
     }
-    Ok(Items::new(items))
 }
 
-#[tactic(auto, unfolding(crate::specs::Grammar::read_path))]
-fn path<C: Cursor>(r: &mut Reader<C>, alloc: Global, limits: &Limits) -> Result<PathShare, Stop>
-    ensures fits { IfOk result (λ x. FitsPath limits.now x) }
-    ensures takes { Takes r.old r.new (Reads result) (read_path limits.now narrow_number) }
-{
-    let weight = r.number()?;
-    let count = r.next_count(1, limits.hops)?;
-    let links = hops(r, alloc, count)?;
-    r.end_line()?;
-    Ok(PathShare { links, weight })
+// A weight and the links of a path, on a line of their own.
+#[derive(Drop)]
+struct PathLine<'a> {
+    limits: &'a Limits,
 }
 
-fn paths<C: Cursor>(
-    r: &mut Reader<C>,
-    alloc: Global,
-    count: u64,
-    limits: &Limits,
-) -> Result<Items<PathShare>, Stop>
-    ensures fits { IfOk result (λ x. IsListOf count (FitsPath limits.now) x) }
-    ensures takes { Takes r.old r.new (Reads result) (read_many count (read_path limits.now narrow_number)) }
-{
-    let mut items = Vec::with_capacity(alloc, count as usize)?;
-    for _ in 0..count {
-        let item = path(r, alloc, limits)?;
-        items.push(item)?;
+impl<'a> Item for PathLine<'a> {
+    type Value = PathShare;
+
+    ghost reading = { λ line. read_path line.limits.now narrow_number };
+
+    ghost Fits = { λ line x. FitsPath line.limits.now x };
+
+    #[tactic(auto, unfolding(crate::specs::Grammar::read_path))]
+    fn read<C: Cursor>(&self, r: &mut Reader<C>, alloc: Global) -> Result<PathShare, Stop> {
+        let weight = r.number()?;
+        let count = r.next_count(1, self.limits.hops)?;
+        let links = many(r, alloc, count, &Hop)?;
+        r.end_line()?;
+        Ok(PathShare { links, weight })
     }
-    Ok(Items::new(items))
 }
 
 /// A pair and its paths.
@@ -187,28 +176,29 @@ pub fn pair<C: Cursor>(
     let dst = r.next_narrow()?;
     let count = r.next_count(1, limits.paths)?;
     r.end_line()?;
-    let paths = paths(r, alloc, count, limits)?;
+    let paths = many(r, alloc, count, &PathLine { limits })?;
     Ok(PairRoutes {
         pair: Pair { src, dst },
         paths,
     })
 }
 
-fn pairs<C: Cursor>(
-    r: &mut Reader<C>,
-    alloc: Global,
-    count: u64,
-    limits: &Limits,
-) -> Result<Items<PairRoutes>, Stop>
-    ensures fits { IfOk result (λ x. IsListOf count (FitsPair limits.now) x) }
-    ensures takes { Takes r.old r.new (Reads result) (read_many count (read_pair limits.now narrow_number)) }
-{
-    let mut items = Vec::with_capacity(alloc, count as usize)?;
-    for _ in 0..count {
-        let item = pair(r, alloc, limits)?;
-        items.push(item)?;
+// A pair and its paths.
+#[derive(Drop)]
+struct PairLines<'a> {
+    limits: &'a Limits,
+}
+
+impl<'a> Item for PairLines<'a> {
+    type Value = PairRoutes;
+
+    ghost reading = { λ lines. read_pair lines.limits.now narrow_number };
+
+    ghost Fits = { λ lines x. FitsPair lines.limits.now x };
+
+    fn read<C: Cursor>(&self, r: &mut Reader<C>, alloc: Global) -> Result<PairRoutes, Stop> {
+        pair(r, alloc, self.limits)
     }
-    Ok(Items::new(items))
 }
 
 #[tactic(auto, unfolding(crate::specs::Grammar::read_routes))]
@@ -221,7 +211,7 @@ fn routes<C: Cursor>(
     ensures takes { Takes r.old r.new (Reads result) (read_routes limits.now narrow_number) }
 {
     let count = counted(r, b"pairs ", 0, limits.pairs)?;
-    pairs(r, alloc, count, limits)
+    many(r, alloc, count, &PairLines { limits })
 }
 
 #[tactic(auto, unfolding(crate::specs::Grammar::read_all))]
@@ -352,37 +342,30 @@ fn number_line<C: Cursor>(r: &mut Reader<C>, alloc: Global, count: u64) -> Resul
     Ok(Items::new(list))
 }
 
-// The potentials of one source.
-#[tactic(auto, unfolding(crate::specs::Grammar::read_row))]
-fn row<C: Cursor>(r: &mut Reader<C>, alloc: Global, nodes: u64) -> Result<Row, Stop>
-    ensures fits { IfOk result (λ x. FitsRow nodes x) }
-    ensures takes { Takes r.old r.new (Reads result) (read_row narrow_number nodes) }
-{
-    let source = r.narrow()?;
-    let mut list = Vec::with_capacity(alloc, nodes as usize)?;
-    r.numbers(nodes, &mut list)?;
-    r.end_line()?;
-    Ok(Row {
-        source,
-        potential: Items::new(list),
-    })
+// A source and its potentials, on a line of their own.
+#[derive(Drop)]
+struct RowLine {
+    nodes: u64,
 }
 
-fn rows<C: Cursor>(
-    r: &mut Reader<C>,
-    alloc: Global,
-    count: u64,
-    nodes: u64,
-) -> Result<Items<Row>, Stop>
-    ensures fits { IfOk result (λ x. IsListOf count (FitsRow nodes) x) }
-    ensures takes { Takes r.old r.new (Reads result) (read_many count (read_row narrow_number nodes)) }
-{
-    let mut items = Vec::with_capacity(alloc, count as usize)?;
-    for _ in 0..count {
-        let item = row(r, alloc, nodes)?;
-        items.push(item)?;
+impl Item for RowLine {
+    type Value = Row;
+
+    ghost reading = { λ line. read_row narrow_number line.nodes };
+
+    ghost Fits = { λ line x. FitsRow line.nodes x };
+
+    #[tactic(auto, unfolding(crate::specs::Grammar::read_row))]
+    fn read<C: Cursor>(&self, r: &mut Reader<C>, alloc: Global) -> Result<Row, Stop> {
+        let source = r.narrow()?;
+        let mut list = Vec::with_capacity(alloc, self.nodes as usize)?;
+        r.numbers(self.nodes, &mut list)?;
+        r.end_line()?;
+        Ok(Row {
+            source,
+            potential: Items::new(list),
+        })
     }
-    Ok(Items::new(items))
 }
 
 // The lines `plus` and `minus`, where the set has bounds.
@@ -404,53 +387,43 @@ fn sides<C: Cursor>(
     Ok((plus, minus))
 }
 
-#[tactic(auto, unfolding(crate::specs::Grammar::read_block))]
-fn block<C: Cursor>(
-    r: &mut Reader<C>,
-    alloc: Global,
-    limits: &Limits,
-    counts: &Counts,
-) -> Result<Block, Stop>
-    requires { 1 ≤ counts.now.links }
-    ensures fits { IfOk result (λ x. FitsBlock limits.now counts.now x) }
-    ensures takes { Takes r.old r.new (Reads result) (read_block limits.now narrow_number counts.now) }
-{
-    let link = r.narrow()?;
-    let a = r.next_number()?;
-    let b = r.next_number()?;
-    let count = r.next_count(0, limits.nodes)?;
-    r.end_line()?;
-    let weights = number_line(r, alloc, counts.links)?;
-    let rows = rows(r, alloc, count, counts.nodes)?;
-    let (plus, minus) = sides(r, alloc, counts.bounded, counts.pairs)?;
-    Ok(Block {
-        link,
-        a,
-        b,
-        weights,
-        rows,
-        plus,
-        minus,
-    })
+// A block, which has a weight for each link, and at least one.
+#[derive(Drop)]
+struct BlockLines<'a> {
+    limits: &'a Limits,
+    counts: &'a Counts,
+    ghost some: { 1 ≤ counts.now.links },
 }
 
-fn blocks<C: Cursor>(
-    r: &mut Reader<C>,
-    alloc: Global,
-    count: u64,
-    limits: &Limits,
-    counts: &Counts,
-) -> Result<Items<Block>, Stop>
-    requires { 1 ≤ counts.now.links }
-    ensures fits { IfOk result (λ x. IsListOf count (FitsBlock limits.now counts.now) x) }
-    ensures takes { Takes r.old r.new (Reads result) (read_many count (read_block limits.now narrow_number counts.now)) }
-{
-    let mut items = Vec::with_capacity(alloc, count as usize)?;
-    for _ in 0..count {
-        let item = block(r, alloc, limits, counts)?;
-        items.push(item)?;
+impl<'a> Item for BlockLines<'a> {
+    type Value = Block;
+
+    ghost reading = { λ lines. read_block lines.limits.now narrow_number lines.counts.now };
+
+    ghost Fits = { λ lines x. FitsBlock lines.limits.now lines.counts.now x };
+
+    #[tactic(auto, unfolding(crate::specs::Grammar::read_block))]
+    fn read<C: Cursor>(&self, r: &mut Reader<C>, alloc: Global) -> Result<Block, Stop> {
+        let counts = self.counts;
+        let link = r.narrow()?;
+        let a = r.next_number()?;
+        let b = r.next_number()?;
+        let count = r.next_count(0, self.limits.nodes)?;
+        r.end_line()?;
+        let weights = number_line(r, alloc, counts.links)?;
+        let nodes = counts.nodes;
+        let rows = many(r, alloc, count, &RowLine { nodes })?;
+        let (plus, minus) = sides(r, alloc, counts.bounded, counts.pairs)?;
+        Ok(Block {
+            link,
+            a,
+            b,
+            weights,
+            rows,
+            plus,
+            minus,
+        })
     }
-    Ok(Items::new(items))
 }
 
 /// The last line, after which nothing stands.
@@ -527,7 +500,11 @@ pub fn certificate<C: Cursor>(r: &mut Reader<C>, alloc: Global) -> Result<Certif
     let (head, count) = opening(r, alloc)?;
     let limits = limits_of(head.format);
     let counts = counts_of_head(&head);
-    let blocks = blocks(r, alloc, count, &limits, &counts)?;
+    let lines = BlockLines {
+        limits: &limits,
+        counts: &counts,
+    };
+    let blocks = many(r, alloc, count, &lines)?;
     closing(r)?;
     Ok(Certificate { head, blocks })
 }

@@ -4,6 +4,7 @@
 pub mod cursor;
 mod fault;
 pub mod grammar;
+mod item;
 mod limits;
 mod printing;
 pub mod reader;
