@@ -1,5 +1,5 @@
 -- What a metric knows of the distances of the pairs.
-use Rattle.std.proofs.Common.{◌≡◌, ℕ, ◌^◌, ◌<◌, ◌≤◌, Bool, true, false, List, Option, Some, None, length, arith, refl, ap, sym, subst, slice_index, inl, inr}
+use Rattle.std.proofs.Common.{◌≡◌, ℕ, ◌^◌, ◌<◌, ◌≤◌, Bool, true, false, List, Option, Some, None, length, arith, refl, ap, sym, ◌∙◌, subst, slice_index, inl, inr}
 use Rattle.std.specs.Prelude.{All, unwrap_or}
 use Rattle.std.proofs.lemmas.List.Elements.{All-get_or}
 use Rattle.te_model.specs.declared.network.Network.{Network}
@@ -18,6 +18,7 @@ use Rattle.shortest_path.proofs.Values.{listed_small}
 use Rattle.best_blocks.specs.declared.metric.Metric.{Metric}
 use Rattle.best_blocks.specs.Metric.{distance_in, IsMetric}
 use Rattle.best_blocks.specs.Rows.{is_marked, distances_from, AreRowsFrom}
+use Rattle.best_blocks.proofs.RowsFrom.{from_rows_read}
 
 -- where links lead from a node with a row to another, the row has the distance
 pub distance_known : (net : Network) (weights : List ℕ) (i v : ℕ) (row : List (Option ℕ)) (links : List ℕ) → AreDistances net weights i row →
@@ -72,13 +73,13 @@ metric_near net routes marks m formed routing nodes is =
       | inr row ↦ by_row p inside row
     ]
 
--- the weights, the rows and the distances that were made, as one metric
-pub metric_is : (net : Network) (routes : List PairRoutes) (marks : List Bool) (weights distances : List ℕ) (rows : List (List (Option ℕ)))
-    (w d : List ℕ) (r : List (List (Option ℕ))) → w ≡ weights → r ≡ rows → d ≡ distances → length weights ≡ link_count net → All (λ w. w ≤ 2 ^ 28) weights →
-    AreRowsFrom (node_count net) net weights marks rows → AreValues (length routes) (distance_in rows routes) distances →
-    IsMetric net routes marks (record { weights = w; rows = r; distances = d })
-metric_is net routes marks weights distances rows w d r is_w is_r is_d count small are values =
-    subst (λ (x : List ℕ). IsMetric net routes marks (record { weights = x; rows = r; distances = d })) (sym is_w)
-    (subst (λ (x : List (List (Option ℕ))). IsMetric net routes marks (record { weights = weights; rows = x; distances = d })) (sym is_r)
-    (subst (λ (x : List ℕ). IsMetric net routes marks (record { weights = weights; rows = rows; distances = x })) (sym is_d)
-    (record { count = count; small = small; rows_are = are; distances_are = values })))
+-- the weights, the rows that were made of them as they were read, and the distances in these rows are a metric
+pub metric_is : (net : Network) (routes : List PairRoutes) (marks : List Bool) (weights read : List ℕ) (rows : List (List (Option ℕ))) (m : Metric) →
+    read ≡ weights → m.weights ≡ weights → m.rows ≡ rows → length weights ≡ link_count net → All (λ w. w ≤ 2 ^ 28) weights →
+    AreRowsFrom (node_count net) net read marks rows → AreValues (length routes) (distance_in rows routes) m.distances → IsMetric net routes marks m
+metric_is net routes marks weights read rows m is_read is_w is_r count small are values = record {
+  count = ap (λ (ws : List ℕ). length ws) is_w ∙ count;
+  small = subst (All (λ w. w ≤ 2 ^ 28)) (sym is_w) small;
+  rows_are = from_rows_read (node_count net) net read m.weights marks marks rows m.rows (is_w ∙ sym is_read) refl is_r are;
+  distances_are = subst (λ (rs : List (List (Option ℕ))). AreValues (length routes) (distance_in rs routes) m.distances) (sym is_r) values;
+}

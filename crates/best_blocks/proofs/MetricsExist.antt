@@ -10,7 +10,6 @@ use Rattle.shortest_path.proofs.Existence.{all_distances_exist}
 use Rattle.best_blocks.specs.declared.metric.Metric.{Metric}
 use Rattle.best_blocks.specs.Metric.{distance_in, IsMetric}
 use Rattle.best_blocks.specs.Rows.{is_marked, AreRowsFrom}
-use Rattle.best_blocks.proofs.Distances.{metric_is}
 use Rattle.best_blocks.proofs.Growing.{values_exist}
 use Rattle.best_blocks.proofs.RowsFrom.{no_rows_from, row_pushed}
 
@@ -37,6 +36,6 @@ metric_exists net routes marks weights formed count small =
     let (rows, are) = rows_exist net weights marks formed in
     let (distances, values) = values_exist (length routes) (distance_in rows routes) in (
       record { weights = weights; rows = rows; distances = distances },
-      metric_is net routes marks weights distances rows weights distances rows refl refl refl count small are values,
+      record { count = count; small = small; rows_are = are; distances_are = values },
       refl,
     )

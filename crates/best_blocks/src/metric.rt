@@ -50,6 +50,25 @@ fn distances_in(
     Ok(distances)
 }
 
+/// The weights and the rows, with what the rows say of the distance of each pair.
+fn with_distances(
+    alloc: Global,
+    routing: &Routing,
+    weights: Vec<u64>,
+    rows: Vec<Items<Option<u64>>>,
+) -> Result<Metric, Memory>
+    ensures weights { IfOk result (λ m. m.weights ≡ weights.items) }
+    ensures rows { IfOk result (λ m. m.rows ≡ rows.items) }
+    ensures distances { IfOk result (λ m. AreValues (length routing.now.routes) (distance_in rows.items routing.now.routes) m.distances) }
+{
+    let distances = distances_in(alloc, routing, &rows)?;
+    Ok(Metric {
+        weights: Items::new(weights),
+        rows: Items::new(rows),
+        distances: Items::new(distances),
+    })
+}
+
 /// The metric of the weights, of which there is one for each link, with a row for each marked node.
 pub fn metric_of(
     alloc: Global,
@@ -66,12 +85,8 @@ pub fn metric_of(
     ensures weights { IfOk result (λ m. m.weights ≡ weights.items) }
 {
     let rows = rows_under(alloc, net, &weights, marks)?;
-    let distances = distances_in(alloc, routing, &rows)?;
-    Ok(Metric {
-        weights: Items::new(weights),
-        rows: Items::new(rows),
-        distances: Items::new(distances),
-    })
+    let metric = with_distances(alloc, routing, weights, rows)?;
+    Ok(metric)
 }
 
 /// The metric of the new weights, which differ from those of the metric on the changed links alone.
@@ -104,10 +119,6 @@ pub fn metric_after(
         old,
         &weights,
     )?;
-    let distances = distances_in(alloc, routing, &rows)?;
-    Ok(Metric {
-        weights: Items::new(weights),
-        rows: Items::new(rows),
-        distances: Items::new(distances),
-    })
+    let metric = with_distances(alloc, routing, weights, rows)?;
+    Ok(metric)
 }
