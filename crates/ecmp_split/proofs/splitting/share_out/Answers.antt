@@ -10,8 +10,9 @@ use Rattle.ecmp_split.specs.declared.next.NextLink.{NextLink}
 use Rattle.ecmp_split.proofs.Collecting.{not_some}
 use Rattle.ecmp_split.proofs.HopsMade.{listed_as}
 use Rattle.ecmp_split.proofs.Parts.{equal_part-le}
-use Rattle.ecmp_split.proofs.Sharing.{IsSharing, last_waiting, sharing_start, sharing_more, sharing_end}
+use Rattle.ecmp_split.proofs.Sharing.{IsLast, IsSharing, last_waiting, sharing_start, sharing_more, sharing_end}
 use Rattle.ecmp_split.proofs.splitting.share_out.Goals as goal
+use Rattle.ecmp_split.proofs.splitting.share_out.Goals.{In-Some}
 
 read_at : (xs : List ℕ) (i j x : ℕ) → x ≡ get_or xs i x → j < length xs → i ≡ j → x ≡ slice_index xs j
 read_at xs i j x read inside same = get_or_read xs i x (omega (arith, same, inside)) read 0 ∙ ap (slice_index xs) same
@@ -33,112 +34,79 @@ loop-next-init c =
     (sharing_start net costs s c.args.hops.now.links c.as_slice-counts.result.now n m c.requires.src listed c.requires.hops.1.rises listed.size
     (ap (λ (l : List Link). length l) c.as_slice-links.ensures))))
 
+-- the last link that waits, as the code reads it
+abbrev link : In-Some → Link
+link c = get_or c.as_slice-links.result.now c.in-Some.next.link no_link
+
+last : (c : In-Some) → IsLast c.args.net.now c.args.hops.now.costs c.args.src c.pop.new.self.items c.in-Some.next c.loop-next.flow.items c.loop-next.arrived.items c.as_slice-counts.result.now
+last c =
+    let net = c.args.net.now in
+    let counts = c.as_slice-counts.result.now in
+    last_waiting net c.args.hops.now.costs c.args.src c.loop-next.waiting.items c.pop.new.self.items c.in-Some.next c.loop-next.flow.items c.loop-next.arrived.items
+    counts c.args.hops.now.links (links_join net c.requires.network) c.loop-next.invariant c.in-Some.ensures.items
+    (listed_as net c.args.hops.now c.requires.hops.0 counts c.requires.hops.1 c.as_slice-counts.ensures)
+
+tail : (c : In-Some) → (link c).tail ≡ tail_of c.args.net.now c.in-Some.next.link
+tail c = ap (λ (l : List Link). (get_or l c.in-Some.next.link no_link).tail) c.as_slice-links.ensures
+
+head : (c : In-Some) → (link c).head ≡ head_of c.args.net.now c.in-Some.next.link
+head c = ap (λ (l : List Link). (get_or l c.in-Some.next.link no_link).head) c.as_slice-links.ensures
+
+count : (c : In-Some) →
+    slice_index c.as_slice-counts.result.now (link c).tail ≡ slice_index c.as_slice-counts.result.now (tail_of c.args.net.now c.in-Some.next.link)
+count c = ap (slice_index c.as_slice-counts.result.now) (tail c)
+
+-- the units that are read at its ends
+units_at_tail : (c : In-Some) (n : ℕ) → n ≡ get_or c.loop-next.arrived.items (link c).tail n →
+    n ≡ slice_index c.loop-next.arrived.items (tail_of c.args.net.now c.in-Some.next.link)
+units_at_tail c n read = read_at c.loop-next.arrived.items _ _ n read (last c).tail_arrived (tail c)
+
+units_at_head : (c : In-Some) (n : ℕ) → n ≡ get_or c.loop-next.arrived.items (link c).head n →
+    n ≡ slice_index c.loop-next.arrived.items (head_of c.args.net.now c.in-Some.next.link)
+units_at_head c n read = read_at c.loop-next.arrived.items _ _ n read (last c).head_arrived (head c)
+
 pub index-requires : goal.index-requires
 index-requires c =
-    let net = c.args.net.now in
-    let x = c.in-Some.next in
-    let listed = listed_as net c.args.hops.now c.requires.hops.0 c.as_slice-counts.result.now c.requires.hops.1 c.as_slice-counts.ensures in
-    let last = last_waiting net c.args.hops.now.costs c.args.src c.loop-next.waiting.items c.pop.new.self.items x c.loop-next.flow.items c.loop-next.arrived.items
-    c.as_slice-counts.result.now c.args.hops.now.links (links_join net c.requires.network) c.loop-next.invariant c.in-Some.ensures.items listed
-    in
-    let tail = ap (λ (l : List Link). (get_or l x.link no_link).tail) c.as_slice-links.ensures in
-    omega (arith, tail, last.tail_arrived, c.loop-next.arrived.ok.0)
+    let at = (goal.at.index-requires c).In-Some in
+    omega (arith, tail at, (last at).tail_arrived, c.loop-next.arrived.ok.0)
 
 pub bounds-counts-tail : goal.bounds-counts-tail
 bounds-counts-tail c =
-    let net = c.args.net.now in
-    let x = c.in-Some.next in
-    let listed = listed_as net c.args.hops.now c.requires.hops.0 c.as_slice-counts.result.now c.requires.hops.1 c.as_slice-counts.ensures in
-    let last = last_waiting net c.args.hops.now.costs c.args.src c.loop-next.waiting.items c.pop.new.self.items x c.loop-next.flow.items c.loop-next.arrived.items
-    c.as_slice-counts.result.now c.args.hops.now.links (links_join net c.requires.network) c.loop-next.invariant c.in-Some.ensures.items listed
-    in
-    let tail = ap (λ (l : List Link). (get_or l x.link no_link).tail) c.as_slice-links.ensures in
-    omega (arith, tail, last.tail_counted)
+    let at = (goal.at.bounds-counts-tail c).In-Some in
+    omega (arith, tail at, (last at).tail_counted)
 
 pub equal_part-part-requires-clause-some : goal.equal_part-part-requires-clause-some
 equal_part-part-requires-clause-some c =
-    let net = c.args.net.now in
-    let x = c.in-Some.next in
-    let listed = listed_as net c.args.hops.now c.requires.hops.0 c.as_slice-counts.result.now c.requires.hops.1 c.as_slice-counts.ensures in
-    let last = last_waiting net c.args.hops.now.costs c.args.src c.loop-next.waiting.items c.pop.new.self.items x c.loop-next.flow.items c.loop-next.arrived.items
-    c.as_slice-counts.result.now c.args.hops.now.links (links_join net c.requires.network) c.loop-next.invariant c.in-Some.ensures.items listed
-    in
-    let tail = ap (λ (l : List Link). (get_or l x.link no_link).tail) c.as_slice-links.ensures in
-    let count = ap (slice_index c.as_slice-counts.result.now) tail in
-    omega (arith, count, last.some)
+    let at = (goal.at.equal_part-part-requires-clause-some c).In-Some in
+    omega (arith, count at, (last at).some)
 
 pub equal_part-part-requires-clause-units : goal.equal_part-part-requires-clause-units
 equal_part-part-requires-clause-units c =
-    let net = c.args.net.now in
-    let x = c.in-Some.next in
-    let listed = listed_as net c.args.hops.now c.requires.hops.0 c.as_slice-counts.result.now c.requires.hops.1 c.as_slice-counts.ensures in
-    let last = last_waiting net c.args.hops.now.costs c.args.src c.loop-next.waiting.items c.pop.new.self.items x c.loop-next.flow.items c.loop-next.arrived.items
-    c.as_slice-counts.result.now c.args.hops.now.links (links_join net c.requires.network) c.loop-next.invariant c.in-Some.ensures.items listed
-    in
-    let tail = ap (λ (l : List Link). (get_or l x.link no_link).tail) c.as_slice-links.ensures in
-    let units = read_at c.loop-next.arrived.items (get_or c.as_slice-links.result.now x.link no_link).tail (tail_of net x.link) c.index.result.now c.index.ensures
-    last.tail_arrived tail
-    in
-    omega (arith, units, last.units)
+    let at = (goal.at.equal_part-part-requires-clause-units c).In-Some in
+    omega (arith, units_at_tail at c.index.result.now c.index.ensures, (last at).units)
 
 pub index_mut-requires-in-Some : goal.index_mut-requires-in-Some
-index_mut-requires-in-Some c =
-    let net = c.args.net.now in
-    let x = c.in-Some.next in
-    let listed = listed_as net c.args.hops.now c.requires.hops.0 c.as_slice-counts.result.now c.requires.hops.1 c.as_slice-counts.ensures in
-    let last = last_waiting net c.args.hops.now.costs c.args.src c.loop-next.waiting.items c.pop.new.self.items x c.loop-next.flow.items c.loop-next.arrived.items
-    c.as_slice-counts.result.now c.args.hops.now.links (links_join net c.requires.network) c.loop-next.invariant c.in-Some.ensures.items listed
-    in
-    omega (arith, last.in_flow, c.loop-next.flow.ok.0)
+index_mut-requires-in-Some c = omega (arith, (last (goal.at.index_mut-requires-in-Some c).In-Some).in_flow, c.loop-next.flow.ok.0)
 
 pub index_mut-requires-in-Some-2 : goal.index_mut-requires-in-Some-2
 index_mut-requires-in-Some-2 c =
-    let net = c.args.net.now in
-    let x = c.in-Some.next in
-    let listed = listed_as net c.args.hops.now c.requires.hops.0 c.as_slice-counts.result.now c.requires.hops.1 c.as_slice-counts.ensures in
-    let last = last_waiting net c.args.hops.now.costs c.args.src c.loop-next.waiting.items c.pop.new.self.items x c.loop-next.flow.items c.loop-next.arrived.items
-    c.as_slice-counts.result.now c.args.hops.now.links (links_join net c.requires.network) c.loop-next.invariant c.in-Some.ensures.items listed
-    in
-    let head = ap (λ (l : List Link). (get_or l x.link no_link).head) c.as_slice-links.ensures in
-    omega (arith, head, last.head_arrived, c.loop-next.arrived.ok.0)
+    let at = (goal.at.index_mut-requires-in-Some-2 c).In-Some in
+    omega (arith, head at, (last at).head_arrived, c.loop-next.arrived.ok.0)
 
 pub overflow_add-index_mut : goal.overflow_add-index_mut
 overflow_add-index_mut c =
-    let net = c.args.net.now in
-    let x = c.in-Some.next in
-    let listed = listed_as net c.args.hops.now c.requires.hops.0 c.as_slice-counts.result.now c.requires.hops.1 c.as_slice-counts.ensures in
-    let last = last_waiting net c.args.hops.now.costs c.args.src c.loop-next.waiting.items c.pop.new.self.items x c.loop-next.flow.items c.loop-next.arrived.items
-    c.as_slice-counts.result.now c.args.hops.now.links (links_join net c.requires.network) c.loop-next.invariant c.in-Some.ensures.items listed
-    in
-    let tail = ap (λ (l : List Link). (get_or l x.link no_link).tail) c.as_slice-links.ensures in
-    let head = ap (λ (l : List Link). (get_or l x.link no_link).head) c.as_slice-links.ensures in
-    let count = ap (slice_index c.as_slice-counts.result.now) tail in
-    let units = read_at c.loop-next.arrived.items (get_or c.as_slice-links.result.now x.link no_link).tail (tail_of net x.link) c.index.result.now c.index.ensures
-    last.tail_arrived tail
-    in
-    let old = read_at c.loop-next.arrived.items (get_or c.as_slice-links.result.now x.link no_link).head (head_of net x.link) c.index_mut-in-Some-2.result.now
-    c.index_mut-in-Some-2.ensures.value last.head_arrived head
-    in
-    let part = equal_part-le c.index.result.now (slice_index c.as_slice-counts.result.now (get_or c.as_slice-links.result.now x.link no_link).tail) x.place (omega (arith, count, last.some)) in
-    omega (arith, old, last.old, c.equal_part-part.ensures, part, units, last.units)
+    let at = (goal.at.overflow_add-index_mut c).In-Some in
+    let n = slice_index c.as_slice-counts.result.now (link at).tail in
+    let part = equal_part-le c.index.result.now n c.in-Some.next.place (omega (arith, count at, (last at).some)) in
+    let from = units_at_tail at c.index.result.now c.index.ensures in
+    let to = units_at_head at c.index_mut-in-Some-2.result.now c.index_mut-in-Some-2.ensures.value in
+    omega (arith, to, (last at).old, c.equal_part-part.ensures, part, from, (last at).units)
 
 pub loop-next-preserved : goal.loop-next-preserved
 loop-next-preserved c =
+    let at = (goal.at.loop-next-preserved c).In-Some in
     let net = c.args.net.now in
     let x = c.in-Some.next in
-    let listed = listed_as net c.args.hops.now c.requires.hops.0 c.as_slice-counts.result.now c.requires.hops.1 c.as_slice-counts.ensures in
-    let last = last_waiting net c.args.hops.now.costs c.args.src c.loop-next.waiting.items c.pop.new.self.items x c.loop-next.flow.items c.loop-next.arrived.items
-    c.as_slice-counts.result.now c.args.hops.now.links (links_join net c.requires.network) c.loop-next.invariant c.in-Some.ensures.items listed
-    in
-    let tail = ap (λ (l : List Link). (get_or l x.link no_link).tail) c.as_slice-links.ensures in
-    let head = ap (λ (l : List Link). (get_or l x.link no_link).head) c.as_slice-links.ensures in
-    let count = ap (slice_index c.as_slice-counts.result.now) tail in
-    let units = read_at c.loop-next.arrived.items (get_or c.as_slice-links.result.now x.link no_link).tail (tail_of net x.link) c.index.result.now c.index.ensures
-    last.tail_arrived tail
-    in
-    let old = read_at c.loop-next.arrived.items (get_or c.as_slice-links.result.now x.link no_link).head (head_of net x.link) c.index_mut-in-Some-2.result.now
-    c.index_mut-in-Some-2.ensures.value last.head_arrived head
-    in
     let sums = c.args.hops.now.costs in
     let rest = c.pop.new.self.items in
     let flow = c.loop-next.flow.items in
@@ -146,14 +114,16 @@ loop-next-preserved c =
     let part = c.equal_part-part.result in
     let is_part : part ≡ equal_part (slice_index arrived (tail_of net x.link)) (next_count net sums (tail_of net x.link)) x.place =
     c.equal_part-part.ensures
-    ∙ (ap (λ u. equal_part u (slice_index c.as_slice-counts.result.now (get_or c.as_slice-links.result.now x.link no_link).tail) x.place) units
-    ∙ ap (λ n. equal_part (slice_index arrived (tail_of net x.link)) n x.place) (count ∙ last.count))
+    ∙ (ap (λ u. equal_part u (slice_index c.as_slice-counts.result.now (link at).tail) x.place)
+    (units_at_tail at c.index.result.now c.index.ensures)
+    ∙ ap (λ n. equal_part (slice_index arrived (tail_of net x.link)) n x.place) (count at ∙ (last at).count))
     in
     let more = sharing_more net sums c.args.src rest x flow arrived part (links_join net c.requires.network) c.requires.src
-    (λ h inside. (costs_small net c.requires.network h inside).0) last.far is_part
+    (λ h inside. (costs_small net c.requires.network h inside).0) (last at).far is_part
     in
-    subst (λ (v : ℕ). IsSharing net sums c.args.src rest (set flow x.link part) (set arrived v (c.index_mut-in-Some-2.result.now + part))) (sym head)
-    (subst (λ (a : ℕ). IsSharing net sums c.args.src rest (set flow x.link part) (set arrived (head_of net x.link) (a + part))) (sym old) more)
+    subst (λ (v : ℕ). IsSharing net sums c.args.src rest (set flow x.link part) (set arrived v (c.index_mut-in-Some-2.result.now + part))) (sym (head at))
+    (subst (λ (a : ℕ). IsSharing net sums c.args.src rest (set flow x.link part) (set arrived (head_of net x.link) (a + part)))
+    (sym (units_at_head at c.index_mut-in-Some-2.result.now c.index_mut-in-Some-2.ensures.value)) more)
 
 pub returns : goal.returns
 returns c =
