@@ -1,7 +1,7 @@
 -- Distances from the nodes that are marked.
-use Rattle.std.specs.Prelude.{◌≡◌, ◌⊎◌, ℕ, ◌+◌, ◌<◌, Bool, true, false, not, ◌&&◌, ◌==◌, nat_le, List, [], Option, Some, None, length, slice_index, slice_index_or}
+use Rattle.std.specs.Prelude.{◌≡◌, ◌⊎◌, ℕ, ◌+◌, ◌^◌, ◌<◌, ◌≤◌, All, Bool, true, false, not, ◌&&◌, ◌==◌, nat_le, List, [], Option, Some, None, length, slice_index, slice_index_or}
 use Rattle.te_model.specs.declared.network.Network.{Network}
-use Rattle.te_model.specs.Network.{tail_of, head_of}
+use Rattle.te_model.specs.Network.{link_count, tail_of, head_of}
 use Rattle.te_model.specs.Path.{has_number}
 pub use Rattle.te_model.specs.Marks.{is_marked}
 use Rattle.shortest_path.specs.Graph.{distance_at}
@@ -20,6 +20,14 @@ pub record AreRowsFrom (n : ℕ) (net : Network) (weights : List ℕ) (marks : L
 -- the weights of n links are the same but on the changed ones
 abbrev pub IsSameElsewhere : ℕ → List ℕ → List ℕ → List ℕ → Type 0
 IsSameElsewhere n changed old new = (h : ℕ) → h < n → has_number changed h ≡ false → slice_index new h ≡ slice_index old h
+
+-- new weights of at most 2^28 in place of old ones, from which they differ on the changed links alone
+pub record AreNewWeights (net : Network) (changed old new : List ℕ) : Type 0 where
+  pub links : All (λ h. h < link_count net) changed
+  pub others : IsSameElsewhere (link_count net) changed old new
+  pub old_count : length old ≡ link_count net
+  pub new_count : length new ≡ link_count net
+  pub small : All (λ w. w ≤ 2 ^ 28) new
 
 -- whether a link between nodes at these distances is neither tight by its old weight nor a short cut by its new one
 abbrev pub is_loose : Option ℕ → Option ℕ → ℕ → ℕ → Bool

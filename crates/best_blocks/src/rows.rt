@@ -1,12 +1,11 @@
 //! Distances from the nodes that need a row.
 ghost use Rattle.std.specs.Prelude.{◌≡◌, ◌^◌, ◌<◌, ◌≤◌, [], All, None, IfOk, IfSome, IsTrue, true, false, length};
-ghost use Rattle.te_model.specs.declared.limits.TheConstants.{FORMAT_2};
 ghost use Rattle.te_model.specs.Network.{is_well_formed, link_count, node_count};
 ghost use Rattle.shortest_path.specs.declared.rows.Direction.TheVariants.{Forward};
 ghost use Rattle.shortest_path.specs.Graph.{distance_at};
 ghost use Rattle.shortest_path.specs.Paths.{AreDistances};
 ghost use Rattle.shortest_path.specs.Rows.{IsSearchGraph};
-ghost use Rattle.best_blocks.specs.Rows.{is_loose, is_marked, is_slack_for, distances_from, AreRowsFrom, IsSameElsewhere};
+ghost use Rattle.best_blocks.specs.Rows.{is_loose, is_marked, is_slack_for, distances_from, AreNewWeights, AreRowsFrom};
 
 use shortest_path::{Direction, Searches};
 use std::alloc::Global;
@@ -46,7 +45,6 @@ fn row_from(
     requires along { IsSearchGraph net.now Forward searches.old }
     requires weights { length weights.now ≡ link_count net.now }
     requires small { All (λ w. w ≤ 2 ^ 28) weights.now }
-    requires nodes { node_count net.now ≤ FORMAT_2.nodes }
     requires node { node < node_count net.now }
     ensures distances { IfOk result (λ r. AreDistances net.now weights.now node r.items) }
     ensures same { searches.new ≡ searches.old }
@@ -70,7 +68,6 @@ fn row_if_marked(
     requires along { IsSearchGraph net.now Forward searches.old }
     requires weights { length weights.now ≡ link_count net.now }
     requires small { All (λ w. w ≤ 2 ^ 28) weights.now }
-    requires nodes { node_count net.now ≤ FORMAT_2.nodes }
     requires node { node < node_count net.now }
     ensures marked { IfOk result (λ r. is_marked marks.now node ≡ true → AreDistances net.now weights.now node r.items) }
     ensures other { IfOk result (λ r. is_marked marks.now node ≡ false → r.items ≡ []) }
@@ -93,7 +90,6 @@ pub fn rows_under(
     requires network { IsTrue (is_well_formed net.now) }
     requires weights { length weights.now ≡ link_count net.now }
     requires small { All (λ w. w ≤ 2 ^ 28) weights.now }
-    requires nodes { node_count net.now ≤ FORMAT_2.nodes }
     requires marks { length marks.now ≡ node_count net.now }
     ensures { IfOk result (λ r. AreRowsFrom (node_count net.now) net.now weights.now marks.now r.items) }
 {
@@ -177,15 +173,10 @@ fn next_row(
     new: &[u64],
 ) -> Result<Vec<Option<u64>>, Memory>
     requires network { IsTrue (is_well_formed net.now) }
-    requires nodes { node_count net.now ≤ FORMAT_2.nodes }
     requires node { node < node_count net.now }
     requires inside { node < length rows.now }
     requires row { AreDistances net.now old.now node (distances_from rows.now node) }
-    requires changed { All (λ h. h < link_count net.now) changed.now }
-    requires others { IsSameElsewhere (link_count net.now) changed.now old.now new.now }
-    requires old { length old.now ≡ link_count net.now }
-    requires new { length new.now ≡ link_count net.now }
-    requires small { All (λ w. w ≤ 2 ^ 28) new.now }
+    requires weights { AreNewWeights net.now changed.now old.now new.now }
     requires along { IfSome searches.old (IsSearchGraph net.now Forward) }
     ensures distances { IfOk result (λ r. AreDistances net.now new.now node r.items) }
     ensures along { IfSome searches.new (IsSearchGraph net.now Forward) }
@@ -214,14 +205,9 @@ fn next_row_if_marked(
     new: &[u64],
 ) -> Result<Vec<Option<u64>>, Memory>
     requires network { IsTrue (is_well_formed net.now) }
-    requires nodes { node_count net.now ≤ FORMAT_2.nodes }
     requires node { node < node_count net.now }
     requires rows { AreRowsFrom (node_count net.now) net.now old.now marks.now rows.now }
-    requires changed { All (λ h. h < link_count net.now) changed.now }
-    requires others { IsSameElsewhere (link_count net.now) changed.now old.now new.now }
-    requires old { length old.now ≡ link_count net.now }
-    requires new { length new.now ≡ link_count net.now }
-    requires small { All (λ w. w ≤ 2 ^ 28) new.now }
+    requires weights { AreNewWeights net.now changed.now old.now new.now }
     requires along { IfSome searches.old (IsSearchGraph net.now Forward) }
     ensures marked { IfOk result (λ r. is_marked marks.now node ≡ true → AreDistances net.now new.now node r.items) }
     ensures other { IfOk result (λ r. is_marked marks.now node ≡ false → r.items ≡ []) }
@@ -247,14 +233,9 @@ pub fn rows_after(
     new: &[u64],
 ) -> Result<Vec<Items<Option<u64>>>, Memory>
     requires network { IsTrue (is_well_formed net.now) }
-    requires nodes { node_count net.now ≤ FORMAT_2.nodes }
     requires marks { length marks.now ≡ node_count net.now }
     requires rows { AreRowsFrom (node_count net.now) net.now old.now marks.now rows.now }
-    requires changed { All (λ h. h < link_count net.now) changed.now }
-    requires others { IsSameElsewhere (link_count net.now) changed.now old.now new.now }
-    requires old { length old.now ≡ link_count net.now }
-    requires new { length new.now ≡ link_count net.now }
-    requires small { All (λ w. w ≤ 2 ^ 28) new.now }
+    requires weights { AreNewWeights net.now changed.now old.now new.now }
     ensures { IfOk result (λ r. AreRowsFrom (node_count net.now) net.now new.now marks.now r.items) }
 {
     let mut searches = None;

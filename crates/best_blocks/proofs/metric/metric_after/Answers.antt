@@ -1,13 +1,9 @@
-use Rattle.std.proofs.Common.{List, ℕ, length, ap, refl, sym, subst, ◌∙◌}
-use Rattle.te_model.specs.Network.{link_count, node_count}
-use Rattle.te_model.proofs.WellFormed.{few_nodes}
-use Rattle.best_blocks.specs.Rows.{IsSameElsewhere}
+use Rattle.std.proofs.Common.{List, ℕ, refl, sym, subst}
+use Rattle.te_model.specs.Network.{node_count}
+use Rattle.best_blocks.specs.Rows.{AreNewWeights}
 use Rattle.best_blocks.proofs.Distances.{metric_is}
 use Rattle.best_blocks.proofs.RowsFrom.{from_rows_read}
 use Rattle.best_blocks.proofs.metric.metric_after.Goals as goal
-
-pub rows_after-requires-clause-nodes : goal.rows_after-requires-clause-nodes
-rows_after-requires-clause-nodes c = few_nodes c.args.net.now c.requires.network
 
 pub rows_after-requires-clause-rows : goal.rows_after-requires-clause-rows
 rows_after-requires-clause-rows c =
@@ -17,15 +13,19 @@ rows_after-requires-clause-rows c =
     from_rows_read (node_count net) net m.weights c.as_slice-old.result.now marks marks m.rows c.as_slice.result.now c.as_slice-old.ensures refl c.as_slice.ensures
     c.requires.metric.rows_are
 
-pub rows_after-requires-clause-others : goal.rows_after-requires-clause-others
-rows_after-requires-clause-others c =
-    let n = link_count c.args.net.now in
+pub rows_after-requires-clause-weights : goal.rows_after-requires-clause-weights
+rows_after-requires-clause-weights c =
+    let net = c.args.net.now in
     let changed = c.args.changed.now in
-    subst (λ (x : List ℕ). IsSameElsewhere n changed x c.deref.result.now) (sym c.as_slice-old.ensures)
-    (subst (λ (x : List ℕ). IsSameElsewhere n changed c.args.metric.now.weights x) (sym c.deref.ensures.value) c.requires.others)
-
-pub rows_after-requires-clause-old : goal.rows_after-requires-clause-old
-rows_after-requires-clause-old c = ap (λ (xs : List ℕ). length xs) c.as_slice-old.ensures ∙ c.requires.metric.count
+    let old = c.args.metric.now.weights in
+    subst (λ (x : List ℕ). AreNewWeights net changed x c.deref.result.now) (sym c.as_slice-old.ensures)
+    (subst (AreNewWeights net changed old) (sym c.deref.ensures.value) (record {
+      links = c.requires.changed;
+      others = c.requires.others;
+      old_count = c.requires.metric.count;
+      new_count = c.requires.weights;
+      small = c.requires.small;
+    }))
 
 pub returns-clause-metric : goal.returns-clause-metric
 returns-clause-metric c =

@@ -1,9 +1,5 @@
-use Rattle.te_model.proofs.WellFormed.{few_nodes}
 use Rattle.best_blocks.proofs.Distances.{metric_is}
 use Rattle.best_blocks.proofs.metric.metric_of.Goals as goal
-
-pub rows_under-requires-clause-nodes : goal.rows_under-requires-clause-nodes
-rows_under-requires-clause-nodes c = few_nodes c.args.net.now c.requires.network
 
 pub returns-clause-metric : goal.returns-clause-metric
 returns-clause-metric c =

@@ -15,5 +15,5 @@ returns-then-are_slack-clause-distances c =
     let row = c.as_slice-row.result.now in
     let is : row ≡ distances_from rows node = c.as_slice-row.ensures ∙ get_or_read rows node c.index-rows-node.result c.requires.inside c.index-rows-node.is [] in
     subst (AreDistances net new node) (sym c.in_ok-kept.ensures.items)
-    (row_stays net old new c.args.changed.now row node c.requires.network c.requires.node c.requires.others (c.are_slack.ensures c.if-are_slack.true)
+    (row_stays net old new c.args.changed.now row node c.requires.network c.requires.node c.requires.weights.others (c.are_slack.ensures c.if-are_slack.true)
     (subst (AreDistances net old node) (sym is) c.requires.row))
