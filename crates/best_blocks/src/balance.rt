@@ -1,24 +1,22 @@
 //! Between bounds: the greatest number that balances what shares ask for against the distances.
-ghost use Rattle.std.specs.Prelude.{◌≡◌, ◌^◌, ◌<◌, ◌≤◌, ℕ, IfOk, IfSome, IfNone, false, length, slice_index};
+ghost use Rattle.std.specs.Prelude.{◌≡◌, ◌^◌, ◌<◌, ◌≤◌, ℕ, IfSome, IfNone, false, length, slice_index};
 ghost use Rattle.te_model.specs.declared.units.TheConstants.{SHARE_UNIT};
 ghost use Rattle.te_model.specs.declared.limits.TheConstants.{FORMAT_2};
 ghost use Rattle.te_model.specs.Demand.{lower_of, upper_of};
 ghost use Rattle.te_model.specs.Inequalities.{weigh};
-ghost use Rattle.best_blocks.specs.Best.{plus_amount, weighed_share, balances, minus_amount, IsGreatestBalance};
+ghost use Rattle.best_blocks.specs.Best.{weighed_share, balances, IsGreatestBalance};
 ghost use Rattle.best_blocks.specs.Scale.{AreScalable};
 ghost use Rattle.best_blocks.specs.Used.{used_by_shares, used_by, AreSharesListed};
-ghost use Rattle.shortest_path.specs.Pairs.{AreValues};
 
 use crate::sharing::SharedLink;
 use routing::PairShare;
-use std::alloc::Global;
-use te_model::{DemandSet, Memory, SHARE_UNIT};
+use te_model::{DemandSet, SHARE_UNIT};
 
 /// The greatest `b` of a block.
 const MAX_B: u64 = 1 << 36;
 
 /// `b` times the share, in whole units, rounded up.
-fn weighed_share(share: u64, b: u64) -> u64
+pub fn weighed_share(share: u64, b: u64) -> u64
     requires share { share ≤ SHARE_UNIT }
     requires b { b ≤ 2 ^ 36 }
     ensures value { result ≡ weighed_share b share }
@@ -109,42 +107,4 @@ pub fn greatest_balance(set: &DemandSet, shared: &SharedLink, distances: &[u64])
         }
     }
     Some(low)
-}
-
-/// By how much each share asks for more than the distance of its pair.
-pub fn plus_amounts(
-    alloc: Global,
-    shares: &[u64],
-    distances: &[u64],
-    b: u64,
-) -> Result<Vec<u64>, Memory>
-    requires count { length distances.now ≡ length shares.now }
-    requires shares { (p : ℕ) → slice_index shares.now p ≤ SHARE_UNIT }
-    requires b { b ≤ 2 ^ 36 }
-    ensures { IfOk result (λ v. AreValues (length shares.now) (plus_amount (slice_index shares.now) (slice_index distances.now) b) v.items) }
-{
-    let mut more = Vec::with_capacity(alloc, shares.len())?;
-    for p in 0..shares.len() {
-        more.push(weighed_share(shares[p], b).saturating_sub(distances[p]))?;
-    }
-    Ok(more)
-}
-
-/// By how much each share asks for less than the distance of its pair.
-pub fn minus_amounts(
-    alloc: Global,
-    shares: &[u64],
-    distances: &[u64],
-    b: u64,
-) -> Result<Vec<u64>, Memory>
-    requires count { length distances.now ≡ length shares.now }
-    requires shares { (p : ℕ) → slice_index shares.now p ≤ SHARE_UNIT }
-    requires b { b ≤ 2 ^ 36 }
-    ensures { IfOk result (λ v. AreValues (length shares.now) (minus_amount (slice_index shares.now) (slice_index distances.now) b) v.items) }
-{
-    let mut less = Vec::with_capacity(alloc, shares.len())?;
-    for p in 0..shares.len() {
-        less.push(distances[p].saturating_sub(weighed_share(shares[p], b)))?;
-    }
-    Ok(less)
 }

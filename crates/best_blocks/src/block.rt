@@ -9,7 +9,7 @@ ghost use Rattle.best_blocks.specs.Metric.{IsMetric};
 ghost use Rattle.best_blocks.specs.Scale.{AreScalable, HasNoScale};
 ghost use Rattle.best_blocks.specs.Sharing.{HasShare, IsSharedLink};
 
-use crate::balance::{minus_amounts, plus_amounts};
+use crate::balance::weighed_share;
 use crate::metric::{Metric, metric_of};
 use crate::potentials::rows_of;
 use crate::scaling::{Scale, scale_under};
@@ -25,7 +25,8 @@ struct Balance {
     minus: Items<u64>,
 }
 
-/// What is added and taken back between bounds.
+/// What is added and taken back between bounds: by how much each share asks for more than the
+/// distance of its pair, and for less.
 fn balance_between(
     alloc: Global,
     shares: &[u64],
@@ -37,8 +38,13 @@ fn balance_between(
     requires b { b ≤ 2 ^ 36 }
     ensures { IfOk result (λ r. AreBalanced (length shares.now) (slice_index shares.now) (slice_index distances.now) b r.plus r.minus) }
 {
-    let plus = plus_amounts(alloc, shares, distances, b)?;
-    let minus = minus_amounts(alloc, shares, distances, b)?;
+    let mut plus = Vec::with_capacity(alloc, shares.len())?;
+    let mut minus = Vec::with_capacity(alloc, shares.len())?;
+    for p in 0..shares.len() {
+        let weighed = weighed_share(shares[p], b);
+        plus.push(weighed.saturating_sub(distances[p]))?;
+        minus.push(distances[p].saturating_sub(weighed))?;
+    }
     Ok(Balance {
         plus: Items::new(plus),
         minus: Items::new(minus),
