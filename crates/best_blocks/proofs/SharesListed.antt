@@ -1,7 +1,5 @@
 -- The shares of all pairs on a link, written from the list of those that have one.
-use Rattle.std.proofs.Common.{◌≡◌, ◌⊎◌, ℕ, ◌+◌, ◌<◌, Bool, true, false, List, [], ◌∷◌, refl, length, replicate, set, get_or, slice_index, arith, sym, subst, ◌∙◌, ap, inl, inr}
-use Rattle.std.proofs.lemmas.Bool.{cases_eq, cases_lt}
-use Rattle.std.proofs.lemmas.List.{get_or-replicate, get_or-set_same, get_or-set_other, get_or_read, length-replicate, length-set}
+use Rattle.std.proofs.Common.{◌≡◌, ◌⊎◌, ℕ, ◌+◌, ◌<◌, Bool, true, false, List, [], ◌∷◌, refl, length, get_or, slice_index, arith, subst}
 use Rattle.std.specs.Prelude.{All, if◌then◌else◌}
 use Rattle.std.proofs.lemmas.List.Elements.{All-get_or, All-head, All-tail}
 use Rattle.std.proofs.lemmas.List.Sums.{sum_by-cons}
@@ -15,7 +13,6 @@ use Rattle.te_model.proofs.Amounts.{has_at}
 use Rattle.routing.specs.declared.shares.PairShare.{PairShare}
 use Rattle.routing.specs.Shares.{AreLinksOnce, AreSharesOn}
 use Rattle.routing.proofs.Sharing.{no_share, paths_once}
-use Rattle.shortest_path.specs.Pairs.{AreValues}
 use Rattle.best_blocks.specs.Sharing.{HasShare}
 
 -- the first i of the list are written, and all other shares are 0
