@@ -1,3 +1,4 @@
 pub mod LastLinks
 pub mod Products
+pub mod Usages
 pub mod Weights

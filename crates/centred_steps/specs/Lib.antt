@@ -1,3 +1,4 @@
+pub mod Centre
 pub mod Loads
 pub mod Ways
 pub mod Weights

@@ -1,6 +1,8 @@
 //! The usage in the middle.
-ghost use Rattle.std.specs.Prelude.{◌≡◌, ℕ, ◌^◌, ◌≤◌, IsTrue, length, slice_index};
+ghost use Rattle.std.specs.Prelude.{◌≡◌, ℕ, ◌*◌, ◌/◌, ◌^◌, ◌≤◌, IsTrue, length, slice_index};
+ghost use Rattle.te_model.specs.declared.units.TheConstants.{RATIO_UNIT};
 ghost use Rattle.te_model.specs.Network.{is_well_formed, link_count};
+ghost use Rattle.centred_steps.specs.Centre.{centre_by, mean_of, most_used, weighted_load};
 ghost use Rattle.centred_steps.specs.Loads.{AreLoadsWithin, IsCentre};
 ghost use Rattle.centred_steps.specs.Weights.{AreWeightsUpTo};
 
@@ -19,7 +21,8 @@ pub struct Centre {
 pub fn usage_of(load: u128, capacity: u64) -> u128
     requires load { load ≤ 2 ^ 66 }
     requires capacity { 1 ≤ capacity }
-    ensures { result ≤ 2 ^ 86 }
+    ensures usage { result ≡ load * RATIO_UNIT / capacity }
+    ensures small { result ≤ 2 ^ 86 }
 {
     load * u128::from(RATIO_UNIT) / u128::from(capacity)
 }
@@ -28,7 +31,8 @@ pub fn usage_of(load: u128, capacity: u64) -> u128
 fn greatest_usage(net: &Network, loads: &[u128]) -> u128
     requires network { IsTrue (is_well_formed net.now) }
     requires loads { AreLoadsWithin net.now loads.now }
-    ensures { result ≤ 2 ^ 86 }
+    ensures usage { result ≡ most_used net.now loads.now }
+    ensures small { result ≤ 2 ^ 86 }
 {
     let links = net.links.as_slice();
     let mut most = 0;
@@ -45,7 +49,8 @@ fn load_by(weights: &[u64], loads: &[u128]) -> u128
     requires count { length weights.now ≡ length loads.now }
     requires weights { AreWeightsUpTo (2 ^ 27) weights.now }
     requires loads { (h : ℕ) → slice_index loads.now h ≤ 2 ^ 66 }
-    ensures { result ≤ 2 ^ 103 }
+    ensures sum { result ≡ weighted_load (length loads.now) weights.now loads.now }
+    ensures small { result ≤ 2 ^ 103 }
 {
     let mut total: u128 = 0;
     for h in 0..loads.len() {
@@ -60,6 +65,7 @@ fn mean_usage(net: &Network, weights: &[u64], loads: &[u128]) -> u128
     requires count { length weights.now ≡ link_count net.now }
     requires weights { AreWeightsUpTo (2 ^ 27) weights.now }
     requires loads { AreLoadsWithin net.now loads.now }
+    ensures { result ≡ mean_of net.now weights.now loads.now }
 {
     let volume = capacity_by(net, weights).max(1);
     load_by(weights, loads) * u128::from(RATIO_UNIT) / volume
@@ -73,7 +79,8 @@ pub fn centre_of(net: &Network, weights: &[u64], loads: &[u128]) -> Centre
     requires count { length weights.now ≡ link_count net.now }
     requires weights { AreWeightsUpTo (2 ^ 27) weights.now }
     requires loads { AreLoadsWithin net.now loads.now }
-    ensures { IsCentre result }
+    ensures centre { IsCentre result }
+    ensures exact { result ≡ centre_by net.now weights.now loads.now }
 {
     let most = greatest_usage(net, loads);
     let mean = mean_usage(net, weights, loads).min(most);

@@ -6,5 +6,5 @@ loop-preserved c =
     let net = c.args.net.now in
     let h = c.in-Some.h in (
       (ends_inside net c.as_slice-links.result.now h c.as_slice-links.ensures c.requires.network (c.requires.lasts.each c.loop.node h c.in-Some.is)).0,
-      c.add_load.ensures,
+      c.add_load.ensures.small,
     )
