@@ -4,4 +4,5 @@ pub mod Passed
 pub mod PathLinks
 pub mod Shifted
 pub mod Squares
+pub mod SweepLoads
 pub mod Turning

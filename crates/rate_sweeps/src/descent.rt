@@ -7,6 +7,7 @@ ghost use Rattle.routing.specs.Routes.{AreDemands};
 ghost use Rattle.routing.specs.Utilisation.{parts};
 ghost use Rattle.centred_steps.specs.Weights.{AreWeightsUpTo};
 ghost use Rattle.rate_sweeps.specs.Descents.{IsDescent, IsTurn, MakesTurn, first_pace};
+ghost use Rattle.rate_sweeps.specs.Lengths.{AreLengthsOfRouting};
 ghost use Rattle.rate_sweeps.specs.Sweeps.{ArePathsOfPairs, links_in};
 
 use crate::pace::{Pace, first_pace, next_pace};
@@ -67,6 +68,7 @@ pub fn next_lengths(
     requires demands { AreDemands (length descent.now.routing.routes) matrix.now.demand }
     ensures count { IfOk result (λ l. length l.items ≡ link_count net.now) }
     ensures lengths { IfOk result (λ l. AreWeightsUpTo (2 ^ 27) l.items) }
+    ensures exact { IfOk result (λ l. AreLengthsOfRouting net.now matrix.now.demand descent.now.routing.routes descent.now.pace.times l.items) }
 {
     let loads = descent.routing.loads(alloc, net, matrix)?;
     lengths_under(alloc, net, &loads, descent.pace.times)

@@ -1,9 +1,11 @@
 //! Where sweeps stand.
-ghost use Rattle.std.specs.Prelude.{◌≡◌, ◌^◌, ◌<◌, ◌≤◌, All, IfOk, IsTrue, length, map};
+ghost use Rattle.std.specs.Prelude.{◌≡◌, ◌+◌, ◌*◌, ◌^◌, ◌<◌, ◌≤◌, ℕ, All, IfOk, IsTrue, OnOk, length, map, max, min, slice_index};
 ghost use Rattle.te_model.specs.Network.{is_well_formed, link_count};
 ghost use Rattle.routing.specs.Routes.{AreDemands};
+ghost use Rattle.centred_steps.specs.Centre.{centre_by};
 ghost use Rattle.centred_steps.specs.Loads.{AreLoadsWithin, AreSmall, IsCentre};
 ghost use Rattle.centred_steps.specs.Weights.{AreWeightsUpTo};
+ghost use Rattle.rate_sweeps.specs.Bounds.{sweep_loads, times_on, weight_by};
 ghost use Rattle.rate_sweeps.specs.Sweeps.{AreOnLinks, AreRates, IsWeight, KeepsBetter, links_in};
 
 use centred_steps::{Centre, FIRST_WEIGHT, add_load, centre_of, clear_loads, step_weights};
@@ -55,7 +57,8 @@ pub fn first_rates(alloc: Global, net: &Network) -> Result<Rates, Memory>
 fn add_on(loads: &mut [u128], links: &[u32], amount: u128)
     requires links { All (λ h. h < length loads.old) links.now }
     requires loads { AreSmall loads.old }
-    ensures { AreSmall loads.new }
+    ensures small { AreSmall loads.new }
+    ensures added { (e : ℕ) → e < length loads.old → slice_index loads.new e ≡ min (2 ^ 66) (slice_index loads.old e + amount * times_on links.now e) }
 {
     for link in links {
         add_load(loads, *link as usize, amount);
@@ -67,7 +70,8 @@ fn load_on(net: &Network, matrix: &Matrix, paths: &[Path], loads: &mut [u128])
     requires demands { AreDemands (length paths.now) matrix.now.demand }
     requires paths { AreOnLinks net.now (map links_in paths.now) }
     requires count { length loads.old ≡ link_count net.now }
-    ensures { AreLoadsWithin net.now loads.new }
+    ensures within { AreLoadsWithin net.now loads.new }
+    ensures loads { loads.new ≡ sweep_loads net.now matrix.now.demand (map links_in paths.now) }
 {
     clear_loads(loads);
     let demand = matrix.demand.as_slice();
@@ -80,7 +84,8 @@ fn load_on(net: &Network, matrix: &Matrix, paths: &[Path], loads: &mut [u128])
 /// more.
 fn weight_of(centre: Centre) -> u64
     requires { IsCentre centre }
-    ensures { IsWeight result }
+    ensures limits { IsWeight result }
+    ensures weight { result ≡ weight_by centre }
 {
     let weight = centre.mean * 100 / centre.deviation;
     weight.max(1).min(MAX_WEIGHT) as u64
@@ -102,7 +107,9 @@ fn centre_under(
     requires lengths { AreWeightsUpTo (2 ^ 27) lengths.now }
     requires loads { length loads.old ≡ link_count net.now }
     ensures centre { IsCentre result }
-    ensures loads { AreLoadsWithin net.now loads.new }
+    ensures exact { result ≡ centre_by net.now lengths.now loads.new }
+    ensures within { AreLoadsWithin net.now loads.new }
+    ensures loads { loads.new ≡ sweep_loads net.now matrix.now.demand (map links_in paths.now) }
 {
     load_on(net, matrix, paths, loads);
     centre_of(net, lengths, loads)
@@ -127,6 +134,8 @@ pub fn offer(
     requires rates { AreRates net.now rates.old }
     ensures rates { AreRates net.now rates.new }
     ensures better { KeepsBetter lengths.now rates.old rates.new }
+    ensures loads { rates.new.loads.items ≡ sweep_loads net.now matrix.now.demand (map links_in paths.now) }
+    ensures bound { OnOk result (rates.new.low ≡ max rates.old.low (centre_by net.now lengths.now rates.new.loads.items).mean) }
     ensures weights { rates.new.weights ≡ rates.old.weights }
 {
     let centre = centre_under(net, matrix, paths, lengths, &mut rates.loads);
@@ -157,6 +166,9 @@ pub fn take_sweep(
     ensures weight { IfOk result IsWeight }
     ensures rates { AreRates net.now rates.new }
     ensures better { KeepsBetter rates.old.weights.items rates.old rates.new }
+    ensures loads { rates.new.loads.items ≡ sweep_loads net.now matrix.now.demand (map links_in paths.now) }
+    ensures bound { OnOk result (rates.new.low ≡ max rates.old.low (centre_by net.now rates.old.weights.items rates.new.loads.items).mean) }
+    ensures counted { IfOk result (λ w. w ≡ weight_by (centre_by net.now rates.old.weights.items rates.new.loads.items)) }
 {
     let centre = centre_under(net, matrix, paths, &rates.weights, &mut rates.loads);
     if centre.mean > rates.low {

@@ -1,7 +1,9 @@
 //! Lengths that are great on the most used links.
-ghost use Rattle.std.specs.Prelude.{◌≡◌, ◌^◌, ◌<◌, ◌≤◌, ℕ, All, IfOk, IsTrue, length, slice_index};
+ghost use Rattle.std.specs.Prelude.{◌≡◌, ◌*◌, ◌/◌, ◌^◌, ◌<◌, ◌≤◌, ℕ, All, IfOk, IsTrue, length, max, slice_index};
 ghost use Rattle.te_model.specs.Network.{capacity_of, is_well_formed, link_count};
+ghost use Rattle.multiplicative_lengths.specs.Growth.{for_each_link};
 ghost use Rattle.centred_steps.specs.Weights.{AreWeightsUpTo};
+ghost use Rattle.rate_sweeps.specs.Lengths.{greatest_of, length_at_price, lengths_at_prices, lengths_under, load_by_capacity, part_of, price_of, squared};
 
 use std::alloc::Global;
 use te_model::{Memory, Network};
@@ -17,7 +19,8 @@ const MAX_CAPACITY: u128 = 1 << 32;
 
 /// The greatest of the numbers, and 1 at least.
 fn greatest(numbers: &[u128]) -> u128
-    ensures { 1 ≤ result }
+    ensures some { 1 ≤ result }
+    ensures greatest { result ≡ greatest_of numbers.now }
 {
     let mut most = 1;
     for number in numbers {
@@ -33,6 +36,7 @@ fn usage_of(alloc: Global, net: &Network, loads: &[u128]) -> Result<Vec<u128>, M
     requires small { All (λ x. x < 2 ^ 84) loads.now }
     ensures count { IfOk result (λ u. length u.items ≡ link_count net.now) }
     ensures small { IfOk result (λ u. All (λ x. x < 2 ^ 84) u.items) }
+    ensures usage { IfOk result (λ u. u.items ≡ for_each_link net.now (load_by_capacity net.now loads.now)) }
 {
     let links = net.links.as_slice();
     let mut usage = Vec::with_capacity(alloc, links.len())?;
@@ -47,7 +51,8 @@ fn usage_of(alloc: Global, net: &Network, loads: &[u128]) -> Result<Vec<u128>, M
 fn squared_part(usage: u128, most: u128, times: u32) -> u128
     requires usage { usage < 2 ^ 84 }
     requires most { 1 ≤ most }
-    ensures { result ≤ 2 ^ 30 }
+    ensures small { result ≤ 2 ^ 30 }
+    ensures part { result ≡ squared times (part_of most usage) }
 {
     let mut part = (usage * WHOLE / most).min(WHOLE);
     for _ in 0..times {
@@ -60,7 +65,8 @@ fn squared_part(usage: u128, most: u128, times: u32) -> u128
 fn price_of(part: u128, capacity: u64) -> u128
     requires part { part ≤ 2 ^ 30 }
     requires capacity { 1 ≤ capacity }
-    ensures { result ≤ 2 ^ 62 }
+    ensures small { result ≤ 2 ^ 62 }
+    ensures price { result ≡ max 1 part * 2 ^ 32 / capacity }
 {
     part.max(1) * MAX_CAPACITY / u128::from(capacity)
 }
@@ -72,6 +78,7 @@ fn prices_of(alloc: Global, net: &Network, usage: &[u128], times: u32) -> Result
     requires small { All (λ x. x < 2 ^ 84) usage.now }
     ensures count { IfOk result (λ p. length p.items ≡ link_count net.now) }
     ensures small { IfOk result (λ p. All (λ x. x ≤ 2 ^ 62) p.items) }
+    ensures prices { IfOk result (λ p. p.items ≡ for_each_link net.now (price_of net.now usage.now times)) }
 {
     let most = greatest(usage);
     let links = net.links.as_slice();
@@ -87,7 +94,8 @@ fn prices_of(alloc: Global, net: &Network, usage: &[u128], times: u32) -> Result
 fn length_of(price: u128, most: u128) -> u64
     requires price { price ≤ 2 ^ 62 }
     requires most { 1 ≤ most }
-    ensures { (1 ≤ result) × (result ≤ 2 ^ 27) }
+    ensures limits { (1 ≤ result) × (result ≤ 2 ^ 27) }
+    ensures length { result ≡ length_at_price most price }
 {
     (price * MAX_LENGTH / most).max(1).min(MAX_LENGTH) as u64
 }
@@ -97,6 +105,7 @@ fn lengths_of(alloc: Global, prices: &[u128]) -> Result<Vec<u64>, Memory>
     requires small { All (λ x. x ≤ 2 ^ 62) prices.now }
     ensures count { IfOk result (λ l. length l.items ≡ length prices.now) }
     ensures lengths { IfOk result (λ l. AreWeightsUpTo (2 ^ 27) l.items) }
+    ensures exact { IfOk result (λ l. l.items ≡ lengths_at_prices prices.now) }
 {
     let most = greatest(prices);
     let mut lengths = Vec::with_capacity(alloc, prices.len())?;
@@ -120,6 +129,7 @@ pub fn lengths_under(
     requires small { All (λ x. x < 2 ^ 84) loads.now }
     ensures count { IfOk result (λ l. length l.items ≡ link_count net.now) }
     ensures lengths { IfOk result (λ l. AreWeightsUpTo (2 ^ 27) l.items) }
+    ensures exact { IfOk result (λ l. l.items ≡ lengths_under net.now loads.now times) }
 {
     let usage = usage_of(alloc, net, loads)?;
     let prices = prices_of(alloc, net, &usage, times)?;
