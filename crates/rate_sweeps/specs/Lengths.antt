@@ -8,8 +8,8 @@ use Rattle.routing.specs.Routes.{AreLoads}
 use Rattle.multiplicative_lengths.specs.Growth.{for_each_link}
 
 -- the greatest of the numbers, and at least 1
-abbrev pub greatest_of : List ℕ → ℕ
-greatest_of numbers = max 1 (greatest_below (length numbers) (slice_index numbers))
+abbrev pub greatest_number : List ℕ → ℕ
+greatest_number numbers = max 1 (greatest_below (length numbers) (slice_index numbers))
 
 -- the load of link h over its capacity, rounded down
 abbrev pub load_by_capacity : Network → List ℕ → ℕ → ℕ
@@ -20,20 +20,20 @@ abbrev pub part_of : ℕ → ℕ → ℕ
 part_of most usage = min (usage * 2 ^ 30 / most) (2 ^ 30)
 
 -- such a part, so many times replaced by its square, rounded down
-abbrev pub squared : ℕ → ℕ → ℕ
-squared zero part = part
-squared (suc n) part = squared n part * squared n part / 2 ^ 30
+abbrev pub repeated_square : ℕ → ℕ → ℕ
+repeated_square zero part = part
+repeated_square (suc n) part = repeated_square n part * repeated_square n part / 2 ^ 30
 
 -- the price of link h: its squared part, at least 1, by 2^32 over its capacity
 abbrev pub price_of : Network → List ℕ → ℕ → ℕ → ℕ
-price_of net usage times h = max 1 (squared times (part_of (greatest_of usage) (slice_index usage h))) * 2 ^ 32 / capacity_of net h
+price_of net usage times h = max 1 (repeated_square times (part_of (greatest_number usage) (slice_index usage h))) * 2 ^ 32 / capacity_of net h
 
 -- the length at a price: 2^27 at the greatest price, less in proportion at others, and at least 1
 abbrev pub length_at_price : ℕ → ℕ → ℕ
 length_at_price most price = min (max 1 (price * 2 ^ 27 / most)) (2 ^ 27)
 
 abbrev pub lengths_at_prices : List ℕ → List ℕ
-lengths_at_prices prices = map (length_at_price (greatest_of prices)) prices
+lengths_at_prices prices = map (length_at_price (greatest_number prices)) prices
 
 -- the lengths by the usages of the links under the loads, squared so many times
 abbrev pub lengths_under : Network → List ℕ → ℕ → List ℕ

@@ -3,7 +3,7 @@ ghost use Rattle.std.specs.Prelude.{◌≡◌, ◌*◌, ◌/◌, ◌^◌, ◌<�
 ghost use Rattle.te_model.specs.Network.{capacity_of, is_well_formed, link_count};
 ghost use Rattle.multiplicative_lengths.specs.Growth.{for_each_link};
 ghost use Rattle.centred_steps.specs.Weights.{AreWeightsUpTo};
-ghost use Rattle.rate_sweeps.specs.Lengths.{greatest_of, length_at_price, lengths_at_prices, lengths_under, load_by_capacity, part_of, price_of, squared};
+ghost use Rattle.rate_sweeps.specs.Lengths.{greatest_number, length_at_price, lengths_at_prices, lengths_under, load_by_capacity, part_of, price_of, repeated_square};
 
 use std::alloc::Global;
 use te_model::{Memory, Network};
@@ -20,7 +20,7 @@ const MAX_CAPACITY: u128 = 1 << 32;
 /// The greatest of the numbers, and 1 at least.
 fn greatest(numbers: &[u128]) -> u128
     ensures some { 1 ≤ result }
-    ensures greatest { result ≡ greatest_of numbers.now }
+    ensures greatest { result ≡ greatest_number numbers.now }
 {
     let mut most = 1;
     for number in numbers {
@@ -52,7 +52,7 @@ fn squared_part(usage: u128, most: u128, times: u32) -> u128
     requires usage { usage < 2 ^ 84 }
     requires most { 1 ≤ most }
     ensures small { result ≤ 2 ^ 30 }
-    ensures part { result ≡ squared times (part_of most usage) }
+    ensures part { result ≡ repeated_square times (part_of most usage) }
 {
     let mut part = (usage * WHOLE / most).min(WHOLE);
     for _ in 0..times {

@@ -4,7 +4,7 @@ use Rattle.te_model.specs.declared.network.Link.{Link}
 use Rattle.te_model.specs.Network.{capacity_of, link_count, no_link}
 use Rattle.te_model.proofs.Choices.{made_more}
 use Rattle.te_model.proofs.WellFormed.{capacities_positive}
-use Rattle.rate_sweeps.specs.Lengths.{greatest_of, part_of, price_of, squared}
+use Rattle.rate_sweeps.specs.Lengths.{greatest_number, part_of, price_of, repeated_square}
 use Rattle.rate_sweeps.proofs.usage.prices_of.Goals as goal
 
 pub price_of-requires-clause-capacity : goal.price_of-requires-clause-capacity
@@ -22,13 +22,13 @@ loop-h-preserved c =
     let times = c.args.times in
     let h = c.loop-h.h in
     let links = c.as_slice-links.result.now in
-    let part : c.squared_part-part.result ≡ squared times (part_of (greatest_of usage) (get_or usage h 0)) =
-    c.squared_part-part.ensures.part ∙ ap (λ m. squared times (part_of m (get_or usage h 0))) c.greatest-most.ensures.greatest
+    let part : c.squared_part-part.result ≡ repeated_square times (part_of (greatest_number usage) (get_or usage h 0)) =
+    c.squared_part-part.ensures.part ∙ ap (λ m. repeated_square times (part_of m (get_or usage h 0))) c.greatest-most.ensures.greatest
     in
     let made : c.price_of.result ≡ price_of net usage times h =
     c.price_of.ensures.price
     ∙ (ap (λ x. max 1 x * 2 ^ 32 / (get_or links h no_link).capacity) part
-    ∙ ap (λ (ls : List Link). max 1 (squared times (part_of (greatest_of usage) (get_or usage h 0))) * 2 ^ 32 / (get_or ls h no_link).capacity) c.as_slice-links.ensures)
+    ∙ ap (λ (ls : List Link). max 1 (repeated_square times (part_of (greatest_number usage) (get_or usage h 0))) * 2 ^ 32 / (get_or ls h no_link).capacity) c.as_slice-links.ensures)
     in (
       omega (arith, ap (λ (l : List ℕ). length l) c.in_ok-push.ensures.items, c.loop-h.invariant.0, c.in_ok-push.ensures.len),
       subst (All (λ x. x ≤ 2 ^ 62)) (sym {A = List ℕ} c.in_ok-push.ensures.items)
