@@ -1,5 +1,6 @@
 -- The loads of links in a sweep, and the usage in their middle.
-use Rattle.std.specs.Prelude.{◌≡◌, ℕ, ◌^◌, ◌≤◌, List, length, slice_index}
+use Rattle.std.specs.Prelude.{◌≡◌, ℕ, ◌^◌, ◌≤◌, List, length, slice_index, ◌==◌}
+use Rattle.std.specs.List.{count_by}
 use Rattle.te_model.specs.declared.network.Network.{Network}
 use Rattle.te_model.specs.Network.{link_count}
 use Rattle.centred_steps.specs.declared.centre.Centre.{Centre}
@@ -12,6 +13,10 @@ AreSmall loads = (h : ℕ) → slice_index loads h ≤ 2 ^ 66
 pub record AreLoadsWithin (net : Network) (loads : List ℕ) : Type 0 where
   pub count : length loads ≡ link_count net
   pub small : AreSmall loads
+
+-- how often link e stands among the links
+abbrev pub times_on : List ℕ → ℕ → ℕ
+times_on links e = count_by (λ h. h == e) links
 
 -- numbers by which weights move
 pub record IsCentre (c : Centre) : Type 0 where

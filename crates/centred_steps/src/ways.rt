@@ -1,8 +1,8 @@
 //! The least ways from a node, by the links with which they end, and what they put on links.
-ghost use Rattle.std.specs.Prelude.{◌≡◌, ◌^◌, ◌<◌, ◌≤◌, IsTrue, length};
+ghost use Rattle.std.specs.Prelude.{◌≡◌, ℕ, ◌+◌, ◌*◌, ◌^◌, ◌<◌, ◌≤◌, IsTrue, length, min, slice_index};
 ghost use Rattle.te_model.specs.Network.{is_well_formed, link_count, node_count};
-ghost use Rattle.centred_steps.specs.Loads.{AreSmall};
-ghost use Rattle.centred_steps.specs.Ways.{AreLastLinks};
+ghost use Rattle.centred_steps.specs.Loads.{AreSmall, times_on};
+ghost use Rattle.centred_steps.specs.Ways.{AreLastLinks, least_capacity, way_to};
 
 use crate::loads::add_load;
 use shortest_path::is_sum;
@@ -52,7 +52,8 @@ pub fn narrowest_on(net: &Network, lasts: &[Option<u32>], dst: u32) -> u64
     requires network { IsTrue (is_well_formed net.now) }
     requires lasts { AreLastLinks net.now lasts.now }
     requires dst { dst < node_count net.now }
-    ensures { result ≤ 2 ^ 32 }
+    ensures small { result ≤ 2 ^ 32 }
+    ensures least { result ≡ least_capacity net.now (way_to net.now lasts.now (length lasts.now) dst) }
 {
     let links = net.links.as_slice();
     let mut least = MAX_CAPACITY;
@@ -82,7 +83,9 @@ pub fn add_load_along(
     requires dst { dst < node_count net.now }
     requires count { length loads.old ≡ link_count net.now }
     requires loads { AreSmall loads.old }
-    ensures { AreSmall loads.new }
+    ensures small { AreSmall loads.new }
+    ensures added { (e : ℕ) → e < length loads.old →
+        slice_index loads.new e ≡ min (2 ^ 66) (slice_index loads.old e + amount * times_on (way_to net.now lasts.now (length lasts.now) dst) e) }
 {
     let links = net.links.as_slice();
     let mut node = dst;

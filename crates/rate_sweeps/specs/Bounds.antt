@@ -1,14 +1,10 @@
 -- The loads of a sweep, the bound from below that they give (after Garg and Könemann, 2007), and what the sweep counts.
-use Rattle.std.specs.Prelude.{ℕ, ◌*◌, ◌/◌, ◌^◌, List, [], length, max, min, slice_index, slice_index_or, ◌==◌}
-use Rattle.std.specs.List.{count_by}
+use Rattle.std.specs.Prelude.{ℕ, ◌*◌, ◌/◌, ◌^◌, List, [], length, max, min, slice_index, slice_index_or}
 use Rattle.te_model.specs.declared.network.Network.{Network}
 use Rattle.te_model.specs.Counting.{sum_below}
 use Rattle.multiplicative_lengths.specs.Growth.{for_each_link}
 use Rattle.centred_steps.specs.declared.centre.Centre.{Centre}
-
--- how often the path takes link e
-abbrev pub times_on : List ℕ → ℕ → ℕ
-times_on links e = count_by (λ h. h == e) links
+use Rattle.centred_steps.specs.Loads.{times_on}
 
 -- the demand of pair p as often as its path takes link e
 abbrev pub load_of_pair : List ℕ → List (List ℕ) → ℕ → ℕ → ℕ

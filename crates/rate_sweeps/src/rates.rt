@@ -3,9 +3,9 @@ ghost use Rattle.std.specs.Prelude.{◌≡◌, ◌+◌, ◌*◌, ◌^◌, ◌<�
 ghost use Rattle.te_model.specs.Network.{is_well_formed, link_count};
 ghost use Rattle.routing.specs.Routes.{AreDemands};
 ghost use Rattle.centred_steps.specs.Centre.{centre_by};
-ghost use Rattle.centred_steps.specs.Loads.{AreLoadsWithin, AreSmall, IsCentre};
+ghost use Rattle.centred_steps.specs.Loads.{AreLoadsWithin, AreSmall, IsCentre, times_on};
 ghost use Rattle.centred_steps.specs.Weights.{AreWeightsUpTo};
-ghost use Rattle.rate_sweeps.specs.Bounds.{sweep_loads, times_on, weight_by};
+ghost use Rattle.rate_sweeps.specs.Bounds.{sweep_loads, weight_by};
 ghost use Rattle.rate_sweeps.specs.Sweeps.{AreOnLinks, AreRates, IsWeight, KeepsBetter, links_in};
 
 use centred_steps::{Centre, FIRST_WEIGHT, add_load, centre_of, clear_loads, step_weights};

@@ -1,4 +1,4 @@
-use Rattle.std.proofs.Common.{◌<◌, length, get_or, arith, ap, ◌∙◌}
+use Rattle.std.proofs.Common.{◌<◌, length, get_or, arith}
 use Rattle.std.proofs.lemmas.List.Elements.{All-get_or}
 use Rattle.rate_sweeps.proofs.SweepLoads.{link_more}
 use Rattle.rate_sweeps.proofs.rates.add_on.Goals as goal
@@ -10,7 +10,6 @@ loop-link-preserved c =
     let inside = All-get_or (λ h. h < length c.args.loads.now) links i 0 c.loop-link-test.true c.requires.links in (
       c.add_load.ensures.small,
       λ e below.
-          ap (λ l. get_or l e 0) c.add_load.ensures.added
-          ∙ link_more c.loop-link.loads links (get_or c.args.loads.now e 0) c.args.amount i e c.loop-link-test.true (omega (arith, inside, c.loop-link.auto.loads))
-          (c.loop-link.invariant.1 e below),
+          link_more c.loop-link.loads c.add_load.new.loads links (get_or c.args.loads.now e 0) c.args.amount i e c.loop-link-test.true
+          (omega (arith, inside, c.loop-link.auto.loads)) c.loop-link.invariant.0 c.add_load.ensures.small c.add_load.ensures.added (c.loop-link.invariant.1 e below),
     )

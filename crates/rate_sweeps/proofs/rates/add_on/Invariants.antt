@@ -1,6 +1,5 @@
 use Rattle.std.proofs.Common.{◌≡◌, ℕ, ◌+◌, ◌*◌, ◌^◌, ◌<◌, length, min, slice_index, take}
-use Rattle.centred_steps.specs.Loads.{AreSmall}
-use Rattle.rate_sweeps.specs.Bounds.{times_on}
+use Rattle.centred_steps.specs.Loads.{AreSmall, times_on}
 use Rattle.rate_sweeps.proofs.rates.add_on.Given as goal
 
 abbrev pub invariant-loop-link : goal.invariant-loop-link
