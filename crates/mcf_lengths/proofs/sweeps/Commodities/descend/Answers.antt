@@ -24,3 +24,10 @@ take_turn-requires-clause-offered c =
 pub take_turn-requires-clause-lengths : goal.take_turn-requires-clause-lengths
 take_turn-requires-clause-lengths c =
     subst (All (λ (l : ℕ). l ≤ 2 ^ 28)) (sym c.deref-in-loop-4.ensures.value) (weights_small c.in_ok-lengths.lengths.items c.in_ok-lengths.ensures.lengths)
+
+pub loop-preserved : goal.loop-preserved
+loop-preserved c = (
+  c.in_ok-descent-2.ensures.descent c.args.start.routes c.loop.invariant.0,
+  c.in_ok-descent-2.ensures.turn.few c.loop.invariant.1,
+  c.offer.ensures.rates,
+)
