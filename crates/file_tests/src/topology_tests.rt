@@ -1,6 +1,7 @@
 //! Files of a network: their faults, the order of its nodes, and the most nodes and links.
-use std::alloc::Global;
+use std::alloc::{AllocError, Global};
 use std::test::Fail;
+use te_model::{Link, Name};
 use topology::*;
 
 fn fault_of(alloc: Global, bytes: &[u8]) -> Option<TopologyFault> {
@@ -8,33 +9,58 @@ fn fault_of(alloc: Global, bytes: &[u8]) -> Option<TopologyFault> {
 }
 
 // The fault of a file whose second row is this one, after a good row.
-fn second_row(alloc: Global, row: &str) -> Result<Option<TopologyFault>, Fail> {
+fn second_row(alloc: Global, row: &str) -> Result<Option<TopologyFault>, AllocError> {
     let text = format!(in alloc; "source,target,capacity,cost\na,b,10,1\n{row}\n")?;
     Ok(fault_of(alloc, text.as_bytes()))
 }
 
 #[test]
-fn first_faults(rt: HostRuntime) -> Result<(), Fail> {
-    let alloc = rt.alloc();
+fn faults_of_a_header(rt: HostRuntime) -> Result<(), Fail> {
     for (text, fault) in [
         ("", TopologyFault::Header),
         ("source,target,capacity\n", TopologyFault::Header),
         ("source,target,capacity,cost\n", TopologyFault::Empty),
     ] {
-        assert_eq!(rt; fault_of(alloc, text.as_bytes()), Some(fault));
+        assert_eq!(rt; fault_of(rt.alloc(), text.as_bytes()), Some(fault));
     }
-    for (row, fault) in [
-        ("a,b,10", TopologyFault::Fields(2)),
-        ("a,a,10,1", TopologyFault::SelfLink(2)),
-        ("a,b,10,0", TopologyFault::Number(2)),
-        ("a,b,4294967297,1", TopologyFault::Number(2)),
-        ("a b,c,10,1", TopologyFault::Name(2)),
-        ("a b,c,0,1\na", TopologyFault::Name(2)),
-    ] {
-        assert_eq!(rt; second_row(alloc, row)?, Some(fault));
-    }
-    assert_eq!(rt; second_row(alloc, "a,b,10,1")?, None);
     Ok(())
+}
+
+#[test]
+fn faults_of_a_row(rt: HostRuntime) -> Result<(), Fail> {
+    for (row, fault) in [
+        ("a,b,10", Some(TopologyFault::Fields(2))),
+        ("a,a,10,1", Some(TopologyFault::SelfLink(2))),
+        ("a,b,10,0", Some(TopologyFault::Number(2))),
+        ("a,b,4294967297,1", Some(TopologyFault::Number(2))),
+        ("a b,c,10,1", Some(TopologyFault::Name(2))),
+        ("a b,c,0,1\na", Some(TopologyFault::Name(2))),
+        ("a,b,10,1", None),
+    ] {
+        let found = second_row(rt.alloc(), row)?;
+        assert_eq!(rt; found, fault);
+    }
+    Ok(())
+}
+
+// Whether the nodes are b, a and c in this order.
+fn are_in_order(names: &[Name]) -> bool {
+    match names {
+        [first, second, third] => {
+            let b = first.as_str() == "b";
+            let a = second.as_str() == "a";
+            b & a & (third.as_str() == "c")
+        }
+        _ => false,
+    }
+}
+
+// Whether there are three links, of which the second leads from c to b, with these values.
+fn leads_back(links: &[Link]) -> bool {
+    match links {
+        [_, link, _] => (link.tail, link.head, link.capacity, link.cost) == (2, 0, 10, 1),
+        _ => false,
+    }
 }
 
 #[test]
@@ -42,27 +68,13 @@ fn nodes_in_order_of_appearance(rt: HostRuntime) -> Result<(), Fail> {
     let text =
         b"source,target,capacity,cost\r\n\r\nb,a,4294967296,65535\r\n\"c\",b,0010,1\r\nb,a,1,1";
     let net = read(rt.alloc(), text)?;
-    let names = net.names.as_slice();
-    assert_eq!(rt; names.len(), 3);
-    assert_eq!(rt; names[0].as_str(), "b");
-    assert_eq!(rt; names[1].as_str(), "a");
-    assert_eq!(rt; names[2].as_str(), "c");
-    let links = net.links.as_slice();
-    assert_eq!(rt; links.len(), 3);
-    assert_eq!(rt;
-        (
-            links[1].tail,
-            links[1].head,
-            links[1].capacity,
-            links[1].cost
-        ),
-        (2, 0, 10, 1)
-    );
+    assert!(rt; are_in_order(net.names.as_slice()));
+    assert!(rt; leads_back(net.links.as_slice()));
     Ok(())
 }
 
 // So many links from one node, each to a node of its own.
-fn star(alloc: Global, links: u32) -> Result<String, Fail> {
+fn star(alloc: Global, links: u32) -> Result<String, AllocError> {
     let mut text = String::from_str(alloc, "source,target,capacity,cost\n")?;
     for node in 0..links {
         text.push_str(format!(in alloc; "hub,n{node},1,1\n")?.as_str())?;
@@ -71,7 +83,7 @@ fn star(alloc: Global, links: u32) -> Result<String, Fail> {
 }
 
 // So many links between two nodes.
-fn parallel(alloc: Global, links: u32) -> Result<String, Fail> {
+fn parallel(alloc: Global, links: u32) -> Result<String, AllocError> {
     let mut text = String::from_str(alloc, "source,target,capacity,cost\n")?;
     for _ in 0..links {
         text.push_str("a,b,1,1\n")?;
@@ -79,20 +91,32 @@ fn parallel(alloc: Global, links: u32) -> Result<String, Fail> {
     Ok(text)
 }
 
+// The count of nodes and the count of links of a file, or its fault.
+fn counts(alloc: Global, text: &str) -> Result<(usize, usize), TopologyFault> {
+    let net = read(alloc, text.as_bytes())?;
+    Ok((net.names.as_slice().len(), net.links.as_slice().len()))
+}
+
 #[test]
-fn no_more_nodes_and_links_than_the_limit(rt: HostRuntime) -> Result<(), Fail> {
-    let alloc = rt.alloc();
-    let most = read(alloc, star(alloc, 127)?.as_bytes())?;
-    assert_eq!(rt; most.names.as_slice().len(), 128);
-    assert_eq!(rt;
-        fault_of(alloc, star(alloc, 128)?.as_bytes()),
-        Some(TopologyFault::TooMany(128))
-    );
-    let most = read(alloc, parallel(alloc, 1024)?.as_bytes())?;
-    assert_eq!(rt; most.links.as_slice().len(), 1024);
-    assert_eq!(rt;
-        fault_of(alloc, parallel(alloc, 1025)?.as_bytes()),
-        Some(TopologyFault::TooMany(1025))
-    );
+fn no_more_nodes_than_the_limit(rt: HostRuntime) -> Result<(), Fail> {
+    for (links, found) in [
+        (127, Ok((128, 127))),
+        (128, Err(TopologyFault::TooMany(128))),
+    ] {
+        let text = star(rt.alloc(), links)?;
+        assert_eq!(rt; counts(rt.alloc(), text.as_str()), found);
+    }
+    Ok(())
+}
+
+#[test]
+fn no_more_links_than_the_limit(rt: HostRuntime) -> Result<(), Fail> {
+    for (links, found) in [
+        (1024, Ok((2, 1024))),
+        (1025, Err(TopologyFault::TooMany(1025))),
+    ] {
+        let text = parallel(rt.alloc(), links)?;
+        assert_eq!(rt; counts(rt.alloc(), text.as_str()), found);
+    }
     Ok(())
 }
