@@ -15,6 +15,9 @@ greatest_number numbers = max 1 (greatest_below (length numbers) (slice_index nu
 abbrev pub load_by_capacity : Network → List ℕ → ℕ → ℕ
 load_by_capacity net loads h = slice_index loads h / capacity_of net h
 
+abbrev pub loads_by_capacity : Network → List ℕ → List ℕ
+loads_by_capacity net loads = for_each_link net (load_by_capacity net loads)
+
 -- the share of the greatest usage that a usage is, in parts of 2^30
 abbrev pub part_of : ℕ → ℕ → ℕ
 part_of most usage = min (usage * 2 ^ 30 / most) (2 ^ 30)
@@ -37,7 +40,7 @@ lengths_at_prices prices = map (length_at_price (greatest_number prices)) prices
 
 -- the lengths by the usages of the links under the loads, squared so many times
 abbrev pub lengths_under : Network → List ℕ → ℕ → List ℕ
-lengths_under net loads times = lengths_at_prices (for_each_link net (price_of net (for_each_link net (load_by_capacity net loads)) times))
+lengths_under net loads times = lengths_at_prices (for_each_link net (price_of net (loads_by_capacity net loads) times))
 
 -- the lengths under the loads of a routing
 abbrev pub AreLengthsOfRouting : Network → List ℕ → List PairRoutes → ℕ → List ℕ → Type 0

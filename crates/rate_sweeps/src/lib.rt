@@ -5,6 +5,7 @@
 //! - `Sweep` and `add_counted`: the sweeps of a stage that count. `routing_by`: the routing in which each pair has its paths of them.
 //! - `cheapest_paths`: the path of each pair in a sweep over given paths.
 //! - `lesser`: the better one of two routings.
+//! - `loads_by_capacity` and `greatest_number`: what lengths by the usage of links are made of.
 //! - `Descent`, `first_descent`, `next_lengths` and `take_turn`: turns that take weight from dear paths to cheap ones.
 #![tactic(auto)]
 
@@ -23,3 +24,4 @@ pub use mix::{Sweep, add_counted, routing_by};
 pub use pace::{Pace, TURNS, is_over};
 pub use paths::cheapest_paths;
 pub use rates::{COUNTED, MAX_PARTS, Rates, STAGES, UNCOUNTED, first_rates, offer, take_sweep};
+pub use usage::{greatest_number, loads_by_capacity};

@@ -3,7 +3,7 @@ ghost use Rattle.std.specs.Prelude.{◌≡◌, ◌*◌, ◌/◌, ◌^◌, ◌<�
 ghost use Rattle.te_model.specs.Network.{capacity_of, is_well_formed, link_count};
 ghost use Rattle.multiplicative_lengths.specs.Growth.{for_each_link};
 ghost use Rattle.centred_steps.specs.Weights.{AreWeightsUpTo};
-ghost use Rattle.rate_sweeps.specs.Lengths.{greatest_number, length_at_price, lengths_at_prices, lengths_under, load_by_capacity, part_of, price_of, repeated_square};
+ghost use Rattle.rate_sweeps.specs.Lengths.{greatest_number, length_at_price, lengths_at_prices, lengths_under, loads_by_capacity, part_of, price_of, repeated_square};
 
 use std::alloc::Global;
 use te_model::{Memory, Network};
@@ -17,8 +17,8 @@ const MAX_LENGTH: u128 = 1 << 27;
 /// The greatest capacity of a link.
 const MAX_CAPACITY: u128 = 1 << 32;
 
-/// The greatest of the numbers, and 1 at least.
-fn greatest(numbers: &[u128]) -> u128
+/// The greatest of the numbers, and at least 1.
+pub fn greatest_number(numbers: &[u128]) -> u128
     ensures some { 1 ≤ result }
     ensures greatest { result ≡ greatest_number numbers.now }
 {
@@ -29,14 +29,16 @@ fn greatest(numbers: &[u128]) -> u128
     most
 }
 
-/// The load of each link over its capacity.
-fn usage_of(alloc: Global, net: &Network, loads: &[u128]) -> Result<Vec<u128>, Memory>
+/// The load of each link over its capacity, rounded down.
+///
+/// `loads` has one number for each link. `Memory` comes where memory is wanting.
+pub fn loads_by_capacity(alloc: Global, net: &Network, loads: &[u128]) -> Result<Vec<u128>, Memory>
     requires network { IsTrue (is_well_formed net.now) }
     requires count { length loads.now ≡ link_count net.now }
     requires small { All (λ x. x < 2 ^ 84) loads.now }
     ensures count { IfOk result (λ u. length u.items ≡ link_count net.now) }
     ensures small { IfOk result (λ u. All (λ x. x < 2 ^ 84) u.items) }
-    ensures usage { IfOk result (λ u. u.items ≡ for_each_link net.now (load_by_capacity net.now loads.now)) }
+    ensures usage { IfOk result (λ u. u.items ≡ loads_by_capacity net.now loads.now) }
 {
     let links = net.links.as_slice();
     let mut usage = Vec::with_capacity(alloc, links.len())?;
@@ -80,7 +82,7 @@ fn prices_of(alloc: Global, net: &Network, usage: &[u128], times: u32) -> Result
     ensures small { IfOk result (λ p. All (λ x. x ≤ 2 ^ 62) p.items) }
     ensures prices { IfOk result (λ p. p.items ≡ for_each_link net.now (price_of net.now usage.now times)) }
 {
-    let most = greatest(usage);
+    let most = greatest_number(usage);
     let links = net.links.as_slice();
     let mut prices = Vec::with_capacity(alloc, links.len())?;
     for h in 0..links.len() {
@@ -107,7 +109,7 @@ fn lengths_of(alloc: Global, prices: &[u128]) -> Result<Vec<u64>, Memory>
     ensures lengths { IfOk result (λ l. AreWeightsUpTo (2 ^ 27) l.items) }
     ensures exact { IfOk result (λ l. l.items ≡ lengths_at_prices prices.now) }
 {
-    let most = greatest(prices);
+    let most = greatest_number(prices);
     let mut lengths = Vec::with_capacity(alloc, prices.len())?;
     for price in prices {
         lengths.push(length_of(*price, most))?;
@@ -131,7 +133,7 @@ pub fn lengths_under(
     ensures lengths { IfOk result (λ l. AreWeightsUpTo (2 ^ 27) l.items) }
     ensures exact { IfOk result (λ l. l.items ≡ lengths_under net.now loads.now times) }
 {
-    let usage = usage_of(alloc, net, loads)?;
+    let usage = loads_by_capacity(alloc, net, loads)?;
     let prices = prices_of(alloc, net, &usage, times)?;
     lengths_of(alloc, &prices)
 }

@@ -1,3 +1,4 @@
 pub mod Semi
+pub mod Lengths
 pub mod Sweeps
 pub mod Laws

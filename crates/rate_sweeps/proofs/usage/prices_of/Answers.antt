@@ -23,7 +23,7 @@ loop-h-preserved c =
     let h = c.loop-h.h in
     let links = c.as_slice-links.result.now in
     let part : c.squared_part-part.result ≡ repeated_square times (part_of (greatest_number usage) (get_or usage h 0)) =
-    c.squared_part-part.ensures.part ∙ ap (λ m. repeated_square times (part_of m (get_or usage h 0))) c.greatest-most.ensures.greatest
+    c.squared_part-part.ensures.part ∙ ap (λ m. repeated_square times (part_of m (get_or usage h 0))) c.greatest_number-most.ensures.greatest
     in
     let made : c.price_of.result ≡ price_of net usage times h =
     c.price_of.ensures.price

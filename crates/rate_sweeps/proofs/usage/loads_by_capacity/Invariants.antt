@@ -1,7 +1,7 @@
 use Rattle.std.proofs.Common.{◌≡◌, ◌^◌, ◌<◌, All, length, map}
 use Rattle.std.specs.List.{range_with_len}
 use Rattle.rate_sweeps.specs.Lengths.{load_by_capacity}
-use Rattle.rate_sweeps.proofs.usage.usage_of.Given as goal
+use Rattle.rate_sweeps.proofs.usage.loads_by_capacity.Given as goal
 
 abbrev pub invariant-loop-h : goal.invariant-loop-h
 invariant-loop-h l =

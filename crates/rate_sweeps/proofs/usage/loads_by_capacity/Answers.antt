@@ -6,7 +6,7 @@ use Rattle.te_model.specs.Network.{capacity_of, link_count, no_link}
 use Rattle.te_model.proofs.Choices.{made_more}
 use Rattle.te_model.proofs.WellFormed.{capacities_positive}
 use Rattle.rate_sweeps.specs.Lengths.{load_by_capacity}
-use Rattle.rate_sweeps.proofs.usage.usage_of.Goals as goal
+use Rattle.rate_sweeps.proofs.usage.loads_by_capacity.Goals as goal
 
 pub nonzero_div-loads : goal.nonzero_div-loads
 nonzero_div-loads c =
