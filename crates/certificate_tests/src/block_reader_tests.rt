@@ -82,12 +82,12 @@ fn copy_block(alloc: Global, block: &Block) -> Result<Block, Fail> {
     })
 }
 
-// The text of what is handed out of the file, or its fault.
-fn streamed<D: Depot>(alloc: Global, depot: &mut D) -> Result<Result<Vec<u8>, StreamFault>, Fail> {
-    let (mut reader, head) = match BlockReader::open(alloc, depot, "file") {
-        Ok(opened) => opened,
-        Err(fault) => return Ok(Err(fault)),
-    };
+// The blocks that a reader hands out, or the fault.
+fn handed_out<D: Depot>(
+    alloc: Global,
+    depot: &mut D,
+    reader: &mut BlockReader,
+) -> Result<Result<Vec<Block>, StreamFault>, Fail> {
     let mut blocks = Vec::new(alloc);
     for _ in 0..1025 {
         match reader.next(depot) {
@@ -96,11 +96,22 @@ fn streamed<D: Depot>(alloc: Global, depot: &mut D) -> Result<Result<Vec<u8>, St
             Err(fault) => return Ok(Err(fault)),
         }
     }
-    let cert = Certificate {
-        head,
-        blocks: Items::new(blocks),
+    Ok(Ok(blocks))
+}
+
+// The text of what is handed out of the file, or its fault.
+fn streamed<D: Depot>(alloc: Global, depot: &mut D) -> Result<Result<Vec<u8>, StreamFault>, Fail> {
+    let (mut reader, head) = match BlockReader::open(alloc, depot, "file") {
+        Ok(opened) => opened,
+        Err(fault) => return Ok(Err(fault)),
     };
-    Ok(Ok(print(alloc, &cert)?))
+    match handed_out(alloc, depot, &mut reader)? {
+        Ok(blocks) => {
+            let blocks = Items::new(blocks);
+            Ok(Ok(print(alloc, &Certificate { head, blocks })?))
+        }
+        Err(fault) => Ok(Err(fault)),
+    }
 }
 
 // What the reader of whole files answers.
@@ -121,12 +132,25 @@ fn file_of(alloc: Global, text: &str, piece: usize) -> Result<RecordDepot<MemDep
     Ok(RecordDepot::new(alloc, files))
 }
 
+// What is streamed of a file that is given in pieces of so many bytes.
+fn streamed_in_pieces(
+    alloc: Global,
+    text: &str,
+    piece: usize,
+) -> Result<Result<Vec<u8>, StreamFault>, Fail>
+    requires { 1 ≤ piece }
+{
+    let mut depot = file_of(alloc, text, piece)?;
+    streamed(alloc, &mut depot)
+}
+
 // Both readers answer the same, of a file that is given in pieces of so many bytes.
 fn reads_alike(rt: &impl Abort, alloc: Global, text: &str, piece: usize) -> Result<(), Fail>
     requires { 1 ≤ piece }
 {
-    let mut depot = file_of(alloc, text, piece)?;
-    assert_eq!(rt; streamed(alloc, &mut depot)?, whole(alloc, text)?, "{text}");
+    let given = streamed_in_pieces(alloc, text, piece)?;
+    let due = whole(alloc, text)?;
+    assert_eq!(rt; given, due, "{text}");
     Ok(())
 }
 
@@ -137,16 +161,20 @@ fn reads_alike_in_all_pieces(rt: &impl Abort, alloc: Global, text: &str) -> Resu
     Ok(())
 }
 
+// Whether the text of what is handed out of a file is that of the file.
+fn is_handed_out(alloc: Global, text: &str) -> Result<bool, Fail> {
+    match streamed_in_pieces(alloc, text, 64)? {
+        Ok(bytes) => Ok(bytes.as_slice() == text.as_bytes()),
+        Err(_) => Ok(false),
+    }
+}
+
 #[test]
 fn whole_files_are_handed_out(rt: HostRuntime) -> Result<(), Fail> {
-    let alloc = rt.alloc();
     for text in [PARALLEL, TRIANGLE, MARGIN, BOX] {
-        let mut depot = file_of(alloc, text, 64)?;
-        match streamed(alloc, &mut depot)? {
-            Ok(bytes) => assert_eq!(rt; bytes.as_slice(), text.as_bytes()),
-            Err(fault) => assert_eq!(rt; Some(fault), None),
-        }
-        reads_alike_in_all_pieces(&rt, alloc, text)?;
+        let handed_out = is_handed_out(rt.alloc(), text)?;
+        assert!(rt; handed_out, "{text}");
+        reads_alike_in_all_pieces(&rt, rt.alloc(), text)?;
     }
     Ok(())
 }
@@ -197,101 +225,142 @@ fn files_may_end_anywhere(rt: HostRuntime) -> Result<(), Fail> {
 
 // The fault of two parallel links with these lines in the place of others.
 fn parallel_fault(alloc: Global, changes: &[(usize, &str)]) -> Result<Option<StreamFault>, Fail> {
-    let mut depot = file_of(alloc, changed(alloc, PARALLEL, changes)?.as_str(), 7)?;
-    Ok(streamed(alloc, &mut depot)?.err())
+    let text = changed(alloc, PARALLEL, changes)?;
+    Ok(streamed_in_pieces(alloc, text.as_str(), 7)?.err())
 }
 
+// Two lines, by their numbers, what stands there in their place, and the number and the place of the rule that fails.
+const RULES: &[((usize, &str), (usize, &str), u8, u64)] = &[
+    ((16, "268435457 1"), (18, "0 500000 1 1"), 8, 2),
+    ((17, "0 0 68719476737"), (18, "1 500000 0 1"), 8, 2),
+    ((16, "268435457 1"), (19, "268435457 1"), 9, 0),
+    (
+        (13, "ratio 10000000000000000000"),
+        (18, "1 500000 0 1"),
+        8,
+        0,
+    ),
+    ((4, "a"), (18, "1 500000 0 1"), 1, 1),
+];
+
 #[test]
-fn the_least_fault_of_all_blocks_is_told(rt: HostRuntime) -> Result<(), Fail> {
-    let alloc = rt.alloc();
-    for (first, second, fault) in [
-        ((16, "268435457 1"), (18, "0 500000 1 1"), (8, 2)),
-        ((17, "0 0 68719476737"), (18, "1 500000 0 1"), (8, 2)),
-        ((16, "268435457 1"), (19, "268435457 1"), (9, 0)),
-        (
-            (13, "ratio 10000000000000000000"),
-            (18, "1 500000 0 1"),
-            (8, 0),
-        ),
-        ((4, "a"), (18, "1 500000 0 1"), (1, 1)),
-    ] {
-        let (number, place) = fault;
-        assert_eq!(rt;
-            parallel_fault(alloc, &[first, second])?,
-            Some(StreamFault::Rule(RuleFault { number, place }))
-        );
-    }
-    for (first, second, line) in [
-        ((16, "268435457 1"), (21, "end\n"), 22),
-        ((13, "ratio 1999999"), (21, "end\nx"), 22),
-        ((4, "a"), (19, "1 01"), 19),
-        ((16, "268435457 1"), (19, "1 01"), 19),
-    ] {
-        assert_eq!(rt;
-            parallel_fault(alloc, &[first, second])?,
-            Some(StreamFault::Shape(line))
-        );
+fn the_least_rule_of_all_blocks_is_told(rt: HostRuntime) -> Result<(), Fail> {
+    for row in RULES {
+        let (first, second, number, place) = *row;
+        let found = parallel_fault(rt.alloc(), &[first, second])?;
+        assert_eq!(rt; found, Some(StreamFault::Rule(RuleFault { number, place })));
     }
     Ok(())
 }
+
+// Two lines in the same way, and the line at which the format is left.
+const SHAPES: &[((usize, &str), (usize, &str), u64)] = &[
+    ((16, "268435457 1"), (21, "end\n"), 22),
+    ((13, "ratio 1999999"), (21, "end\nx"), 22),
+    ((4, "a"), (19, "1 01"), 19),
+    ((16, "268435457 1"), (19, "1 01"), 19),
+];
+
+#[test]
+fn a_line_that_leaves_the_format_is_told_before_a_rule(rt: HostRuntime) -> Result<(), Fail> {
+    for row in SHAPES {
+        let (first, second, line) = *row;
+        let found = parallel_fault(rt.alloc(), &[first, second])?;
+        assert_eq!(rt; found, Some(StreamFault::Shape(line)));
+    }
+    Ok(())
+}
+
+// How many reads a file takes in pieces of 25 bytes.
+fn count_of_reads(alloc: Global, text: &str) -> Result<usize, Fail> {
+    let mut depot = file_of(alloc, text, 25)?;
+    let _text = streamed(alloc, &mut depot)?;
+    Ok(depot.reads().len())
+}
+
+// What is streamed of a file in pieces of 25 bytes, of which the read of that number fails.
+fn streamed_with_failure(
+    alloc: Global,
+    text: &str,
+    failing: usize,
+) -> Result<Result<Vec<u8>, StreamFault>, Fail> {
+    let mut files = MemDepot::new(alloc, 25)?;
+    files.add("file", text.as_bytes())?;
+    files.fail_at(failing as u64)?;
+    streamed(alloc, &mut files)
+}
+
+// Each read that fails is told, and one past the last that the file takes changes nothing.
+fn failing_reads_are_told(rt: &impl Abort, alloc: Global, text: &str) -> Result<(), Fail> {
+    let reads = count_of_reads(alloc, text)?;
+    for failing in 0..reads {
+        let answer = streamed_with_failure(alloc, text, failing)?;
+        assert_eq!(rt; answer, Err(StreamFault::Failed), "{failing}");
+    }
+    let answer = streamed_with_failure(alloc, text, reads)?;
+    let due = streamed_in_pieces(alloc, text, 25)?;
+    assert_eq!(rt; answer, due);
+    Ok(())
+}
+
+// Changes of two parallel links: none, of a block, of the head, and two that leave the format.
+const CHANGES: &[&[(usize, &str)]] = &[
+    &[],
+    &[(16, "268435457 1")],
+    &[(4, "a")],
+    &[(1, "x")],
+    &[(19, "1 01")],
+];
 
 #[test]
 fn a_read_that_fails_is_told(rt: HostRuntime) -> Result<(), Fail> {
-    let alloc = rt.alloc();
-    for changes in [
-        &[][..],
-        &[(16, "268435457 1")][..],
-        &[(4, "a")][..],
-        &[(1, "x")][..],
-        &[(19, "1 01")][..],
-    ] {
-        let text = changed(alloc, PARALLEL, changes)?;
-        let mut depot = file_of(alloc, text.as_str(), 25)?;
-        let due = streamed(alloc, &mut depot)?;
-        let reads = depot.reads().len();
-        for failing in 0..reads + 1 {
-            let mut files = MemDepot::new(alloc, 25)?;
-            files.add("file", text.as_bytes())?;
-            files.fail_at(failing as u64)?;
-            let answer = streamed(alloc, &mut files)?;
-            if failing < reads {
-                assert_eq!(rt; answer, Err(StreamFault::Failed), "{failing}");
-            } else {
-                assert_eq!(rt; answer, due, "{failing}");
-            }
-        }
+    for changes in CHANGES {
+        let text = changed(rt.alloc(), PARALLEL, changes)?;
+        failing_reads_are_told(&rt, rt.alloc(), text.as_str())?;
     }
     Ok(())
+}
+
+// The fault that a reader tells at its fourth call, and whether it told it at the third and reads no more.
+fn fourth_answer(
+    reader: &mut BlockReader,
+    depot: &mut RecordDepot<MemDepot>,
+) -> (Option<StreamFault>, bool, bool) {
+    let mut last = Ok(true);
+    for _ in 0..3 {
+        last = reader.next(depot);
+    }
+    let reads = depot.reads().len();
+    let again = reader.next(depot);
+    (again.err(), again == last, depot.reads().len() == reads)
+}
+
+// The same of two parallel links with these lines in the place of others.
+fn fourth_answer_of(
+    alloc: Global,
+    changes: &[(usize, &str)],
+) -> Result<(Option<StreamFault>, bool, bool), Fail> {
+    let text = changed(alloc, PARALLEL, changes)?;
+    let mut depot = file_of(alloc, text.as_str(), 64)?;
+    match BlockReader::open(alloc, &mut depot, "file") {
+        Ok((mut reader, _)) => Ok(fourth_answer(&mut reader, &mut depot)),
+        Err(_) => Err(Fail::from("a head")),
+    }
 }
 
 #[test]
 fn an_end_or_a_fault_is_told_again(rt: HostRuntime) -> Result<(), Fail> {
-    let alloc = rt.alloc();
+    let rule = RuleFault {
+        number: 9,
+        place: 0,
+    };
     for (changes, fault) in [
         (&[][..], None),
-        (
-            &[(16, "268435457 1")][..],
-            Some(StreamFault::Rule(RuleFault {
-                number: 9,
-                place: 0,
-            })),
-        ),
+        (&[(16, "268435457 1")][..], Some(StreamFault::Rule(rule))),
         (&[(19, "1 01")][..], Some(StreamFault::Shape(19))),
     ] {
-        let mut depot = file_of(alloc, changed(alloc, PARALLEL, changes)?.as_str(), 64)?;
-        let mut reader = match BlockReader::open(alloc, &mut depot, "file") {
-            Ok(opened) => opened.0,
-            Err(_) => return Err(Fail::from("a head")),
-        };
-        let mut last = Ok(true);
-        for _ in 0..3 {
-            last = reader.next(&mut depot);
-        }
-        let reads = depot.reads().len();
-        let again = reader.next(&mut depot);
-        assert_eq!(rt; again, last);
-        assert_eq!(rt; again.err(), fault);
-        assert_eq!(rt; depot.reads().len(), reads);
+        let found = fourth_answer_of(rt.alloc(), changes)?;
+        assert_eq!(rt; found, (fault, true, true));
     }
     Ok(())
 }

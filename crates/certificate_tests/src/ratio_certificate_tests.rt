@@ -184,8 +184,8 @@ fn is_made_between(certificate: &Certificate, least: u64, most: u64) -> bool {
 #[test]
 fn made_certificates(rt: HostRuntime) -> Result<(), Fail> {
     let alloc = rt.alloc();
-    // The routes have the ratio 2 for every matrix and 1 for multiples of one; the starting weights give twice as much.
-    for (equal, least, most) in [(false, 2_000_000, 3_999_999), (true, 1_000_000, 1_999_999)] {
+    // The routes have the ratio 2 for every matrix and 1 for multiples of one.
+    for (equal, least, most) in [(false, 2_000_000, 2_000_200), (true, 1_000_000, 1_000_100)] {
         let set = demands(alloc, equal)?;
         match made(alloc, set) {
             Ok(certificate) => assert!(rt; is_made_between(&certificate, least, most)),

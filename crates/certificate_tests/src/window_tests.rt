@@ -4,7 +4,7 @@ ghost use Rattle.std.specs.Prelude.{◌≤◌};
 use block_reader::{State, Window};
 use std::alloc::Global;
 use std::test::Fail;
-use te_ports::{Depot, MemDepot, RecordDepot};
+use te_ports::{Depot, Entry, MemDepot, RecordDepot};
 
 // How many bytes a window holds, and how many are asked for and passed at once.
 const ROOM: usize = 5;
@@ -34,49 +34,67 @@ fn pass_all<D: Depot>(alloc: Global, depot: &mut D, limit: u8) -> Result<(Vec<u8
     Ok((passed, window.state()))
 }
 
+// Whether each read begins where the one before it ended.
+fn are_in_order(reads: &[Entry]) -> bool {
+    let mut at = 0;
+    for read in reads {
+        if read.at != at {
+            return false;
+        }
+        at = read.at.saturating_add(read.bytes.len() as u64);
+    }
+    true
+}
+
+// Whether this text is passed, what becomes of the file, and whether its reads are in order.
+fn passed_as(
+    alloc: Global,
+    piece: usize,
+    failing: u64,
+    limit: u8,
+    text: &str,
+) -> Result<(bool, State, bool), Fail> {
+    let mut depot = ten_bytes(alloc, piece, failing)?;
+    let (passed, last) = pass_all(alloc, &mut depot, limit)?;
+    let is_text = passed.as_slice() == text.as_bytes();
+    Ok((is_text, last, are_in_order(depot.reads())))
+}
+
+// The bytes that reads give at once, the read that fails, the limit, what is passed, and what becomes of the file.
+const FILES: &[(usize, u64, u8, &str, State)] = &[
+    (1, 99, 11, "ten bytes.", State::Ended),
+    (2, 99, 10, "ten bytes.", State::Ended),
+    (64, 99, 10, "ten bytes.", State::Ended),
+    (1, 99, 9, "ten bytes.", State::TooLong),
+    (3, 99, 8, "ten bytes", State::TooLong),
+    (64, 99, 0, "t", State::TooLong),
+    (3, 0, 10, "", State::Failed),
+    (3, 1, 10, "ten", State::Failed),
+    (3, 2, 10, "ten b", State::Failed),
+    (3, 3, 10, "ten byte", State::Failed),
+];
+
 #[test]
 fn a_file_is_passed_piece_by_piece(rt: HostRuntime) -> Result<(), Fail> {
-    let alloc = rt.alloc();
-    for (piece, failing, limit, text, state) in [
-        (1, 99, 11_u8, "ten bytes.", State::Ended),
-        (2, 99, 10, "ten bytes.", State::Ended),
-        (64, 99, 10, "ten bytes.", State::Ended),
-        (1, 99, 9, "ten bytes.", State::TooLong),
-        (3, 99, 8, "ten bytes", State::TooLong),
-        (64, 99, 0, "t", State::TooLong),
-        (3, 0, 10, "", State::Failed),
-        (3, 1, 10, "ten", State::Failed),
-        (3, 2, 10, "ten b", State::Failed),
-        (3, 3, 10, "ten byte", State::Failed),
-    ] {
-        let mut depot = ten_bytes(alloc, piece, failing)?;
-        let (passed, last) = pass_all(alloc, &mut depot, limit)?;
-        assert_eq!(rt;
-            passed.as_slice(),
-            text.as_bytes(),
-            "{piece} {failing} {limit}"
-        );
-        assert_eq!(rt; last, state, "{piece} {failing} {limit}");
-
-        // Each read begins where the one before it ended.
-        let mut at = 0;
-        for read in depot.reads() {
-            assert_eq!(rt; read.at, at, "{piece} {failing} {limit}");
-            at = read.at.saturating_add(read.bytes.len() as u64);
-        }
+    for row in FILES {
+        let (piece, failing, limit, text, state) = *row;
+        let found = passed_as(rt.alloc(), piece, failing, limit, text)?;
+        assert_eq!(rt; found, (true, state, true), "{piece} {failing} {limit}");
     }
     Ok(())
 }
 
+// Whether a window is in this state and has these bytes ready.
+fn is_at(window: &Window, state: State, ready: &str) -> bool {
+    (window.state() == state) & (window.ready() == ready.as_bytes())
+}
+
 #[test]
 fn a_window_at_the_start_is_drained(rt: HostRuntime) -> Result<(), Fail> {
-    let alloc = rt.alloc();
-    let mut depot = ten_bytes(alloc, 2, 99)?;
-    let mut window = Window::at_start(alloc, &mut depot, "file", &10_u64, WANTED, ROOM)?;
-    assert_eq!(rt; window.state(), State::Open);
-    assert_eq!(rt; window.ready(), "ten ".as_bytes());
+    let mut depot = ten_bytes(rt.alloc(), 2, 99)?;
+    let mut window = Window::at_start(rt.alloc(), &mut depot, "file", &10_u64, WANTED, ROOM)?;
+    assert!(rt; is_at(&window, State::Open, "ten "));
     window.drain(&mut depot, "file");
-    assert_eq!(rt; window.state(), State::Ended);
-    assert_eq!(rt; window.ready(), "".as_bytes());
+    assert!(rt; is_at(&window, State::Ended, ""));
     Ok(())
 }
