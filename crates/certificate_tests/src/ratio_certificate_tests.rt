@@ -19,29 +19,30 @@ fn straight_routing(alloc: Global) -> Result<Routing, AllocError>
     })
 }
 
-/// The matrices in which both demands are equal, or all.
-fn demands(alloc: Global, equal: bool) -> Result<DemandSet, AllocError>
+/// A set of matrices. The last two have the same matrices, those in which both demands are equal.
+#[derive(Clone, Copy, Debug)]
+enum Demands {
+    All,
+    Margin,
+    Box,
+}
+
+/// The set, of which the demands of the base and the bounds are 10.
+fn set_of(alloc: Global, demands: Demands) -> Result<DemandSet, AllocError>
     ensures { IfOk result (IsSetWithin 2) }
 {
-    if equal {
-        Ok(DemandSet::Margin {
+    match demands {
+        Demands::All => Ok(DemandSet::All),
+        Demands::Margin => Ok(DemandSet::Margin {
             num: 1,
             den: 1,
             base: matrix(alloc, &[10, 10])?,
-        })
-    } else {
-        Ok(DemandSet::All)
+        }),
+        Demands::Box => Ok(DemandSet::Box {
+            lower: matrix(alloc, &[10, 10])?,
+            upper: matrix(alloc, &[10, 10])?,
+        }),
     }
-}
-
-/// The matrices between two bounds that are the same, so those in which both demands are equal.
-fn bounded(alloc: Global) -> Result<DemandSet, AllocError>
-    ensures { IfOk result (IsSetWithin 2) }
-{
-    Ok(DemandSet::Box {
-        lower: matrix(alloc, &[10, 10])?,
-        upper: matrix(alloc, &[10, 10])?,
-    })
 }
 
 /// The best block of a link with a share for the weights, and its need.
@@ -77,88 +78,110 @@ fn are_rows(rows: &[Row], expected: &[(u32, [u64; 3])]) -> bool {
     rows.len() == expected.len()
 }
 
-/// Whether the block is one of the link with these numbers, in which a is one million.
-fn is_block(
-    block: &Block,
-    link: u32,
+/// The best block of the first link for a set and the weights 1, 1, 0 and 0, in which a is one million.
+#[derive(Clone, Copy)]
+struct BestBlock<'a> {
+    demands: Demands,
     b: u64,
-    weights: &[u64],
-    rows: &[(u32, [u64; 3])],
-    plus: &[u64],
-    minus: &[u64],
-) -> bool {
-    block.link == link
-        && block.a == 1_000_000
-        && block.b == b
-        && block.weights.as_slice() == weights
-        && are_rows(block.rows.as_slice(), rows)
-        && block.plus.as_slice() == plus
-        && block.minus.as_slice() == minus
+    rows: &'a [(u32, [u64; 3])],
+    plus: &'a [u64],
+    minus: &'a [u64],
+    need: u128,
 }
 
-/// Whether the best block of the first link, where both demands are equal, is the one that was found by hand.
-fn has_best_between(alloc: Global, set: &DemandSet) -> bool
+// The sets in which both demands are equal give the same block.
+const BEST_BLOCKS: &[BestBlock] = &[
+    BestBlock {
+        demands: Demands::All,
+        b: 1,
+        rows: &[(0, [0, 0, 1])],
+        plus: &[],
+        minus: &[],
+        need: 2_000_000,
+    },
+    BestBlock {
+        demands: Demands::Margin,
+        b: 2,
+        rows: &[(0, [0, 0, 1]), (1, [0, 0, 1])],
+        plus: &[1, 0],
+        minus: &[0, 1],
+        need: 1_000_000,
+    },
+    BestBlock {
+        demands: Demands::Box,
+        b: 2,
+        rows: &[(0, [0, 0, 1]), (1, [0, 0, 1])],
+        plus: &[1, 0],
+        minus: &[0, 1],
+        need: 1_000_000,
+    },
+];
+
+/// Whether the block of these weights is the best one.
+fn is_block(block: &Block, weights: &[u64], best: &BestBlock) -> bool {
+    block.link == 0
+        && block.a == 1_000_000
+        && block.b == best.b
+        && block.weights.as_slice() == weights
+        && are_rows(block.rows.as_slice(), best.rows)
+        && block.plus.as_slice() == best.plus
+        && block.minus.as_slice() == best.minus
+}
+
+/// Whether the best block for the set is this one, and needs as much.
+fn has_best(alloc: Global, set: &DemandSet, best: &BestBlock) -> bool
     requires { IsSetWithin 2 set.now }
 {
     let weights = [1, 1, 0, 0];
-    let rows = [(0, [0, 0, 1]), (1, [0, 0, 1])];
     match best_on(alloc, set, 0, &weights) {
-        Ok(Some((block, least))) => {
-            is_block(&block, 0, 2, &weights, &rows, &[1, 0], &[0, 1]) && least == 1_000_000
-        }
+        Ok(Some((block, need))) => is_block(&block, &weights, best) && need == best.need,
         _ => false,
     }
 }
 
 #[test]
-fn best_blocks(rt: HostRuntime) -> Result<(), Fail> {
+fn best_blocks_are_those_found_by_hand(rt: HostRuntime) -> Result<(), Fail> {
     let alloc = rt.alloc();
-    let weights = [1, 1, 0, 0];
-    let all = demands(alloc, false)?;
-    match best_on(alloc, &all, 0, &weights) {
-        Ok(Some((block, least))) => {
-            assert!(rt; is_block(&block, 0, 1, &weights, &[(0, [0, 0, 1])], &[], &[]));
-            assert_eq!(rt; least, 2_000_000);
-        }
-        _ => assert!(rt; false),
+    for best in BEST_BLOCKS {
+        let set = set_of(alloc, best.demands)?;
+        assert!(rt; has_best(alloc, &set, best), "{:?}", best.demands);
     }
-    match best_on(alloc, &all, 0, &[0, 0, 0, 0]) {
-        Ok(found) => assert!(rt; found.is_none()),
-        Err(_) => assert!(rt; false),
-    }
-    let margin = demands(alloc, true)?;
-    assert!(rt; has_best_between(alloc, &margin));
-    let bounds = bounded(alloc)?;
-    assert!(rt; has_best_between(alloc, &bounds));
     Ok(())
 }
 
-/// What the first link needs for every matrix, or 0 where the weights have no best block.
-fn need_of_first(alloc: Global, weights: &[u64]) -> Result<u128, Memory>
+/// What the best block of the first link needs for every matrix, if the weights have one.
+fn need_of_first(alloc: Global, weights: &[u64]) -> Result<Option<u128>, Memory>
     requires count { length weights.now ≡ 4 }
     requires small { All (λ w. w ≤ 2 ^ 28) weights.now }
 {
     match best_on(alloc, &DemandSet::All, 0, weights)? {
-        Some((_, least)) => Ok(least),
-        None => Ok(0),
+        Some((_, need)) => Ok(Some(need)),
+        None => Ok(None),
     }
 }
 
 #[test]
-fn needs_of_weights(rt: HostRuntime) {
+fn weights_have_these_needs(rt: HostRuntime) {
     let alloc = rt.alloc();
     let far = 1 << 20;
-    // Each distance is one weight, and the weights of all four links are paid for.
-    assert_eq!(rt; need_of_first(alloc, &[far, far, far, far]), Ok(4_000_000));
-    // The link from a to b is on no least path, so half its weight leaves the distances as they are.
-    assert_eq!(rt;
-        need_of_first(alloc, &[far, far, far / 2, far]),
-        Ok(3_500_000)
-    );
-    // Doubled until the greatest is 2^20, weights need no more than before.
-    assert_eq!(rt; need_of_first(alloc, &[1, 1, 0, 0]), Ok(2_000_000));
-    assert_eq!(rt; need_of_first(alloc, &[2, 2, 0, 0]), Ok(2_000_000));
-    assert_eq!(rt; need_of_first(alloc, &[far, far, 0, 0]), Ok(2_000_000));
+    let needs = [
+        // Each distance is one weight, and the weights of all four links are paid for.
+        (need_of_first(alloc, &[far, far, far, far]), Some(4_000_000)),
+        // The link from a to b is on no least path, so half its weight leaves the distances as they are.
+        (
+            need_of_first(alloc, &[far, far, far / 2, far]),
+            Some(3_500_000),
+        ),
+        // Doubled until the greatest is 2^20, weights need no more than before.
+        (need_of_first(alloc, &[1, 1, 0, 0]), Some(2_000_000)),
+        (need_of_first(alloc, &[2, 2, 0, 0]), Some(2_000_000)),
+        (need_of_first(alloc, &[far, far, 0, 0]), Some(2_000_000)),
+        // Without a weight above 0 there is no block.
+        (need_of_first(alloc, &[0, 0, 0, 0]), None),
+    ];
+    for (found, need) in needs {
+        assert_eq!(rt; found, Ok(need));
+    }
 }
 
 /// The certificate of the straight routes over the set.
@@ -182,15 +205,15 @@ fn is_made_between(certificate: &Certificate, least: u64, most: u64) -> bool {
 }
 
 #[test]
-fn made_certificates(rt: HostRuntime) -> Result<(), Fail> {
+fn made_certificates_have_nearly_the_least_ratio(rt: HostRuntime) -> Result<(), Fail> {
     let alloc = rt.alloc();
     // The routes have the ratio 2 for every matrix and 1 for multiples of one.
-    for (equal, least, most) in [(false, 2_000_000, 2_000_200), (true, 1_000_000, 1_000_100)] {
-        let set = demands(alloc, equal)?;
-        match made(alloc, set) {
-            Ok(certificate) => assert!(rt; is_made_between(&certificate, least, most)),
-            Err(_) => assert!(rt; false),
-        }
+    for (demands, least, most) in [
+        (Demands::All, 2_000_000, 2_000_200),
+        (Demands::Margin, 1_000_000, 1_000_100),
+    ] {
+        let certificate = made(alloc, set_of(alloc, demands)?)?;
+        assert!(rt; is_made_between(&certificate, least, most), "{demands:?}");
     }
     Ok(())
 }
@@ -214,15 +237,20 @@ fn are_same_blocks(blocks: &[Block], others: &[Block]) -> bool {
         })
 }
 
+/// Whether one is of the first format and has a margin, the other of the second and has a box, and ratio and blocks are the same.
+fn are_alike(margin: &Certificate, bounds: &Certificate) -> bool {
+    (margin.head.format, bounds.head.format) == (1, 2)
+        && matches!(&margin.head.set, DemandSet::Margin { .. })
+        && matches!(&bounds.head.set, DemandSet::Box { .. })
+        && margin.head.ratio == bounds.head.ratio
+        && are_same_blocks(margin.blocks.as_slice(), bounds.blocks.as_slice())
+}
+
 #[test]
 fn a_margin_and_its_box_have_the_same_blocks(rt: HostRuntime) -> Result<(), Fail> {
     let alloc = rt.alloc();
-    let margin = made(alloc, demands(alloc, true)?).map_err(|_| AllocError)?;
-    let bounds = made(alloc, bounded(alloc)?).map_err(|_| AllocError)?;
-    assert_eq!(rt; (margin.head.format, bounds.head.format), (1, 2));
-    assert!(rt; matches!(&margin.head.set, DemandSet::Margin { .. }));
-    assert!(rt; matches!(&bounds.head.set, DemandSet::Box { .. }));
-    assert_eq!(rt; bounds.head.ratio, margin.head.ratio);
-    assert!(rt; are_same_blocks(margin.blocks.as_slice(), bounds.blocks.as_slice()));
+    let margin = made(alloc, set_of(alloc, Demands::Margin)?)?;
+    let bounds = made(alloc, set_of(alloc, Demands::Box)?)?;
+    assert!(rt; are_alike(&margin, &bounds));
     Ok(())
 }

@@ -1,215 +1,141 @@
 //! The verdict on certificates that keep the rules, yes or no, on the whole and on its blocks one at a time.
-ghost use Rattle.std.specs.Prelude.{◌≡◌, ◌∷◌, [], IfOk};
-ghost use Rattle.te_model.specs.declared.demand.DemandSet.TheVariants.{All};
-ghost use Rattle.te_model.specs.ThreeNodes.{blocks_for_all, block_for_double, blocks_for_double, block_for_equal, box_between, double_demands, equal_demands, three_nodes_in};
-ghost use Rattle.te_model.specs.TwoLinks.{half_block, out_of_reach_certificate, parallel_certificate};
 ghost use Rattle.te_model.specs.Validity.{IsValid};
-ghost use Rattle.certificate_tests.specs.RatioCheckerSamples.{equal_blocks, straight_block};
 
+use cert_text::read;
 use ratio_checker::{Feed, Finding, verdict};
-use sample_networks::{network, parallel_links, straight_routes, three_nodes, weighted_routes};
-use std::alloc::{AllocError, Global};
+use std::alloc::Global;
 use std::test::Fail;
-use te_model::{Block, Certificate, DemandSet, Head, Items, Matrix, Memory, Row};
+use te_model::{Certificate, Memory};
 
-fn numbers(alloc: Global, numbers: &[u64]) -> Result<Items<u64>, AllocError>
-    ensures { IfOk result (λ items. items ≡ numbers.now) }
-{
-    Ok(Items::new(numbers.to_vec(alloc)?))
-}
+// Two parallel links, each with half of the one pair's demand.
+const PARALLEL: &str =
+    "nodes 2\na\nb\nlinks 2\n0 1 10 1\n0 1 30 1\npairs 1\n0 1 2\n500000 1 0\n500000 1 1\n";
 
-fn row(alloc: Global, source: u32, potential: &[u64]) -> Result<Row, AllocError>
-    ensures { IfOk result (λ row. row ≡ record { source = source; potential = potential.now }) }
-{
-    Ok(Row {
-        source,
-        potential: numbers(alloc, potential)?,
-    })
-}
+// Three nodes, of which two send to the third, each over a link of its own.
+const STRAIGHT: &str =
+    "nodes 3\na\nb\nc\nlinks 4\n0 2 10 1\n1 2 10 1\n0 1 10 1\n1 0 10 1\npairs 2\n0 2 1\n1000000 1 0\n1 2 1\n1000000 1 1\n";
 
-// Two parallel links with a block each, or the first alone.
-fn parallel(alloc: Global, blocks: Vec<Block>) -> Result<Certificate, AllocError>
-    ensures { IfOk result (λ cert. cert ≡ parallel_certificate blocks.items) }
-{
-    Ok(Certificate {
-        head: Head {
-            format: 1,
-            network: parallel_links(alloc)?,
-            routes: weighted_routes(alloc, &[(0, 1, &[(&[0], 500_000), (&[1], 500_000)])])?,
-            set: DemandSet::All,
-            ratio: 2_000_000,
-        },
-        blocks: Items::new(blocks),
-    })
-}
+// Node z is out of reach from a, which sends to b.
+const OUT_OF_REACH: &str =
+    "nodes 3\na\nb\nz\nlinks 2\n0 1 10 1\n2 1 10 1\npairs 1\n0 1 1\n1000000 1 0\n";
 
-fn half(alloc: Global, link: u32) -> Result<Block, AllocError>
-    ensures { IfOk result (λ block. block ≡ half_block link) }
-{
-    Ok(Block {
-        link,
-        a: 500_000,
-        b: 1,
-        weights: numbers(alloc, &[1, 1])?,
-        rows: Items::new(vec![in alloc; row(alloc, 0, &[0, 1])?]?),
-        plus: Items::new(Vec::new(alloc)),
-        minus: Items::new(Vec::new(alloc)),
-    })
-}
+// The blocks of three nodes for every matrix.
+const FOR_ALL: &str =
+    "blocks 2\n0 1000000 1 1\n1 1 0 0\n0 0 0 1\n1 1000000 1 1\n1 1 0 0\n1 0 0 1\n";
 
-fn three_nodes_in(
-    alloc: Global,
-    format: u32,
-    set: DemandSet,
-    ratio: u64,
-    blocks: Vec<Block>,
-) -> Result<Certificate, AllocError>
-    ensures { IfOk result (λ cert. cert ≡ three_nodes_in format set ratio blocks.items) }
-{
-    Ok(Certificate {
-        head: Head {
-            format,
-            network: three_nodes(alloc)?,
-            routes: straight_routes(alloc)?,
-            set,
-            ratio,
-        },
-        blocks: Items::new(blocks),
-    })
-}
+// Those for equal demands.
+const FOR_EQUAL: &str =
+    "blocks 2\n0 500000 1 2\n1 1 0 0\n0 0 0 1\n1 0 0 1\nplus 1 0\nminus 0 1\n1 500000 1 2\n1 1 0 0\n0 0 0 1\n1 0 0 1\nplus 0 1\nminus 1 0\n";
 
-// The block for every matrix of a link to the third node.
-fn straight_block(alloc: Global, link: u32) -> Result<Block, AllocError>
-    ensures { IfOk result (λ block. block ≡ straight_block link) }
-{
-    Ok(Block {
-        link,
-        a: 1_000_000,
-        b: 1,
-        weights: numbers(alloc, &[1, 1, 0, 0])?,
-        rows: Items::new(vec![in alloc; row(alloc, link, &[0, 0, 1])?]?),
-        plus: Items::new(Vec::new(alloc)),
-        minus: Items::new(Vec::new(alloc)),
-    })
-}
+// The same, where the minus of the first block is too small.
+const FOR_EQUAL_WITHOUT_MINUS: &str =
+    "blocks 2\n0 500000 1 2\n1 1 0 0\n0 0 0 1\n1 0 0 1\nplus 1 0\nminus 0 0\n1 500000 1 2\n1 1 0 0\n0 0 0 1\n1 0 0 1\nplus 0 1\nminus 1 0\n";
 
-fn for_all(alloc: Global, ratio: u64) -> Result<Certificate, AllocError>
-    ensures { IfOk result (λ cert. cert ≡ three_nodes_in 1 All ratio blocks_for_all) }
-{
-    let first = straight_block(alloc, 0)?;
-    let second = straight_block(alloc, 1)?;
-    three_nodes_in(
-        alloc,
-        1,
-        DemandSet::All,
-        ratio,
-        vec![in alloc; first, second]?,
-    )
-}
+// Those for demands of which neither is above twice the other.
+const FOR_DOUBLE: &str =
+    "blocks 2\n0 1000000 3 2\n2 2 0 0\n0 0 0 2\n1 0 0 2\nplus 1 0\nminus 0 2\n1 1000000 3 2\n2 2 0 0\n0 0 0 2\n1 0 0 2\nplus 0 1\nminus 2 0\n";
 
-fn equal_block(alloc: Global, link: u32, plus: &[u64], minus: &[u64]) -> Result<Block, AllocError>
-    ensures { IfOk result (λ block. block ≡ block_for_equal link plus.now minus.now) }
-{
-    Ok(Block {
-        link,
-        a: 500_000,
-        b: 1,
-        weights: numbers(alloc, &[1, 1, 0, 0])?,
-        rows: Items::new(vec![in alloc; row(alloc, 0, &[0, 0, 1])?, row(alloc, 1, &[0, 0, 1])?]?),
-        plus: numbers(alloc, plus)?,
-        minus: numbers(alloc, minus)?,
-    })
-}
-
-// The blocks for equal demands, the minus of the first being given.
-fn equal(alloc: Global, minus: &[u64]) -> Result<Vec<Block>, AllocError>
-    ensures { IfOk result (λ blocks. blocks.items ≡ equal_blocks minus.now) }
-{
-    let first = equal_block(alloc, 0, &[1, 0], minus)?;
-    let second = equal_block(alloc, 1, &[0, 1], &[1, 0])?;
-    Ok(vec![in alloc; first, second]?)
-}
-
-fn for_equal(alloc: Global, minus: &[u64]) -> Result<Certificate, AllocError>
-    ensures { IfOk result (λ cert. cert ≡ three_nodes_in 1 equal_demands 1000000 (equal_blocks minus.now)) }
-{
-    let set = DemandSet::Margin {
-        num: 1,
-        den: 1,
-        base: Matrix {
-            demand: numbers(alloc, &[10, 10])?,
-        },
-    };
-    three_nodes_in(alloc, 1, set, 1_000_000, equal(alloc, minus)?)
-}
-
-fn between(alloc: Global, lower: &[u64], upper: &[u64]) -> Result<DemandSet, AllocError>
-    ensures { IfOk result (λ set. set ≡ box_between lower.now upper.now) }
-{
-    Ok(DemandSet::Box {
-        lower: Matrix {
-            demand: numbers(alloc, lower)?,
-        },
-        upper: Matrix {
-            demand: numbers(alloc, upper)?,
-        },
-    })
-}
-
-// The blocks for equal demands, where the demands lie between 10 and these.
-fn for_box(alloc: Global, upper: &[u64]) -> Result<Certificate, AllocError>
-    ensures { IfOk result (λ cert. cert ≡ three_nodes_in 2 (box_between (10 ∷ 10 ∷ []) upper.now) 1000000 (equal_blocks (0 ∷ 1 ∷ []))) }
-{
-    let set = between(alloc, &[10, 10], upper)?;
-    three_nodes_in(alloc, 2, set, 1_000_000, equal(alloc, &[0, 1])?)
-}
-
-fn double_block(alloc: Global, link: u32, plus: &[u64], minus: &[u64]) -> Result<Block, AllocError>
-    ensures { IfOk result (λ block. block ≡ block_for_double link plus.now minus.now) }
-{
-    Ok(Block {
-        link,
-        a: 1_000_000,
-        b: 3,
-        weights: numbers(alloc, &[2, 2, 0, 0])?,
-        rows: Items::new(vec![in alloc; row(alloc, 0, &[0, 0, 2])?, row(alloc, 1, &[0, 0, 2])?]?),
-        plus: numbers(alloc, plus)?,
-        minus: numbers(alloc, minus)?,
-    })
-}
-
-fn for_double(alloc: Global, ratio: u64) -> Result<Certificate, AllocError>
-    ensures { IfOk result (λ cert. cert ≡ three_nodes_in 2 double_demands ratio blocks_for_double) }
-{
-    let set = between(alloc, &[10, 10], &[20, 20])?;
-    let first = double_block(alloc, 0, &[1, 0], &[0, 2])?;
-    let second = double_block(alloc, 1, &[0, 1], &[2, 0])?;
-    three_nodes_in(alloc, 2, set, ratio, vec![in alloc; first, second]?)
-}
-
-fn out_of_reach(alloc: Global, potential: u64) -> Result<Certificate, AllocError>
-    ensures { IfOk result (λ cert. cert ≡ out_of_reach_certificate potential) }
-{
-    let block = Block {
-        link: 0,
-        a: 1_000_000,
-        b: 1,
-        weights: numbers(alloc, &[1, 0])?,
-        rows: Items::new(vec![in alloc; row(alloc, 0, &[0, 1, potential])?]?),
-        plus: Items::new(Vec::new(alloc)),
-        minus: Items::new(Vec::new(alloc)),
-    };
-    Ok(Certificate {
-        head: Head {
-            format: 1,
-            network: network(alloc, &["a", "b", "z"], &[(0, 1, 10, 1), (2, 1, 10, 1)])?,
-            routes: weighted_routes(alloc, &[(0, 1, &[(&[0], 1_000_000)])])?,
-            set: DemandSet::All,
-            ratio: 1_000_000,
-        },
-        blocks: Items::new(vec![in alloc; block]?),
-    })
-}
+// The format, the network with its pairs, the set with the ratio, and the blocks of a certificate, and the first inequality
+// that fails, if one does: its link, its number and its place.
+const CERTIFICATES: &[(&str, &str, &str, &str, Option<(u32, u8, u64)>)] = &[
+    // Each of two parallel links has a share, so neither block can be left out.
+    (
+        "1",
+        PARALLEL,
+        "set all\nratio 2000000\n",
+        "blocks 2\n0 500000 1 1\n1 1\n0 0 1\n1 500000 1 1\n1 1\n0 0 1\n",
+        None,
+    ),
+    (
+        "1",
+        PARALLEL,
+        "set all\nratio 2000000\n",
+        "blocks 1\n0 500000 1 1\n1 1\n0 0 1\n",
+        Some((1, 2, 0)),
+    ),
+    (
+        "1",
+        PARALLEL,
+        "set all\nratio 2000000\n",
+        "blocks 1\n1 500000 1 1\n1 1\n0 0 1\n",
+        Some((0, 2, 0)),
+    ),
+    // The ratio of three nodes is 2 for every matrix. A block that is left out fails before a ratio that is too low.
+    ("1", STRAIGHT, "set all\nratio 2000000\n", FOR_ALL, None),
+    (
+        "1",
+        STRAIGHT,
+        "set all\nratio 1999999\n",
+        FOR_ALL,
+        Some((0, 4, 0)),
+    ),
+    (
+        "1",
+        STRAIGHT,
+        "set all\nratio 1999999\n",
+        "blocks 1\n1 1000000 1 1\n1 1 0 0\n1 0 0 1\n",
+        Some((0, 2, 0)),
+    ),
+    // It is 1 for equal demands, as a margin or as a box, and the blocks do not hold for larger sets.
+    (
+        "1",
+        STRAIGHT,
+        "set margin 1 1\nbase 10 10\nratio 1000000\n",
+        FOR_EQUAL,
+        None,
+    ),
+    (
+        "1",
+        STRAIGHT,
+        "set margin 1 1\nbase 10 10\nratio 1000000\n",
+        FOR_EQUAL_WITHOUT_MINUS,
+        Some((0, 3, 0)),
+    ),
+    (
+        "2",
+        STRAIGHT,
+        "set box\nlower 10 10\nupper 10 10\nratio 1000000\n",
+        FOR_EQUAL,
+        None,
+    ),
+    (
+        "2",
+        STRAIGHT,
+        "set box\nlower 10 10\nupper 20 20\nratio 1000000\n",
+        FOR_EQUAL,
+        Some((0, 3, 0)),
+    ),
+    // It is four thirds, rounded up, where neither demand is above twice the other.
+    (
+        "2",
+        STRAIGHT,
+        "set box\nlower 10 10\nupper 20 20\nratio 1333334\n",
+        FOR_DOUBLE,
+        None,
+    ),
+    (
+        "2",
+        STRAIGHT,
+        "set box\nlower 10 10\nupper 20 20\nratio 1333333\n",
+        FOR_DOUBLE,
+        Some((0, 4, 0)),
+    ),
+    // The link from z to b has the weight 0, so the potential of z is at least that of b.
+    (
+        "1",
+        OUT_OF_REACH,
+        "set all\nratio 1000000\n",
+        "blocks 1\n0 1000000 1 1\n1 0\n0 0 1 0\n",
+        Some((0, 1, 2)),
+    ),
+    (
+        "1",
+        OUT_OF_REACH,
+        "set all\nratio 1000000\n",
+        "blocks 1\n0 1000000 1 1\n1 0\n0 0 1 1\n",
+        None,
+    ),
+];
 
 // What is found of a certificate, where the whole and its blocks one at a time give the same.
 fn found(alloc: Global, cert: Certificate) -> Result<Option<Finding>, Memory>
@@ -225,53 +151,33 @@ fn found(alloc: Global, cert: Certificate) -> Result<Option<Finding>, Memory>
     Ok(same.then_some(whole))
 }
 
-fn yes() -> Option<Finding> {
-    Some(Finding::Yes)
+// The same of the certificate of these parts.
+fn found_in(
+    alloc: Global,
+    format: &str,
+    network: &str,
+    claim: &str,
+    blocks: &str,
+) -> Result<Option<Finding>, Fail> {
+    let text = format!(in alloc; "yates-ratio {format}\n{network}{claim}{blocks}end\n")?;
+    let cert = read(alloc, text.as_bytes())?;
+    Ok(found(alloc, cert)?)
 }
 
-fn no(link: u32, rule: u8, place: u64) -> Option<Finding> {
-    Some(Finding::No { link, rule, place })
-}
-
-#[test]
-fn two_parallel_links(rt: HostRuntime) -> Result<(), Fail> {
-    let alloc = rt.alloc();
-    let both = vec![in alloc; half(alloc, 0)?, half(alloc, 1)?]?;
-    assert_eq!(rt; found(alloc, parallel(alloc, both)?)?, yes());
-    let first = vec![in alloc; half(alloc, 0)?]?;
-    assert_eq!(rt; found(alloc, parallel(alloc, first)?)?, no(1, 2, 0));
-    let second = vec![in alloc; half(alloc, 1)?]?;
-    assert_eq!(rt; found(alloc, parallel(alloc, second)?)?, no(0, 2, 0));
-    Ok(())
-}
-
-#[test]
-fn two_of_three_nodes_send(rt: HostRuntime) -> Result<(), Fail> {
-    let alloc = rt.alloc();
-    assert_eq!(rt; found(alloc, for_all(alloc, 2_000_000)?)?, yes());
-    assert_eq!(rt; found(alloc, for_all(alloc, 1_999_999)?)?, no(0, 4, 0));
-    assert_eq!(rt; found(alloc, for_equal(alloc, &[0, 1])?)?, yes());
-    assert_eq!(rt; found(alloc, for_equal(alloc, &[0, 0])?)?, no(0, 3, 0));
-    let second = vec![in alloc; straight_block(alloc, 1)?]?;
-    let cert = three_nodes_in(alloc, 1, DemandSet::All, 1_999_999, second)?;
-    assert_eq!(rt; found(alloc, cert)?, no(0, 2, 0));
-    Ok(())
+// The finding where this inequality is the first that fails, or where none does.
+fn finding_of(failure: Option<(u32, u8, u64)>) -> Finding {
+    match failure {
+        Some((link, rule, place)) => Finding::No { link, rule, place },
+        None => Finding::Yes,
+    }
 }
 
 #[test]
-fn a_node_is_out_of_reach(rt: HostRuntime) -> Result<(), Fail> {
-    let alloc = rt.alloc();
-    assert_eq!(rt; found(alloc, out_of_reach(alloc, 0)?)?, no(0, 1, 2));
-    assert_eq!(rt; found(alloc, out_of_reach(alloc, 1)?)?, yes());
-    Ok(())
-}
-
-#[test]
-fn demands_between_bounds(rt: HostRuntime) -> Result<(), Fail> {
-    let alloc = rt.alloc();
-    assert_eq!(rt; found(alloc, for_box(alloc, &[10, 10])?)?, yes());
-    assert_eq!(rt; found(alloc, for_box(alloc, &[20, 20])?)?, no(0, 3, 0));
-    assert_eq!(rt; found(alloc, for_double(alloc, 1_333_334)?)?, yes());
-    assert_eq!(rt; found(alloc, for_double(alloc, 1_333_333)?)?, no(0, 4, 0));
+fn the_first_inequality_that_fails_is_found(rt: HostRuntime) -> Result<(), Fail> {
+    for row in CERTIFICATES {
+        let (format, network, claim, blocks, failure) = *row;
+        let found = found_in(rt.alloc(), format, network, claim, blocks)?;
+        assert_eq!(rt; found, Some(finding_of(failure)), "{claim}{blocks}");
+    }
     Ok(())
 }
