@@ -25,9 +25,8 @@ use Rattle.te_model.proofs.PathRoutings.{path_routing}
 use Rattle.te_model.proofs.Tests.{all_from_tests, first_failing_none_at, first_some_none_at}
 use Rattle.te_model.proofs.Valid.{rules_hold, valid_limits}
 use Rattle.te_model.proofs.ValidParts.{valid_parts}
-use Rattle.te_model.proofs.WellFormed.{few_nodes, links_join}
+use Rattle.te_model.proofs.WellFormed.{few_nodes}
 use Rattle.shortest_path.specs.Paths.{IsLeastPath}
-use Rattle.shortest_path.proofs.PathLengths.{path_short}
 use Rattle.routing.specs.Split.{are_splits}
 use Rattle.routing.proofs.Splits.{splits_of}
 use Rattle.best_blocks.specs.Best.{IsBestBlock}
@@ -173,15 +172,9 @@ best_numbers net routes wanted e weights block formed within share count small b
       weights = ap (λ (ws : List ℕ). length ws) best.weights_are ∙ count;
     }
 
--- the links of a least path are links of the network, and fewer than its nodes
-pub record IsShortPath (net : Network) (path : List ℕ) : Type 0 where
-  pub links : All (λ h. h < link_count net) path
-  pub few : length path ≤ 128
-
-pub least_path_short : (net : Network) (lengths : List ℕ) (s t : ℕ) (path : List ℕ) → is_well_formed net ≡ true → s < node_count net →
-    IsLeastPath net lengths s t (Some path) → IsShortPath net path
-least_path_short net lengths s t path formed inside least =
+-- the links of a least path are links of the network
+pub least_path_links : (net : Network) (lengths : List ℕ) (s t : ℕ) (path : List ℕ) → IsLeastPath net lengths s t (Some path) →
+    All (λ h. h < link_count net) path
+least_path_links net lengths s t path least =
     let both = and_parts (chains net s t path) (is_distinct (nodes_visited net s path)) least.0 in
-    let short = path_short net s t path (links_join net formed) inside least.0 in
-    let nodes = few_nodes net formed in
-    record { links = walk_links net s t path both.0; few = omega (arith, short, nodes) }
+    walk_links net s t path both.0

@@ -7,10 +7,10 @@ ghost use Rattle.sample_networks.specs.Networks.{four_nodes};
 use flow_sim::*;
 use local_recovery::{Mode, Recovered, recover};
 use routing::Routing;
-use sample_networks::{four_nodes, matrix, pairs, weighted_routes};
+use sample_networks::{WeightedPath, four_nodes, matrix, pairs, weighted_routes};
 use std::alloc::Global;
 use std::test::Fail;
-use te_model::{Memory, Network, Pair};
+use te_model::{Memory, Network, Pair, PairRoutes, PathShare};
 
 /// What is left of half of the demand on the straight link and half over x in the mode, where the marked links have failed.
 fn left_of_two_ways(
@@ -41,13 +41,15 @@ fn stepped(alloc: Global, mode: Mode, failed: &[bool], demand: u64) -> Result<St
     Ok(found)
 }
 
-/// Whether so many units were offered, delivered, and lost on full links, on failed links and for want of a path.
-fn is_result(found: &StepResult, amounts: [u64; 5]) -> bool {
+/// Whether so many units were offered, delivered, and lost on full links, on failed links and for want of a path, and the links
+/// carried so many.
+fn is_result(found: &StepResult, amounts: [u64; 5], carried: [u64; 5]) -> bool {
     found.offered == amounts[0]
         && found.delivered == amounts[1]
         && found.lost_full == amounts[2]
         && found.lost_failed == amounts[3]
         && found.lost_no_path == amounts[4]
+        && found.carried.as_slice() == carried.as_slice()
 }
 
 #[test]
@@ -66,103 +68,84 @@ fn fair_shares(rt: HostRuntime) {
 }
 
 #[test]
-fn steps(rt: HostRuntime) {
-    let alloc = rt.alloc();
+fn steps(rt: HostRuntime) -> Result<(), Fail> {
     let none = [false, false, false, false, false];
     let around = [false, true, false, false, false];
     let both = [true, true, false, false, false];
-    for (mode, failed, amounts) in [
-        (Mode::Keep, none, [12, 12, 0, 0, 0]),
-        (Mode::Keep, around, [12, 6, 0, 6, 0]),
-        (Mode::Scale, around, [12, 10, 2, 0, 0]),
-        (Mode::Scale, both, [12, 0, 0, 0, 12]),
-        (Mode::Bypass, around, [12, 9, 3, 0, 0]),
+    for (mode, failed, demand, amounts, carried) in [
+        (Mode::Keep, none, 12, [12, 12, 0, 0, 0], [6, 6, 6, 0, 0]),
+        (Mode::Keep, around, 12, [12, 6, 0, 6, 0], [6, 0, 0, 0, 0]),
+        (Mode::Scale, around, 12, [12, 10, 2, 0, 0], [10, 0, 0, 0, 0]),
+        (Mode::Scale, both, 12, [12, 0, 0, 0, 12], [0, 0, 0, 0, 0]),
+        (Mode::Bypass, around, 12, [12, 9, 3, 0, 0], [6, 0, 3, 3, 3]),
+        // The greatest demand.
+        (
+            Mode::Keep,
+            none,
+            4_294_967_296,
+            [4_294_967_296, 20, 4_294_967_276, 0, 0],
+            [10, 10, 10, 0, 0],
+        ),
     ] {
-        match stepped(alloc, mode, &failed, 12) {
-            Ok(found) => assert!(rt; is_result(&found, amounts)),
-            Err(_) => assert!(rt; false),
-        }
+        let found = stepped(rt.alloc(), mode, &failed, demand)?;
+        assert!(rt;
+            is_result(&found, amounts, carried),
+            "{mode:?} {failed:?} {demand}"
+        );
     }
+    Ok(())
 }
 
-#[test]
-fn the_greatest_demand(rt: HostRuntime) {
-    let none = [false, false, false, false, false];
-    match stepped(rt.alloc(), Mode::Keep, &none, 1 << 32) {
-        Ok(found) => assert!(rt; is_result(&found, [4_294_967_296, 20, 4_294_967_276, 0, 0])),
-        Err(_) => assert!(rt; false),
-    }
+/// Half of the demand on the straight link, and half over x.
+const TWO_WAYS: &[WeightedPath] = &[(&[0], 500_000), (&[1, 2], 500_000)];
+
+/// All of it on the straight link.
+const STRAIGHT: &[WeightedPath] = &[(&[0], 1_000_000)];
+
+/// Half of it on the straight link, and half over y and x.
+const STRAIGHT_AND_BYPASS: &[WeightedPath] = &[(&[0], 500_000), (&[3, 4, 2], 500_000)];
+
+/// All of it over y and x.
+const BYPASS: &[WeightedPath] = &[(&[3, 4, 2], 1_000_000)];
+
+const NO_PATH: &[WeightedPath] = &[];
+
+/// Whether these are the paths, each with its weight.
+fn are_paths(paths: &[PathShare], weighted: &[WeightedPath]) -> bool {
+    paths.len() == weighted.len()
+        && paths.iter().zip(weighted).all(|(path, (links, weight))| {
+            path.links.as_slice() == *links && path.weight == *weight
+        })
 }
 
-#[test]
-fn links_carry_what_they_serve(rt: HostRuntime) {
-    let around = [false, true, false, false, false];
-    match stepped(rt.alloc(), Mode::Bypass, &around, 12) {
-        Ok(found) => assert!(rt; found.carried.as_slice() == [6, 0, 3, 3, 3].as_slice()),
-        Err(_) => assert!(rt; false),
-    }
-}
-
-/// Whether the demand is left on one path.
-fn is_on(rates: &Recovered, links: &[u32]) -> bool {
-    match rates.routes.as_slice() {
-        [routes] => match routes.paths.as_slice() {
-            [path] => path.links.as_slice() == links && path.weight == 1_000_000,
-            _ => false,
-        },
-        _ => false,
-    }
-}
-
-/// Whether half of the demand is left on each of two paths.
-fn is_halved(rates: &Recovered, first: &[u32], second: &[u32]) -> bool {
-    match rates.routes.as_slice() {
-        [routes] => match routes.paths.as_slice() {
-            [a, b] => {
-                a.links.as_slice() == first
-                    && a.weight == 500_000
-                    && b.links.as_slice() == second
-                    && b.weight == 500_000
-            }
-            _ => false,
-        },
-        _ => false,
-    }
-}
-
-/// Whether the demand has no path.
-fn is_dropped(rates: &Recovered) -> bool {
-    match rates.routes.as_slice() {
-        [routes] => routes.paths.as_slice().is_empty(),
-        _ => false,
-    }
+/// Whether the rates are of these pairs, by source and destination, and leave each these paths.
+fn are_rates(rates: &Recovered, pairs: &[(u32, u32, &[WeightedPath])]) -> bool {
+    let routes = rates.routes.as_slice();
+    routes.len() == pairs.len()
+        && routes.iter().zip(pairs).all(|(routes, (src, dst, paths))| {
+            routes.pair
+                == Pair {
+                    src: *src,
+                    dst: *dst,
+                }
+                && are_paths(routes.paths.as_slice(), *paths)
+        })
 }
 
 #[test]
 fn what_is_left(rt: HostRuntime) -> Result<(), Fail> {
-    let alloc = rt.alloc();
-    let net = four_nodes(alloc)?;
+    let net = four_nodes(rt.alloc())?;
     let around = [false, true, false, false, false];
     let both = [true, true, false, false, false];
-    match left_of_two_ways(alloc, Mode::Keep, &net, &around) {
-        Ok(rates) => assert!(rt; is_halved(&rates, &[0], &[1, 2])),
-        Err(_) => assert!(rt; false),
-    }
-    match left_of_two_ways(alloc, Mode::Scale, &net, &around) {
-        Ok(rates) => assert!(rt; is_on(&rates, &[0])),
-        Err(_) => assert!(rt; false),
-    }
-    match left_of_two_ways(alloc, Mode::Scale, &net, &both) {
-        Ok(rates) => assert!(rt; is_dropped(&rates)),
-        Err(_) => assert!(rt; false),
-    }
-    match left_of_two_ways(alloc, Mode::Bypass, &net, &around) {
-        Ok(rates) => assert!(rt; is_halved(&rates, &[0], &[3, 4, 2])),
-        Err(_) => assert!(rt; false),
-    }
-    match left_of_two_ways(alloc, Mode::Bypass, &net, &both) {
-        Ok(rates) => assert!(rt; is_on(&rates, &[3, 4, 2])),
-        Err(_) => assert!(rt; false),
+    for (mode, failed, paths) in [
+        (Mode::Keep, around, TWO_WAYS),
+        (Mode::Scale, around, STRAIGHT),
+        (Mode::Scale, both, NO_PATH),
+        (Mode::Bypass, around, STRAIGHT_AND_BYPASS),
+        (Mode::Bypass, both, BYPASS),
+    ] {
+        let rates = left_of_two_ways(rt.alloc(), mode, &net, &failed)?;
+        assert!(rt; are_rates(&rates, &[(0, 1, paths)]), "{mode:?} {failed:?}");
     }
     Ok(())
 }
@@ -178,17 +161,8 @@ fn spread_back(alloc: Global) -> Result<Recovered, Memory> {
 }
 
 #[test]
-fn an_added_pair_has_no_path(rt: HostRuntime) {
-    match spread_back(rt.alloc()) {
-        Ok(rates) => match rates.routes.as_slice() {
-            [own, added] => {
-                assert!(rt; own.pair == Pair { src: 0, dst: 1 });
-                assert_eq!(rt; own.paths.as_slice().len(), 2);
-                assert!(rt; added.pair == Pair { src: 1, dst: 0 });
-                assert!(rt; added.paths.as_slice().is_empty());
-            }
-            _ => assert!(rt; false),
-        },
-        Err(_) => assert!(rt; false),
-    }
+fn an_added_pair_has_no_path(rt: HostRuntime) -> Result<(), Fail> {
+    let rates = spread_back(rt.alloc())?;
+    assert!(rt; are_rates(&rates, &[(0, 1, TWO_WAYS), (1, 0, NO_PATH)]));
+    Ok(())
 }

@@ -2,6 +2,11 @@
 use generation::*;
 use std::test::Fail;
 
+/// Whether the text begins and ends so.
+fn is_between(text: &[u8], start: &str, end: &str) -> bool {
+    text.starts_with(start.as_bytes()) && text.ends_with(end.as_bytes())
+}
+
 // Offered and delivered of networks that another program draws, publishes and simulates.
 #[test]
 fn summaries(rt: HostRuntime) -> Result<(), Fail> {
@@ -27,8 +32,7 @@ fn summaries(rt: HostRuntime) -> Result<(), Fail> {
         ),
     ] {
         let text = summary(alloc, nodes, seed)?;
-        assert!(rt; text.as_slice().starts_with(start.as_bytes()));
-        assert!(rt; text.as_slice().ends_with(end.as_bytes()));
+        assert!(rt; is_between(&text, start, end), "{nodes} nodes");
     }
     Ok(())
 }

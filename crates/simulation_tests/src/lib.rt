@@ -8,6 +8,8 @@ mod flow_sim_tests;
 #[cfg(test)]
 mod generation_tests;
 #[cfg(test)]
+mod inputs;
+#[cfg(test)]
 mod polished_tests;
 #[cfg(test)]
 mod random_network_tests;

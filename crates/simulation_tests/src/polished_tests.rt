@@ -14,9 +14,8 @@ use ratio_certificate::{need, scale};
 use routing::Routing;
 use sample_networks::BACKBONE;
 use scheme::Spf;
-use shortest_path::{least_path, length_along};
-use std::alloc::{AllocError, Global};
-use std::process::Abort;
+use shortest_path::{distances, least_path};
+use std::alloc::Global;
 use std::test::Fail;
 use te_model::{Block, DemandSet, Items, Matrix, Memory, Network, Pair};
 use traffic_matrix::{Series, gravity, print};
@@ -83,88 +82,52 @@ fn need_under(
     }
 }
 
-/// A share by a distance.
-#[derive(Clone, Copy, Debug, PartialEq, Eq)]
-struct Quotient {
-    share: u64,
-    distance: u64,
-}
-
-/// Whether the first of the two is the greater.
-#[tactic(auto, using(te_model::proofs::Sizes::product_fits))]
-fn is_greater(first: Quotient, second: Quotient) -> bool {
-    let one = u128::from(first.share) * u128::from(second.distance);
-    let other = u128::from(second.share) * u128::from(first.distance);
-    one > other
-}
-
-/// A pair that may have the greatest share on a link by its distance, and its least path.
-#[derive(Drop)]
-struct Candidate {
-    quotient: Quotient,
-    path: Items<u32>,
-}
-
-/// The pair with its share and its least path by the weights, or `None` where there is no path.
-fn candidate_of(
+/// The distance between the nodes of a pair by the weights, or `None` where there is no path.
+fn distance_of(
     alloc: Global,
     network: &Network,
     weights: &[u64],
     pair: Pair,
-    share: u64,
-) -> Result<Option<Candidate>, Memory>
+) -> Result<Option<u64>, Memory>
     requires network { IsTrue (is_well_formed network.now) }
     requires count { length weights.now ≡ link_count network.now }
     requires small { All (λ w. w ≤ 2 ^ 28) weights.now }
-    requires positive { All (λ w. 1 ≤ w) weights.now }
     requires pair { IsPairAmong (node_count network.now) pair }
-    ensures { IfOk result (λ o. IfSome o (λ c. All (λ h. h < link_count network.now) c.path)) }
 {
-    match least_path(alloc, network, weights, pair.src, pair.dst)? {
-        Some(path) => {
-            let distance = length_along(weights, path.links.as_slice()) as u64;
-            Ok(Some(Candidate {
-                quotient: Quotient { share, distance },
-                path: path.links,
-            }))
-        }
-        None => Ok(None),
-    }
+    let distances = distances(alloc, network, weights, pair.src)?;
+    Ok(distances.get(pair.dst as usize).copied().flatten())
 }
 
-/// The least path by the weights of the first pair with the greatest share on the link by its distance, or no link where no pair
-/// has a share.
-fn dearest_path(
+/// The first pair with the greatest share on the link by its distance, or `None` where no pair has a share.
+fn dearest_pair(
     alloc: Global,
     made: &Made,
     link: u32,
     weights: &[u64],
-) -> Result<Items<u32>, Memory>
+) -> Result<Option<usize>, Memory>
     requires count { length weights.now ≡ link_count made.now.network }
     requires small { All (λ w. w ≤ 2 ^ 28) weights.now }
-    requires positive { All (λ w. 1 ≤ w) weights.now }
-    ensures { IfOk result (All (λ h. h < link_count made.now.network)) }
+    ensures { IfOk result (λ o. IfSome o (λ p. p < length made.now.routing.routes)) }
 {
     let routes = made.routing.routes.as_slice();
-    let mut dearest = Candidate {
-        quotient: Quotient {
-            share: 0,
-            distance: 1,
-        },
-        path: Items::new(Vec::new(alloc)),
-    };
+    let mut greatest_share: u64 = 0;
+    let mut its_distance: u64 = 1;
+    let mut dearest = None;
     for p in 0..routes.len() {
         let share = made.routing.share(p as u32, link);
         if share > 0 {
             let pair = routes[p].pair;
-            if let Some(next) = candidate_of(alloc, &made.network, weights, pair, share)? {
-                if is_greater(next.quotient, dearest.quotient) {
-                    dearest = next;
+            if let Some(distance) = distance_of(alloc, &made.network, weights, pair)? {
+                // Shares are at most 10^6 and distances at most 2^35, so no product saturates.
+                if share.saturating_mul(its_distance) > greatest_share.saturating_mul(distance) {
+                    greatest_share = share;
+                    its_distance = distance;
+                    dearest = Some(p);
                 }
             }
         }
     }
-    Ok(dearest.path)
+    Ok(dearest)
 }
 
 /// The least capacity of the links of a path.
@@ -197,7 +160,7 @@ fn raise(
     network: &Network,
     path: &[u32],
     weights: &[u64],
-) -> Result<Vec<u64>, AllocError>
+) -> Result<Vec<u64>, Memory>
     requires network { IsTrue (is_well_formed network.now) }
     requires path { All (λ h. h < link_count network.now) path.now }
     requires count { length weights.now ≡ link_count network.now }
@@ -214,6 +177,29 @@ fn raise(
     Ok(next)
 }
 
+/// The weights with those on the least path of the pair raised, or `None` where there is no path.
+fn raise_between(
+    alloc: Global,
+    network: &Network,
+    weights: &[u64],
+    pair: Pair,
+) -> Result<Option<Vec<u64>>, Memory>
+    requires network { IsTrue (is_well_formed network.now) }
+    requires count { length weights.now ≡ link_count network.now }
+    requires small { All (λ w. w ≤ 2 ^ 28) weights.now }
+    requires positive { All (λ w. 1 ≤ w) weights.now }
+    requires pair { IsPairAmong (node_count network.now) pair }
+    ensures { IfOk result (λ o. IfSome o (λ next. length next.items ≡ length weights.now)) }
+{
+    match least_path(alloc, network, weights, pair.src, pair.dst)? {
+        Some(path) => {
+            let next = raise(alloc, network, path.links.as_slice(), weights)?;
+            Ok(Some(next))
+        }
+        None => Ok(None),
+    }
+}
+
 /// Whether each of the weights is from 1 to 2^28.
 fn are_lengths(weights: &[u64]) -> bool
     ensures small { result ≡ true → All (λ w. w ≤ 2 ^ 28) weights.now }
@@ -224,24 +210,48 @@ fn are_lengths(weights: &[u64]) -> bool
         .all(|weight| *weight >= 1 && *weight <= MAX_WEIGHT)
 }
 
+/// The weights of the next round of the block's link, or `None` where the best block of these weights needs less than the block,
+/// or no round follows.
+fn next_round(
+    alloc: Global,
+    made: &Made,
+    block: &Block,
+    weights: &[u64],
+) -> Result<Option<Vec<u64>>, Memory>
+    requires numbers { HasNumbers made.now.network block.now }
+    requires share { HasShare made.now.routing.routes block.now.link }
+    requires count { length weights.now ≡ link_count made.now.network }
+    ensures { IfOk result (λ o. IfSome o (λ next. length next.items ≡ length weights.now)) }
+{
+    // Sixteen times a quarter more leaves each weight far below the greatest.
+    if !are_lengths(weights) {
+        return Ok(None);
+    }
+    let least = need(&made.network, block);
+    match need_under(alloc, made, block.link, weights)? {
+        Some(other) if least <= other => {}
+        _ => return Ok(None),
+    }
+    match dearest_pair(alloc, made, block.link, weights)? {
+        Some(p) => {
+            let pair = made.routing.routes.as_slice()[p].pair;
+            raise_between(alloc, &made.network, weights, pair)
+        }
+        None => Ok(None),
+    }
+}
+
 /// Whether the block needs no more than the best block of each of the rounds of its link.
 fn is_within_rounds(alloc: Global, made: &Made, block: &Block) -> Result<bool, Memory>
     requires numbers { HasNumbers made.now.network block.now }
     requires share { HasShare made.now.routing.routes block.now.link }
 {
-    let least = need(&made.network, block);
     let mut weights = vec![in alloc; STARTING_WEIGHT; made.network.links.as_slice().len()]?;
     for _ in 0..ROUNDS {
-        // Sixteen times a quarter more leaves each weight far below the greatest.
-        if !are_lengths(&weights) {
-            return Ok(false);
+        match next_round(alloc, made, block, &weights)? {
+            Some(next) => weights = next,
+            None => return Ok(false),
         }
-        match need_under(alloc, made, block.link, &weights)? {
-            Some(other) if least <= other => {}
-            _ => return Ok(false),
-        }
-        let path = dearest_path(alloc, made, block.link, &weights)?;
-        weights = raise(alloc, &made.network, path.as_slice(), &weights)?;
     }
     Ok(true)
 }
@@ -340,7 +350,7 @@ fn is_polished(alloc: Global, made: &Made) -> Result<bool, Memory>
 }
 
 /// For which matrices a certificate is made.
-#[derive(Clone, Copy, Debug, PartialEq, Eq)]
+#[derive(Clone, Copy)]
 enum Demands {
     /// For all.
     All,
@@ -380,24 +390,18 @@ fn demand_set(alloc: Global, demands: Demands, series: &Series) -> Result<Demand
     }
 }
 
-/// A network and matrices of it, as they stand in files, and for which matrices a certificate is made.
-#[derive(Clone, Copy)]
-struct Case<'a> {
-    name: &'a str,
-    network: &'a [u8],
-    matrices: &'a [u8],
+/// The certificate of the least paths by cost, of a network and matrices of it as they stand in files.
+fn certificate_of(
+    alloc: Global,
+    topology: &[u8],
+    matrices: &[u8],
     demands: Demands,
-    /// How many links of the network have a share, and so a block.
-    blocks: usize,
-}
-
-/// The certificate of the least paths by cost.
-fn certificate_of(alloc: Global, case: &Case) -> Result<Made, Fail>
+) -> Result<Made, Fail>
     ensures { IfOk result (λ m. All (λ b. HasShare m.routing.routes b.link) m.blocks) }
 {
-    let network = topology::read(alloc, case.network)?;
-    let series = traffic_matrix::read(alloc, &network, case.matrices)?;
-    let set = demand_set(alloc, case.demands, &series)?;
+    let network = topology::read(alloc, topology)?;
+    let series = traffic_matrix::read(alloc, &network, matrices)?;
+    let set = demand_set(alloc, demands, &series)?;
     let certificate = publish(alloc, &Spf, &network, &series.pairs, set, 1)?;
     let head = certificate.head;
     let routing = Routing {
@@ -412,99 +416,106 @@ fn certificate_of(alloc: Global, case: &Case) -> Result<Made, Fail>
     })
 }
 
-/// Fails where what is made of a case is not polished.
-fn assert_polished(rt: &impl Abort, alloc: Global, case: &Case) -> Result<(), Fail> {
-    let made = certificate_of(alloc, case)?;
-    assert_eq!(rt; made.blocks.as_slice().len(), case.blocks, "{}", case.name);
+/// How many blocks this certificate has, and whether it is polished.
+fn judge(
+    alloc: Global,
+    topology: &[u8],
+    matrices: &[u8],
+    demands: Demands,
+) -> Result<(usize, bool), Fail> {
+    let made = certificate_of(alloc, topology, matrices, demands)?;
     let polished = is_polished(alloc, &made)?;
-    assert!(rt; polished, "{}", case.name);
-    Ok(())
+    Ok((made.blocks.as_slice().len(), polished))
 }
 
 /// Links from a and from b to c, and both ways between a and b.
-const THREE_NODES: &[u8] = b"source,target,capacity,cost\na,c,10,1\nb,c,10,1\na,b,10,1\nb,a,10,1\n";
+const THREE_NODES: &str = "source,target,capacity,cost\na,c,10,1\nb,c,10,1\na,b,10,1\nb,a,10,1\n";
 
 /// Demands from a and from b to c.
-const TO_C: &[u8] = b"step,source,target,demand\n0,a,c,10\n0,b,c,10\n";
+const TO_C: &str = "step,source,target,demand\n0,a,c,10\n0,b,c,10\n";
 
 /// A demand from a to b.
-const TO_B: &[u8] = b"step,source,target,demand\n0,a,b,10\n";
+const TO_B: &str = "step,source,target,demand\n0,a,b,10\n";
 
-const SMALL: &[Case] = &[
-    Case {
-        name: "three nodes, all matrices",
-        network: THREE_NODES,
-        matrices: TO_C,
-        demands: Demands::All,
-        blocks: 2,
-    },
-    Case {
-        name: "three nodes, equal demands",
-        network: THREE_NODES,
-        matrices: TO_C,
-        demands: Demands::AsFirst,
-        blocks: 2,
-    },
-    Case {
-        name: "a narrow and a wide link",
-        network: b"source,target,capacity,cost\na,b,10,1\na,b,30,1\n",
-        matrices: TO_B,
-        demands: Demands::All,
-        blocks: 1,
-    },
-    Case {
-        name: "the widest and the narrowest link",
-        network: b"source,target,capacity,cost\na,b,4294967296,1\na,b,1,1\n",
-        matrices: TO_B,
-        demands: Demands::All,
-        blocks: 1,
-    },
+/// What the case is, a network, matrices of it, for which the certificate is made, and how many links have a share, and so a block.
+const SMALL: &[(&str, &str, &str, Demands, usize)] = &[
+    (
+        "three nodes, all matrices",
+        THREE_NODES,
+        TO_C,
+        Demands::All,
+        2,
+    ),
+    (
+        "three nodes, equal demands",
+        THREE_NODES,
+        TO_C,
+        Demands::AsFirst,
+        2,
+    ),
+    (
+        "a narrow and a wide link",
+        "source,target,capacity,cost\na,b,10,1\na,b,30,1\n",
+        TO_B,
+        Demands::All,
+        1,
+    ),
+    (
+        "the widest and the narrowest link",
+        "source,target,capacity,cost\na,b,4294967296,1\na,b,1,1\n",
+        TO_B,
+        Demands::All,
+        1,
+    ),
     // The greatest b serves where nothing is demanded, and then no weight need be fine.
-    Case {
-        name: "a link without demand",
-        network: b"source,target,capacity,cost\na,b,10,1\n",
-        matrices: b"step,source,target,demand\n0,a,b,0\n",
-        demands: Demands::NearFirst,
-        blocks: 1,
-    },
-    Case {
-        name: "no pair",
-        network: THREE_NODES,
-        matrices: b"step,source,target,demand\n",
-        demands: Demands::All,
-        blocks: 0,
-    },
+    (
+        "a link without demand",
+        "source,target,capacity,cost\na,b,10,1\n",
+        "step,source,target,demand\n0,a,b,0\n",
+        Demands::NearFirst,
+        1,
+    ),
+    (
+        "no pair",
+        THREE_NODES,
+        "step,source,target,demand\n",
+        Demands::All,
+        0,
+    ),
 ];
 
 #[test]
-fn small_networks(rt: HostRuntime) -> Result<(), Fail> {
-    for case in SMALL {
-        assert_polished(&rt, rt.alloc(), case)?;
+fn certificates_of_small_networks_are_polished(rt: HostRuntime) -> Result<(), Fail> {
+    for row in SMALL {
+        let (name, topology, matrices, demands, blocks) = *row;
+        let found = judge(
+            rt.alloc(),
+            topology.as_bytes(),
+            matrices.as_bytes(),
+            demands,
+        )?;
+        assert_eq!(rt; found, (blocks, true), "{name}");
     }
     Ok(())
 }
 
-/// Fails where what is made of the backbone is not polished. Each pair of its nodes has a demand.
-fn assert_polished_backbone(rt: &impl Abort, alloc: Global, demands: Demands) -> Result<(), Fail> {
+/// A matrix of the backbone in which each pair of its nodes has a demand, as it stands in a file.
+fn backbone_matrix(alloc: Global) -> Result<Vec<u8>, Fail> {
     let network = topology::read(alloc, BACKBONE.as_bytes())?;
     let series = gravity(alloc, &network, 11, 1)?;
     let matrices = print(alloc, &network, &series)?;
-    let case = Case {
-        name: "the backbone",
-        network: BACKBONE.as_bytes(),
-        matrices: &matrices,
-        demands,
-        blocks: 28,
-    };
-    assert_polished(rt, alloc, &case)
+    Ok(matrices)
 }
 
 #[test]
-fn backbone_for_all_matrices(rt: HostRuntime) -> Result<(), Fail> {
-    assert_polished_backbone(&rt, rt.alloc(), Demands::All)
-}
-
-#[test]
-fn backbone_within_a_margin(rt: HostRuntime) -> Result<(), Fail> {
-    assert_polished_backbone(&rt, rt.alloc(), Demands::NearFirst)
+fn certificates_of_the_backbone_are_polished(rt: HostRuntime) -> Result<(), Fail> {
+    let matrices = backbone_matrix(rt.alloc())?;
+    for (name, demands) in [
+        ("all matrices", Demands::All),
+        ("a margin", Demands::NearFirst),
+    ] {
+        let found = judge(rt.alloc(), BACKBONE.as_bytes(), &matrices, demands)?;
+        assert_eq!(rt; found, (28, true), "{name}");
+    }
+    Ok(())
 }

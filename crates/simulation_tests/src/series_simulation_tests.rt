@@ -1,16 +1,96 @@
 //! A series of steps in which links fail, by each recovery, and pairs without a path.
+use crate::inputs::{FOUR_NODES, ONE_FAILS, TWO_STEPS, read_inputs};
 use k_paths::Ksp;
 use plan::Recovery;
-use sample_networks::four_nodes;
 use series_simulation::*;
+use std::alloc::Global;
 use std::test::Fail;
-use te_model::well_formed;
+use te_model::Items;
 
-/// Whether the row has these amounts (offered, delivered, lost on full links, on failed links and for want of a path), this
-/// peak and these parts, and no lower bound.
-fn is_row(row: &StepRow, amounts: [u64; 5], peak: u64, parts: u128) -> bool {
+/// A step; its amounts (offered, delivered, lost on full links, on failed links and for want of a path); its peak; its parts.
+type Row = (u32, [u64; 5], u64, u128);
+
+/// The row of the first of the two steps, at which no link has failed.
+const BEFORE: Row = (0, [12, 12, 0, 0, 0], 600_000, 600_000);
+
+/// Demands there and back.
+const BOTH_WAYS: &str = "step,source,target,demand\n0,s,t,12\n0,t,s,5\n";
+
+/// Demands, outages and a recovery, and the rows of the steps.
+const SERIES: &[(&str, &str, Recovery, &[Row])] = &[
+    // A failed link by each recovery.
+    (
+        TWO_STEPS,
+        ONE_FAILS,
+        Recovery::Keep,
+        &[BEFORE, (1, [12, 6, 0, 6, 0], 600_000, 600_000)],
+    ),
+    (
+        TWO_STEPS,
+        ONE_FAILS,
+        Recovery::Scale,
+        &[BEFORE, (1, [12, 10, 2, 0, 0], 1_000_000, 600_000)],
+    ),
+    (
+        TWO_STEPS,
+        ONE_FAILS,
+        Recovery::Bypass,
+        &[BEFORE, (1, [12, 9, 3, 0, 0], 1_000_000, 600_000)],
+    ),
+    (
+        TWO_STEPS,
+        ONE_FAILS,
+        Recovery::Reroute,
+        &[BEFORE, (1, [12, 9, 3, 0, 0], 1_000_000, 2_000_000)],
+    ),
+    // No link leads back from t.
+    (
+        BOTH_WAYS,
+        "from,to,link\n0,0,4\n",
+        Recovery::Keep,
+        &[(0, [17, 12, 0, 0, 5], 600_000, 600_000)],
+    ),
+    // Both paths of the pair have failed.
+    (
+        BOTH_WAYS,
+        "from,to,link\n0,0,0\n0,0,1\n",
+        Recovery::Scale,
+        &[(0, [17, 0, 0, 0, 17], 0, 600_000)],
+    ),
+    // No path is left, so none is routed.
+    (
+        BOTH_WAYS,
+        "from,to,link\n0,0,0\n0,0,2\n",
+        Recovery::Reroute,
+        &[(0, [17, 0, 0, 0, 17], 0, 0)],
+    ),
+];
+
+/// The rows of the two least paths of each pair of the four nodes.
+fn rows_of(
+    alloc: Global,
+    matrices: &str,
+    outages: &str,
+    recovery: Recovery,
+) -> Result<Items<StepRow>, Fail> {
+    let inputs = read_inputs(alloc, FOUR_NODES, matrices, outages)?;
+    let rows = drive(
+        alloc,
+        &Ksp { k: 2 },
+        &inputs.network,
+        &inputs.series,
+        &inputs.failures,
+        recovery,
+    )?;
+    Ok(rows)
+}
+
+/// Whether the row has these numbers, and no lower bound.
+fn is_row(row: &StepRow, numbers: &Row) -> bool {
+    let (step, amounts, peak, parts) = *numbers;
     let result = &row.result;
-    result.offered == amounts[0]
+    row.step == step
+        && result.offered == amounts[0]
         && result.delivered == amounts[1]
         && result.lost_full == amounts[2]
         && result.lost_failed == amounts[3]
@@ -20,77 +100,24 @@ fn is_row(row: &StepRow, amounts: [u64; 5], peak: u64, parts: u128) -> bool {
         && row.low.is_none()
 }
 
-#[test]
-fn a_failed_link_by_each_recovery(rt: HostRuntime) -> Result<(), Fail> {
-    let alloc = rt.alloc();
-    let net = four_nodes(alloc)?;
-    assert!(rt; well_formed(&net));
-    let matrices = b"step,source,target,demand\n0,s,t,12\n1,s,t,12\n";
-    let series = traffic_matrix::read(alloc, &net, matrices)?;
-    let failures = failure::read(alloc, &net, 2, b"from,to,link\n1,1,1\n")?;
-    for (recovery, amounts, peak, parts) in [
-        (Recovery::Keep, [12, 6, 0, 6, 0], 600_000, 600_000),
-        (Recovery::Scale, [12, 10, 2, 0, 0], 1_000_000, 600_000),
-        (Recovery::Bypass, [12, 9, 3, 0, 0], 1_000_000, 600_000),
-        (Recovery::Reroute, [12, 9, 3, 0, 0], 1_000_000, 2_000_000),
-    ] {
-        match drive(alloc, &Ksp { k: 2 }, &net, &series, &failures, recovery) {
-            Ok(rows) => match rows.as_slice() {
-                [before, after] => {
-                    assert_eq!(rt; before.step, 0);
-                    assert!(rt; is_row(before, [12, 12, 0, 0, 0], 600_000, 600_000));
-                    assert_eq!(rt; after.step, 1);
-                    assert!(rt; is_row(after, amounts, peak, parts));
-                }
-                _ => assert!(rt; false),
-            },
-            Err(_) => assert!(rt; false),
-        }
-    }
-    Ok(())
+/// Whether the rows are these.
+fn are_rows(rows: &[StepRow], numbers: &[Row]) -> bool {
+    rows.len() == numbers.len()
+        && rows
+            .iter()
+            .zip(numbers)
+            .all(|(row, numbers)| is_row(row, numbers))
 }
 
 #[test]
-fn pairs_without_a_path(rt: HostRuntime) -> Result<(), Fail> {
-    let alloc = rt.alloc();
-    let net = four_nodes(alloc)?;
-    assert!(rt; well_formed(&net));
-    let matrices = b"step,source,target,demand\n0,s,t,12\n0,t,s,5\n";
-    let series = traffic_matrix::read(alloc, &net, matrices)?;
-    for (outages, recovery, amounts, peak, parts) in [
-        // No link leads back from t.
-        (
-            b"from,to,link\n0,0,4\n".as_slice(),
-            Recovery::Keep,
-            [17, 12, 0, 0, 5],
-            600_000,
-            600_000,
-        ),
-        // Both paths of the pair have failed.
-        (
-            b"from,to,link\n0,0,0\n0,0,1\n".as_slice(),
-            Recovery::Scale,
-            [17, 0, 0, 0, 17],
-            0,
-            600_000,
-        ),
-        // No path is left, so none is routed.
-        (
-            b"from,to,link\n0,0,0\n0,0,2\n".as_slice(),
-            Recovery::Reroute,
-            [17, 0, 0, 0, 17],
-            0,
-            0,
-        ),
-    ] {
-        let failures = failure::read(alloc, &net, 1, outages)?;
-        match drive(alloc, &Ksp { k: 2 }, &net, &series, &failures, recovery) {
-            Ok(rows) => match rows.as_slice() {
-                [row] => assert!(rt; is_row(row, amounts, peak, parts)),
-                _ => assert!(rt; false),
-            },
-            Err(_) => assert!(rt; false),
-        }
+fn rows_of_failed_links_and_of_pairs_without_a_path(rt: HostRuntime) -> Result<(), Fail> {
+    for series in SERIES {
+        let (matrices, outages, recovery, numbers) = *series;
+        let rows = rows_of(rt.alloc(), matrices, outages, recovery)?;
+        assert!(rt;
+            are_rows(rows.as_slice(), numbers),
+            "{recovery:?} {outages}"
+        );
     }
     Ok(())
 }
