@@ -2,7 +2,7 @@
 ghost use Rattle.std.specs.Prelude.{◌≡◌, IfOk, length};
 ghost use Rattle.path_tests.specs.RoutingSamples.{fork, halves, three_middles, way_and_back};
 
-use crate::thirds::assert_thirds;
+use crate::answers::{THIRDS, are_paths};
 use routing::*;
 use sample_networks::{matrix, network, weighted_paths, weighted_routes};
 use std::alloc::{AllocError, Global};
@@ -18,43 +18,40 @@ fn way_and_back(alloc: Global) -> Result<Network, AllocError>
 }
 
 #[test]
-fn shares_and_loads(rt: HostRuntime) -> Result<(), Fail> {
+fn shares_give_loads_and_the_greatest_utilisation(rt: HostRuntime) -> Result<(), Fail> {
     let alloc = rt.alloc();
     let net = way_and_back(alloc)?;
-    let routing = Routing {
-        routes: weighted_routes(alloc, &[(0, 1, &[(&[0], 750_000), (&[1, 2], 250_000)])])?,
-    };
+    let routes = weighted_routes(alloc, &[(0, 1, &[(&[0], 750_000), (&[1, 2], 250_000)])])?;
+    let routing = Routing { routes };
     let matrix = matrix(alloc, &[8])?;
-    assert_eq!(rt; routing.share(0, 0), 750_000);
-    assert_eq!(rt; routing.share(0, 2), 250_000);
-    assert_eq!(rt; routing.share(0, 3), 0);
-    assert_eq!(rt; routing.load(&matrix, 0), 6_000_000);
-    assert_eq!(rt; routing.parts(&net, &matrix), 600_000);
+    let shares = [
+        routing.share(0, 0),
+        routing.share(0, 2),
+        routing.share(0, 3),
+    ];
+    assert!(rt; shares == [750_000, 250_000, 0]);
+    assert!(rt; routing.load(&matrix, 0) == 6_000_000 && routing.parts(&net, &matrix) == 600_000);
     Ok(())
 }
 
 #[test]
-fn loops_and_equal_paths(rt: HostRuntime) -> Result<(), Fail> {
+fn loops_are_cut(rt: HostRuntime) -> Result<(), Fail> {
     let alloc = rt.alloc();
     let net = way_and_back(alloc)?;
-    match cut_loops(alloc, &net, 0, &[1, 3, 0]) {
-        Ok(cut) => assert!(rt; cut.as_slice() == [0].as_slice()),
-        Err(_) => assert!(rt; false),
-    }
+    let cut = cut_loops(alloc, &net, 0, &[1, 3, 0])?;
+    assert!(rt; cut.as_slice() == [0].as_slice());
+    Ok(())
+}
+
+#[test]
+fn equal_paths_become_one(rt: HostRuntime) -> Result<(), Fail> {
+    let alloc = rt.alloc();
     let parts = weighted_paths(
         alloc,
         &[(&[0], 500_000), (&[1, 2], 250_000), (&[0], 250_000)],
     )?;
-    match merge(alloc, parts) {
-        Ok(merged) => {
-            assert_eq!(rt; merged.len(), 2);
-            assert!(rt; merged[0].links.as_slice() == [0].as_slice());
-            assert_eq!(rt; merged[0].weight, 750_000);
-            assert!(rt; merged[1].links.as_slice() == [1, 2].as_slice());
-            assert_eq!(rt; merged[1].weight, 250_000);
-        }
-        Err(_) => assert!(rt; false),
-    }
+    let merged = merge(alloc, parts)?;
+    assert!(rt; are_paths(&merged, &[(&[0], 750_000), (&[1, 2], 250_000)]));
     Ok(())
 }
 
@@ -85,12 +82,8 @@ fn thirds_apart(alloc: Global, net: &Network) -> Result<Vec<PathShare>, Memory>
 fn a_flow_comes_apart_into_paths(rt: HostRuntime) -> Result<(), Fail> {
     let alloc = rt.alloc();
     let net = three_middles(alloc)?;
-    match thirds_apart(alloc, &net) {
-        Ok(paths) => {
-            assert_thirds(&rt, &paths);
-        }
-        Err(_) => assert!(rt; false),
-    }
+    let paths = thirds_apart(alloc, &net)?;
+    assert!(rt; are_paths(&paths, THIRDS));
     Ok(())
 }
 
@@ -117,45 +110,47 @@ fn halves(alloc: Global) -> Result<Routing, AllocError>
 }
 
 #[test]
-fn loads_of_all_links(rt: HostRuntime) -> Result<(), Fail> {
+fn loads_in_one_pass_are_those_of_single_links(rt: HostRuntime) -> Result<(), Fail> {
     let alloc = rt.alloc();
     let net = fork(alloc)?;
     let matrix = matrix(alloc, &[8, 4])?;
     let routing = halves(alloc)?;
-    match routing.loads(alloc, &net, &matrix) {
-        Ok(loads) => {
-            assert!(rt; loads.as_slice() == [8_000_000, 6_000_000, 6_000_000, 0].as_slice());
-            for h in 0..4 {
-                assert_eq!(rt; loads[h], routing.load(&matrix, h as u32));
-            }
-        }
-        Err(_) => assert!(rt; false),
-    }
-    assert!(rt; routing.greatest_utilisation(alloc, &net, &matrix) == Ok(800_000));
-    assert_eq!(rt; routing.parts(&net, &matrix), 800_000);
+    let greatest = routing.greatest_utilisation(alloc, &net, &matrix)?;
+    assert!(rt; greatest == 800_000 && routing.parts(&net, &matrix) == 800_000);
+    let each = [
+        routing.load(&matrix, 0),
+        routing.load(&matrix, 1),
+        routing.load(&matrix, 2),
+        routing.load(&matrix, 3),
+    ];
+    assert!(rt; each == [8_000_000, 6_000_000, 6_000_000, 0]);
+    let loads = routing.loads(alloc, &net, &matrix)?;
+    assert!(rt; loads.as_slice() == each.as_slice());
     Ok(())
 }
 
-#[test]
-fn loads_without_pairs_or_links(rt: HostRuntime) -> Result<(), Fail> {
-    let alloc = rt.alloc();
+/// Whether a routing without pairs puts these loads on the links.
+fn are_loads_without_pairs(
+    alloc: Global,
+    net: &Network,
+    expected: &[u128],
+) -> Result<bool, Memory> {
     let none = Routing {
         routes: Items::new(Vec::new(alloc)),
     };
     let matrix = matrix(alloc, &[])?;
+    let loads = none.loads(alloc, net, &matrix)?;
+    Ok(loads.as_slice() == expected)
+}
+
+#[test]
+fn no_pairs_put_no_load_on_links(rt: HostRuntime) -> Result<(), Fail> {
+    let alloc = rt.alloc();
     let net = fork(alloc)?;
-    match none.loads(alloc, &net, &matrix) {
-        Ok(loads) => assert!(rt; loads.as_slice() == [0, 0, 0, 0].as_slice()),
-        Err(_) => assert!(rt; false),
-    }
-    let bare = Network {
-        names: net.names,
-        links: Items::new(Vec::new(alloc)),
-    };
-    match none.loads(alloc, &bare, &matrix) {
-        Ok(loads) => assert_eq!(rt; loads.len(), 0),
-        Err(_) => assert!(rt; false),
-    }
+    let bare = network(alloc, &["a", "m", "b"], &[])?;
+    let on_links = are_loads_without_pairs(alloc, &net, &[0, 0, 0, 0])?;
+    let on_none = are_loads_without_pairs(alloc, &bare, &[])?;
+    assert!(rt; on_links && on_none);
     Ok(())
 }
 
@@ -169,20 +164,16 @@ fn shares_of_halves(alloc: Global, net: &Network, routing: &Routing) -> Result<S
 }
 
 #[test]
-fn pairs_with_a_share(rt: HostRuntime) -> Result<(), Fail> {
+fn each_link_has_the_pairs_with_a_share(rt: HostRuntime) -> Result<(), Fail> {
     let alloc = rt.alloc();
     let net = fork(alloc)?;
     let routing = halves(alloc)?;
-    match shares_of_halves(alloc, &net, &routing) {
-        Ok(shares) => {
-            let of = |pair, share| PairShare { pair, share };
-            assert!(rt; shares.on(0) == [of(0, 1_000_000)].as_slice());
-            assert!(rt; shares.on(1) == [of(0, 500_000), of(1, 500_000)].as_slice());
-            assert!(rt; shares.on(2) == [of(0, 500_000), of(1, 500_000)].as_slice());
-            assert!(rt; shares.on(3).is_empty());
-        }
-        Err(_) => assert!(rt; false),
-    }
+    let shares = shares_of_halves(alloc, &net, &routing)?;
+    let of = |pair, share| PairShare { pair, share };
+    let whole = [of(0, 1_000_000)];
+    let both = [of(0, 500_000), of(1, 500_000)];
+    assert!(rt; shares.on(0) == whole.as_slice() && shares.on(3).is_empty());
+    assert!(rt; shares.on(1) == both.as_slice() && shares.on(2) == both.as_slice());
     Ok(())
 }
 
@@ -201,15 +192,7 @@ fn units_left_go_to_the_first_paths(rt: HostRuntime) -> Result<(), Fail> {
         path(alloc, [0].as_slice())?,
         path(alloc, [1].as_slice())?,
     ]?;
-    match even_mix(alloc, paths) {
-        Ok(merged) => {
-            assert_eq!(rt; merged.len(), 2);
-            assert!(rt; merged[0].links.as_slice() == [0].as_slice());
-            assert_eq!(rt; merged[0].weight, 333_333);
-            assert!(rt; merged[1].links.as_slice() == [1].as_slice());
-            assert_eq!(rt; merged[1].weight, 666_667);
-        }
-        Err(_) => assert!(rt; false),
-    }
+    let mixed = even_mix(alloc, paths)?;
+    assert!(rt; are_paths(&mixed, &[(&[0], 333_333), (&[1], 666_667)]));
     Ok(())
 }

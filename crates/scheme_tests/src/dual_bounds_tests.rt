@@ -2,12 +2,12 @@
 ghost use Rattle.std.specs.Prelude.{◌≡◌, ◌^◌, ◌≤◌, ◌∷◌, [], IfOk};
 ghost use Rattle.scheme.specs.Low.{HasLow};
 
+use crate::commodities::on_parallel_links;
 use dual_bounds::*;
 use routing::Routing;
-use sample_networks::{matrix, parallel_links, weighted_routes};
+use sample_networks::weighted_routes;
 use scheme::LowNote;
 use std::alloc::{AllocError, Global};
-use std::test::Fail;
 use te_model::{Bracket, Items, Memory};
 
 fn offer(alloc: Global, first: u64, second: u64) -> Result<Vec<Items<u64>>, AllocError>
@@ -18,77 +18,85 @@ fn offer(alloc: Global, first: u64, second: u64) -> Result<Vec<Items<u64>>, Allo
     Ok(offered)
 }
 
-/// The bracket of half of the demand over each link, where these lengths are offered.
-fn for_both(alloc: Global, first: u64, second: u64) -> Result<Bracket, Memory>
+/// Whether the bracket has these lengths, and these bounds in millionths.
+fn is_bracket(bracket: &Bracket, lengths: &[u64], low: u128, parts: u128) -> bool
+    requires { HasLow bracket.now }
+{
+    bracket.lengths.as_slice() == lengths && bracket.low() == Some(low) && bracket.parts == parts
+}
+
+/// Whether the only row is that of the first node, from which the second has a distance of 1.
+fn has_row_of_first(bracket: &Bracket) -> bool {
+    match bracket.rows.as_slice() {
+        [row] => row.source == 0 && row.potential.as_slice() == [0, 1].as_slice(),
+        _ => false,
+    }
+}
+
+/// Whether half of the demand over each link has the bracket of lengths of 1, where these lengths are offered.
+fn has_even_lengths(alloc: Global, first: u64, second: u64) -> Result<bool, Memory>
     requires first { first ≤ 2 ^ 28 }
     requires second { second ≤ 2 ^ 28 }
-    ensures { IfOk result HasLow }
 {
-    let net = parallel_links(alloc)?;
+    let commodities = on_parallel_links(alloc)?;
     let routes = weighted_routes(alloc, &[(0, 1, &[(&[0], 500_000), (&[1], 500_000)])])?;
     let routing = Routing { routes };
-    let matrix = matrix(alloc, &[40])?;
     let offered = offer(alloc, first, second)?;
-    bracket(alloc, &net, &routing, &matrix, &offered)
+    let bracket = bracket(
+        alloc,
+        &commodities.net,
+        &routing,
+        &commodities.matrix,
+        &offered,
+    )?;
+    Ok(is_bracket(&bracket, &[1, 1], 1_000_000, 2_000_000) && has_row_of_first(&bracket))
 }
 
-/// The bracket of the demand on the first link alone, where these lengths are offered.
-fn for_first(alloc: Global, first: u64, second: u64) -> Result<Bracket, Memory>
+#[test]
+fn no_bound_is_greater_than_that_of_even_lengths(rt: HostRuntime) {
+    // Lengths of 1 give 40 / 40 for every routing, and no sound bound is greater.
+    for (first, second) in [(3, 1), (2, 2), (0, 0), (1, 1)] {
+        let found = has_even_lengths(rt.alloc(), first, second);
+        assert_eq!(rt; found, Ok(true), "{first} {second}");
+    }
+}
+
+/// Whether the demand on the first link alone has this bracket without rows, where these lengths are offered.
+fn is_bracket_of_first(
+    alloc: Global,
+    first: u64,
+    second: u64,
+    lengths: &[u64],
+    low: u128,
+) -> Result<bool, Memory>
     requires first { first ≤ 2 ^ 28 }
     requires second { second ≤ 2 ^ 28 }
-    ensures { IfOk result HasLow }
 {
-    let net = parallel_links(alloc)?;
+    let commodities = on_parallel_links(alloc)?;
     let routes = weighted_routes(alloc, &[(0, 1, &[(&[0], 1_000_000)])])?;
     let fixed = Routing { routes };
-    let matrix = matrix(alloc, &[40])?;
     let offered = offer(alloc, first, second)?;
-    bracket_on_paths(alloc, &net, &fixed, &fixed, &matrix, &offered)
-}
-
-/// Whether the bracket has these lengths, and these bounds in millionths.
-fn is_bracket(found: &Result<Bracket, Memory>, lengths: &[u64], low: u128, parts: u128) -> bool
-    requires { IfOk found.now HasLow }
-{
-    match found {
-        Ok(bracket) => {
-            bracket.lengths.as_slice() == lengths
-                && bracket.low() == Some(low)
-                && bracket.parts == parts
-        }
-        Err(_) => false,
-    }
+    let bracket = bracket_on_paths(
+        alloc,
+        &commodities.net,
+        &fixed,
+        &fixed,
+        &commodities.matrix,
+        &offered,
+    )?;
+    Ok(is_bracket(&bracket, lengths, low, 4_000_000) && bracket.rows.as_slice().is_empty())
 }
 
 #[test]
-fn two_parallel_links(rt: HostRuntime) {
-    let alloc = rt.alloc();
-    // Lengths of 1 give 40 / 40 for every routing, and no sound bound is greater.
-    for (first, second) in [(3, 1), (2, 2), (0, 0)] {
-        let found = for_both(alloc, first, second);
-        assert!(rt; is_bracket(&found, &[1, 1], 1_000_000, 2_000_000));
-    }
-    // The first link alone has to carry 4 times its capacity.
-    for (first, second, low) in [(1, 0, 4_000_000), (5, 1, 2_500_000)] {
-        let found = for_first(alloc, first, second);
-        assert!(rt; is_bracket(&found, &[first, second], low, 4_000_000));
-    }
-    let unit = for_first(alloc, 1, 3);
-    assert!(rt; is_bracket(&unit, &[1, 1], 1_000_000, 4_000_000));
-}
-
-#[test]
-fn rows_of_the_sources(rt: HostRuntime) {
-    let alloc = rt.alloc();
-    match for_both(alloc, 1, 1) {
-        Ok(bracket) => match bracket.rows.as_slice() {
-            [row] => assert!(rt; row.source == 0 && row.potential.as_slice() == [0, 1].as_slice()),
-            _ => assert!(rt; false),
-        },
-        Err(_) => assert!(rt; false),
-    }
-    match for_first(alloc, 1, 1) {
-        Ok(bracket) => assert!(rt; bracket.rows.as_slice().is_empty()),
-        Err(_) => assert!(rt; false),
+fn the_first_link_alone_carries_four_times_its_capacity(rt: HostRuntime) {
+    // The offered lengths, those of the bracket, and its bound from below.
+    for (first, second, lengths, low) in [
+        (1, 0, [1, 0], 4_000_000),
+        (5, 1, [5, 1], 2_500_000),
+        (1, 3, [1, 1], 1_000_000),
+        (1, 1, [1, 1], 1_000_000),
+    ] {
+        let found = is_bracket_of_first(rt.alloc(), first, second, &lengths, low);
+        assert_eq!(rt; found, Ok(true), "{first} {second}");
     }
 }

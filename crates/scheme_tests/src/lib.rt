@@ -2,7 +2,11 @@
 #![tactic(auto)]
 
 #[cfg(test)]
+mod answers;
+#[cfg(test)]
 mod centred_steps_tests;
+#[cfg(test)]
+mod commodities;
 #[cfg(test)]
 mod dual_bounds_tests;
 #[cfg(test)]

@@ -4,9 +4,11 @@ ghost use Rattle.routing.specs.Routes.{IsRoutingOf};
 ghost use Rattle.sample_networks.specs.Literals.{pair_of};
 ghost use Rattle.sample_networks.specs.Networks.{parallel_links};
 
+use crate::answers::has_routes;
+use crate::commodities::on_parallel_links;
 use local_search::*;
 use routing::Routing;
-use sample_networks::{matrix, parallel_links, weighted_routes};
+use sample_networks::weighted_routes;
 use std::alloc::Global;
 use std::test::Fail;
 use te_model::Memory;
@@ -15,12 +17,17 @@ use te_model::Memory;
 fn settled(alloc: Global, routing: Routing) -> Result<(Routing, u128), Memory>
     requires { IsRoutingOf parallel_links (pair_of (0, 1) ∷ []) routing.routes }
 {
-    let net = parallel_links(alloc)?;
-    let matrix = matrix(alloc, &[40])?;
+    let commodities = on_parallel_links(alloc)?;
     let routes = weighted_routes(alloc, &[(0, 1, &[(&[0], 250_000), (&[1], 750_000)])])?;
     let candidates = Routing { routes };
-    let settled = settle(alloc, &net, &matrix, routing, &candidates)?;
-    let parts = settled.parts(&net, &matrix);
+    let settled = settle(
+        alloc,
+        &commodities.net,
+        &commodities.matrix,
+        routing,
+        &candidates,
+    )?;
+    let parts = settled.parts(&commodities.net, &commodities.matrix);
     Ok((settled, parts))
 }
 
@@ -38,27 +45,16 @@ fn from_balance(alloc: Global) -> Result<(Routing, u128), Memory> {
 
 #[test]
 fn weight_leaves_the_narrow_link(rt: HostRuntime) -> Result<(), Fail> {
-    match from_first(rt.alloc()) {
-        // No stable split of this demand has more.
-        Ok((_, parts)) => assert!(rt; parts <= 1_010_740),
-        Err(_) => assert!(rt; false),
-    }
+    let (_routing, parts) = from_first(rt.alloc())?;
+    // No stable split of this demand has more.
+    assert!(rt; parts <= 1_010_740);
     Ok(())
 }
 
 #[test]
 fn a_stable_routing_stays(rt: HostRuntime) -> Result<(), Fail> {
-    match from_balance(rt.alloc()) {
-        Ok((routing, parts)) => {
-            assert_eq!(rt; parts, 1_000_000);
-            let routes = routing.routes.as_slice();
-            assert_eq!(rt; routes.len(), 1);
-            let paths = routes[0].paths.as_slice();
-            assert_eq!(rt; paths.len(), 2);
-            assert_eq!(rt; paths[0].weight, 250_000);
-            assert_eq!(rt; paths[1].weight, 750_000);
-        }
-        Err(_) => assert!(rt; false),
-    }
+    let (routing, parts) = from_balance(rt.alloc())?;
+    assert!(rt; parts == 1_000_000);
+    assert!(rt; has_routes(&routing, &[(0, 1, &[(&[0], 250_000), (&[1], 750_000)])]));
     Ok(())
 }

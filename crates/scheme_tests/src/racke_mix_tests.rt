@@ -1,37 +1,34 @@
 //! The mix of trees, on two nodes with one link each way.
+use crate::answers::has_routes;
+use crate::commodities::{plan_and_route, there_and_back};
 use racke_mix::*;
-use sample_networks::{matrix, pairs, two_nodes};
-use scheme::{Oblivious, Scheme};
+use routing::Routing;
+use scheme::Oblivious;
 use std::test::Fail;
 
-#[test]
-fn one_link_each_way(rt: HostRuntime) -> Result<(), Fail> {
-    let alloc = rt.alloc();
-    let net = two_nodes(alloc)?;
-    let pairs = pairs(alloc, &[(0, 1), (1, 0)])?;
-    let matrix = matrix(alloc, &[1, 2])?;
-    let racke = Racke { trees: 2, seed: 0 };
-    match racke.prepare(alloc, &net, &pairs) {
-        Ok(plan) => {
-            let rounds = plan.rounds.as_slice();
-            assert_eq!(rt; rounds.len(), 2);
-            assert!(rt; rounds[0].lengths.as_slice() == [1024, 1024].as_slice());
-            let routes = racke.fixed(&plan).routes.as_slice();
-            assert_eq!(rt; routes.len(), 2);
-            let there = routes[0].paths.as_slice();
-            assert_eq!(rt; there.len(), 1);
-            assert!(rt; there[0].links.as_slice() == [0].as_slice());
-            assert_eq!(rt; there[0].weight, 1_000_000);
-            let back = routes[1].paths.as_slice();
-            assert_eq!(rt; back.len(), 1);
-            assert!(rt; back[0].links.as_slice() == [1].as_slice());
-            assert_eq!(rt; back[0].weight, 1_000_000);
-            match racke.route(alloc, &net, &plan, &matrix) {
-                Ok((routing, _note)) => assert_eq!(rt; routing.routes.as_slice().len(), 2),
-                Err(_) => assert!(rt; false),
-            }
-        }
-        Err(_) => assert!(rt; false),
+/// Whether each pair has its own link alone.
+fn has_single_links(routing: &Routing) -> bool {
+    has_routes(
+        routing,
+        &[(0, 1, &[(&[0], 1_000_000)]), (1, 0, &[(&[1], 1_000_000)])],
+    )
+}
+
+/// Whether there are two rounds, the first with even lengths.
+fn are_two_from_even(rounds: &[Round]) -> bool {
+    match rounds {
+        [first, _second] => first.lengths.as_slice() == [1024, 1024].as_slice(),
+        _ => false,
     }
+}
+
+#[test]
+fn each_pair_has_its_own_link(rt: HostRuntime) -> Result<(), Fail> {
+    let alloc = rt.alloc();
+    let racke = Racke { trees: 2, seed: 0 };
+    let commodities = there_and_back(alloc)?;
+    let (plan, routing, _note) = plan_and_route(alloc, &racke, &commodities)?;
+    assert!(rt; are_two_from_even(plan.rounds.as_slice()));
+    assert!(rt; has_single_links(racke.fixed(&plan)) && has_single_links(&routing));
     Ok(())
 }

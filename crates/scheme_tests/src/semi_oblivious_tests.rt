@@ -1,55 +1,40 @@
 //! Rates for one matrix over fixed paths, on two parallel links.
+use crate::answers::{has_routes, is_between};
+use crate::commodities::{on_parallel_links, plan_and_route};
 use k_paths::Ksp;
 use racke_mix::Racke;
-use sample_networks::{matrix, pairs, parallel_links};
-use scheme::{LowNote, Oblivious, Scheme};
+use routing::Routing;
 use semi_oblivious::*;
 use std::test::Fail;
+
+/// How many paths the only pair has, or `None` where there is not one pair.
+fn count_of_paths(routing: &Routing) -> Option<usize> {
+    match routing.routes.as_slice() {
+        [route] => Some(route.paths.as_slice().len()),
+        _ => None,
+    }
+}
 
 #[test]
 fn rates_follow_the_matrix(rt: HostRuntime) -> Result<(), Fail> {
     let alloc = rt.alloc();
-    let net = parallel_links(alloc)?;
-    let pairs = pairs(alloc, &[(0, 1)])?;
-    let matrix = matrix(alloc, &[40])?;
     let base = Racke { trees: 8, seed: 0 };
     let semi = Semi { base, budget: 4 };
-    match semi.prepare(alloc, &net, &pairs) {
-        Ok(plan) => match semi.route(alloc, &net, &plan, &matrix) {
-            Ok((routing, note)) => {
-                let paths = plan.fixed.routes.as_slice()[0].paths.as_slice().len();
-                assert_eq!(rt; paths, 2);
-                assert_eq!(rt; routing.routes.as_slice().len(), 1);
-                assert!(rt; 1_000_000 <= note.parts && note.parts <= 1_000_200);
-                assert!(rt; note.low() == Some(1_000_000));
-            }
-            Err(_) => assert!(rt; false),
-        },
-        Err(_) => assert!(rt; false),
-    }
+    let commodities = on_parallel_links(alloc)?;
+    let (plan, routing, note) = plan_and_route(alloc, &semi, &commodities)?;
+    assert!(rt; count_of_paths(&plan.fixed) == Some(2) && routing.routes.as_slice().len() == 1);
+    assert!(rt; is_between(&note, 1_000_000, 1_000_200));
     Ok(())
 }
 
 #[test]
 fn one_fixed_path_stays_alone(rt: HostRuntime) -> Result<(), Fail> {
     let alloc = rt.alloc();
-    let net = parallel_links(alloc)?;
-    let pairs = pairs(alloc, &[(0, 1)])?;
-    let matrix = matrix(alloc, &[40])?;
     let base = Ksp { k: 2 };
     let semi = Semi { base, budget: 1 };
-    match semi.prepare(alloc, &net, &pairs) {
-        Ok(plan) => match semi.route(alloc, &net, &plan, &matrix) {
-            Ok((routing, note)) => {
-                let paths = routing.routes.as_slice()[0].paths.as_slice();
-                assert_eq!(rt; paths.len(), 1);
-                assert!(rt; paths[0].links.as_slice() == [0].as_slice());
-                assert!(rt; note.parts == 4_000_000);
-                assert!(rt; note.low() == Some(4_000_000));
-            }
-            Err(_) => assert!(rt; false),
-        },
-        Err(_) => assert!(rt; false),
-    }
+    let commodities = on_parallel_links(alloc)?;
+    let (_plan, routing, note) = plan_and_route(alloc, &semi, &commodities)?;
+    assert!(rt; has_routes(&routing, &[(0, 1, &[(&[0], 1_000_000)])]));
+    assert!(rt; is_between(&note, 4_000_000, 4_000_000));
     Ok(())
 }

@@ -83,58 +83,47 @@ fn leads_over(alloc: Global, tree: &Tree, net: &Network, src: u32, dst: u32, lin
 }
 
 #[test]
-fn centers_and_tree_paths(rt: HostRuntime) -> Result<(), Fail> {
+fn near_nodes_have_one_center(rt: HostRuntime) -> Result<(), Fail> {
     let alloc = rt.alloc();
     let net = two_nodes(alloc)?;
-    match near(alloc, &net) {
-        Ok(tree) => {
-            assert_eq!(rt; tree.center(9, 1), 1);
-            assert_eq!(rt; tree.center(10, 1), 0);
-            assert!(rt; leads_over(alloc, &tree, &net, 1, 0, &[1]));
-            assert!(rt; leads_over(alloc, &tree, &net, 0, 1, &[0]));
-        }
-        Err(_) => assert!(rt; false),
-    }
+    let tree = near(alloc, &net)?;
+    assert!(rt; tree.center(9, 1) == 1 && tree.center(10, 1) == 0);
+    assert!(rt;
+        leads_over(alloc, &tree, &net, 1, 0, &[1]) && leads_over(alloc, &tree, &net, 0, 1, &[0])
+    );
     Ok(())
 }
 
 /// Where a least path between centers does not exist, the least path is taken.
 #[test]
-fn nodes_that_are_not_reached_back(rt: HostRuntime) -> Result<(), Fail> {
+fn nodes_that_are_not_reached_back_have_least_paths(rt: HostRuntime) -> Result<(), Fail> {
     let alloc = rt.alloc();
     let net = one_way(alloc)?;
-    match unreached(alloc, &net) {
-        Ok(tree) => {
-            assert_eq!(rt; tree.center(35, 2), 2);
-            assert_eq!(rt; tree.center(TOP_LEVEL, 2), 0);
-            assert!(rt; leads_over(alloc, &tree, &net, 1, 2, &[1]));
-            assert!(rt; leads_over(alloc, &tree, &net, 0, 2, &[0, 1]));
-            match tree.tree_path(alloc, &net, 2, 0) {
-                Ok(None) => {}
-                _ => assert!(rt; false),
-            }
-            assert_eq!(rt; tree.network().names.as_slice().len(), 3);
-        }
-        Err(_) => assert!(rt; false),
-    }
+    let tree = unreached(alloc, &net)?;
+    let back = tree.tree_path(alloc, &net, 2, 0)?;
+    assert!(rt; tree.center(35, 2) == 2 && tree.center(TOP_LEVEL, 2) == 0);
+    assert!(rt;
+        leads_over(alloc, &tree, &net, 1, 2, &[1]) && leads_over(alloc, &tree, &net, 0, 2, &[0, 1])
+    );
+    assert!(rt; back.is_none() && tree.network().names.as_slice().len() == 3);
     Ok(())
 }
 
 #[test]
-fn over_centers_and_without_loops(rt: HostRuntime) -> Result<(), Fail> {
+fn a_tree_path_leads_over_the_center_of_both_nodes(rt: HostRuntime) -> Result<(), Fail> {
     let alloc = rt.alloc();
     let net = triangle(alloc)?;
-    match around(alloc, &net) {
-        Ok(tree) => assert!(rt; leads_over(alloc, &tree, &net, 1, 2, &[1, 2])),
-        Err(_) => assert!(rt; false),
-    }
-    match aside(alloc, &net) {
-        Ok(tree) => {
-            assert_eq!(rt; tree.center(10, 0), 1);
-            assert_eq!(rt; tree.center(10, 2), 0);
-            assert!(rt; leads_over(alloc, &tree, &net, 0, 2, &[2]));
-        }
-        Err(_) => assert!(rt; false),
-    }
+    let tree = around(alloc, &net)?;
+    assert!(rt; leads_over(alloc, &tree, &net, 1, 2, &[1, 2]));
+    Ok(())
+}
+
+#[test]
+fn a_tree_path_over_two_centers_has_no_loop(rt: HostRuntime) -> Result<(), Fail> {
+    let alloc = rt.alloc();
+    let net = triangle(alloc)?;
+    let tree = aside(alloc, &net)?;
+    assert!(rt; tree.center(10, 0) == 1 && tree.center(10, 2) == 0);
+    assert!(rt; leads_over(alloc, &tree, &net, 0, 2, &[2]));
     Ok(())
 }

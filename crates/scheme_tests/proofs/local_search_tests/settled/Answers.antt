@@ -19,10 +19,10 @@ forty = record { count = refl; small = All-cons (λ d. d ≤ 2 ^ 32) 40 [] (omeg
 
 pub parts-parts-requires-clause-pairs : goal.parts-parts-requires-clause-pairs
 parts-parts-requires-clause-pairs c =
-    let one = count _ _ _ c.in_ok-net.ensures c.requires (c.in_ok-settled.ensures.routing (pair_of (0, 1) ∷ [])) in
+    let one = count _ _ _ c.in_ok-commodities.ensures.net c.requires (c.in_ok-settled.ensures.routing (pair_of (0, 1) ∷ [])) in
     omega (arith, one)
 
 pub parts-parts-requires-clause-demands : goal.parts-parts-requires-clause-demands
 parts-parts-requires-clause-demands c =
-    let one = count _ _ _ c.in_ok-net.ensures c.requires (c.in_ok-settled.ensures.routing (pair_of (0, 1) ∷ [])) in
-    subst (λ n. AreDemands n c.in_ok-matrix.matrix.demand) (sym one) (subst (AreDemands 1) (sym c.in_ok-matrix.ensures) forty)
+    let one = count _ _ _ c.in_ok-commodities.ensures.net c.requires (c.in_ok-settled.ensures.routing (pair_of (0, 1) ∷ [])) in
+    subst (λ n. AreDemands n c.in_ok-commodities.commodities.matrix.demand) (sym one) (subst (AreDemands 1) (sym c.in_ok-commodities.ensures.matrix) forty)
