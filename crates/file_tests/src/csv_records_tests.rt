@@ -1,47 +1,52 @@
 //! Records of a file of comma-separated values, and numbers in their fields.
 use csv_records::*;
-use std::test::Fail;
 
 // Whether there is a next record, with this second field and so many fields.
-fn next_has(rows: &mut Rows, second: &str, fields: usize) -> Result<bool, te_model::Memory> {
-    if !rows.advance()? {
-        return Ok(false);
-    }
+fn next_has(rows: &mut Rows, second: &str, fields: usize) -> bool {
+    let found = rows.advance() == Ok(true);
     let of_three = rows.three_fields().is_some() == (fields == 3);
     let of_four = rows.four_fields().is_some() == (fields == 4);
-    Ok(of_three & of_four & (rows.field(1) == Some(second.as_bytes())))
+    found & of_three & of_four & (rows.field(1) == Some(second.as_bytes()))
 }
 
 // Whether three records follow, with these second fields and so many fields, and no more, however often one asks.
-fn three_records_follow(rows: &mut Rows) -> Result<bool, te_model::Memory> {
+fn three_records_follow(rows: &mut Rows) -> bool {
     for (second, fields) in [("b", 2), ("d,\"e\"", 3), ("h", 4)] {
-        if !next_has(rows, second, fields)? {
-            return Ok(false);
+        if !next_has(rows, second, fields) {
+            return false;
         }
     }
-    let first = rows.advance()?;
-    let again = rows.advance()?;
-    Ok(!first & !again)
+    let first = rows.advance();
+    let again = rows.advance();
+    first == Ok(false) && again == Ok(false)
 }
 
 #[test]
-fn records_in_order(rt: HostRuntime) -> Result<(), Fail> {
+fn records_in_order(rt: HostRuntime) {
     let mut rows = Rows::new(rt.alloc(), b"a,b\r\n\r\nc,\"d,\"\"e\"\"\",f\ng,h,i,j");
-    let follow = three_records_follow(&mut rows)?;
+    let follow = three_records_follow(&mut rows);
     assert!(rt; follow);
-    Ok(())
 }
 
+// A field, the least and the greatest number, and the number that the field spells between them.
+const NUMBERS: &[(&str, u64, u64, Option<u64>)] = &[
+    // The greatest number with leading zeros, and one above it.
+    ("0004294967", 1, 4294967, Some(4294967)),
+    ("4294968", 1, 4294967, None),
+    // Eleven digits, none, and a sign.
+    ("00000000001", 0, 9, None),
+    ("", 0, 9, None),
+    ("+1", 0, 9, None),
+];
+
 #[test]
-fn numbers_within_bounds(rt: HostRuntime) -> Result<(), Fail> {
-    for (text, least, most, number) in [
-        ("0004294967", 1, 4294967, Some(4294967)),
-        ("4294968", 1, 4294967, None),
-        ("00000000001", 0, 9, None),
-        ("", 0, 9, None),
-        ("+1", 0, 9, None),
-    ] {
-        assert_eq!(rt; number_within(text.as_bytes(), least, most), number);
+fn numbers_within_bounds(rt: HostRuntime) {
+    for row in NUMBERS {
+        let (text, least, most, number) = *row;
+        assert_eq!(rt;
+            number_within(text.as_bytes(), least, most),
+            number,
+            "{text}"
+        );
     }
-    Ok(())
 }

@@ -3,151 +3,183 @@ ghost use Rattle.std.specs.Prelude.{IsTrue};
 ghost use Rattle.te_model.specs.Network.{is_well_formed};
 
 use failure::*;
-use sample_networks::four_nodes;
-use std::alloc::{AllocError, Global};
-use std::process::Abort;
-use std::test::Fail;
+use std::alloc::Global;
 use te_model::{Items, Memory, Network};
 
-// The fault of a file of outages of the four nodes over two steps.
-fn fault_of(
-    rt: &impl Abort,
-    alloc: Global,
-    text: &str,
-) -> Result<Option<FailureFault>, AllocError> {
-    let net = four_nodes(alloc)?;
-    assert!(rt; te_model::well_formed(&net));
-    Ok(read(alloc, &net, 2, text.as_bytes()).err())
+// The nodes s, t, x and y: a straight link from s to t, a way over x, and a narrow way over y to x.
+const FOUR_NODES: &[u8] =
+    b"source,target,capacity,cost\ns,t,10,1\ns,x,10,1\nx,t,10,1\ns,y,3,3\ny,x,3,3\n";
+
+// The first outage of a file of the four nodes over two steps, or the file's fault.
+fn first_outage(alloc: Global, text: &str) -> Result<Option<Outage>, FailureFault> {
+    let Ok(net) = topology::read(alloc, FOUR_NODES) else {
+        return Err(FailureFault::Memory);
+    };
+    let failures = read(alloc, &net, 2, text.as_bytes())?;
+    Ok(failures.list.as_slice().first().copied())
 }
+
+// A file, and its first outage or its fault.
+const FILES: &[(&str, Result<Option<Outage>, FailureFault>)] = &[
+    ("", Err(FailureFault::Header)),
+    ("from,to\n", Err(FailureFault::Header)),
+    (
+        "from,to,link\n0,1,1\n0,1\n9,9,9\n",
+        Err(FailureFault::Fields(2)),
+    ),
+    ("from,to,link\n1,0,x\n", Err(FailureFault::Number(1))),
+    ("from,to,link\n1,0,5\n", Err(FailureFault::NoSuchLink(1))),
+    ("from,to,link\n1,0,4\n", Err(FailureFault::Interval(1))),
+    ("from,to,link\n0,2,4\n", Err(FailureFault::Interval(1))),
+    ("from,to,link\n", Ok(None)),
+    (
+        "from,to,link\n1,1,1\n",
+        Ok(Some(Outage {
+            from: 1,
+            to: 1,
+            link: 1,
+        })),
+    ),
+];
 
 #[test]
-fn first_faults(rt: HostRuntime) -> Result<(), Fail> {
-    for (text, fault) in [
-        ("", Some(FailureFault::Header)),
-        ("from,to\n", Some(FailureFault::Header)),
-        (
-            "from,to,link\n0,1,1\n0,1\n9,9,9\n",
-            Some(FailureFault::Fields(2)),
-        ),
-        ("from,to,link\n1,0,x\n", Some(FailureFault::Number(1))),
-        ("from,to,link\n1,0,5\n", Some(FailureFault::NoSuchLink(1))),
-        ("from,to,link\n1,0,4\n", Some(FailureFault::Interval(1))),
-        ("from,to,link\n0,2,4\n", Some(FailureFault::Interval(1))),
-        ("from,to,link\n", None),
-    ] {
-        let found = fault_of(&rt, rt.alloc(), text)?;
-        assert_eq!(rt; found, fault);
+fn first_outages_and_faults(rt: HostRuntime) {
+    for row in FILES {
+        let (text, found) = *row;
+        assert_eq!(rt; first_outage(rt.alloc(), text), found, "{text}");
     }
-    Ok(())
 }
 
-// Whether these are the marks of the links in a step.
+// A step, and whether each of the five links has failed in it.
+type Marks = (u32, [bool; 5]);
+
+// Whether these are the marks of the links in a step, and the same is said of link 1 alone.
 fn marks_are(
     alloc: Global,
     net: &Network,
     failures: &Failures,
     step: u32,
-    wanted: &[bool],
+    wanted: [bool; 5],
 ) -> Result<bool, Memory>
     requires { IsTrue (is_well_formed net.now) }
 {
     let marks = failures.marks(alloc, net, step)?;
-    Ok(marks.as_slice() == wanted)
+    let alone = failures.failed_at(step, 1) == wanted[1];
+    Ok(alone & (marks.as_slice() == wanted.as_slice()))
 }
 
-// Whether the links of these numbers are left, the second of them from node 2, and all nodes.
-fn leaves(alloc: Global, net: &Network, failed: &[bool], origin: &[u32]) -> Result<bool, Memory>
-    requires { IsTrue (is_well_formed net.now) }
-{
-    if failed.len() != net.links.as_slice().len() {
-        return Ok(false);
-    }
-    let left = surviving(alloc, net, failed)?;
-    let from_two = match left.network.links.as_slice().get(1) {
-        Some(link) => link.tail == 2,
-        None => false,
-    };
-    let links = left.origin.as_slice() == origin;
-    Ok(from_two & links & (left.network.names == net.names))
-}
-
-// Whether link 1 fails in step 1, no link fails in step 0, link 1 alone in step 1, and the other links are then left.
-fn link_one_fails(alloc: Global, net: &Network, failures: &Failures) -> Result<[bool; 4], Memory>
-    requires { IsTrue (is_well_formed net.now) }
-{
-    let before = marks_are(alloc, net, failures, 0, &[false; 5])?;
-    let failed = failures.marks(alloc, net, 1)?;
-    let one = failed.as_slice() == [false, true, false, false, false].as_slice();
-    let left = leaves(alloc, net, &failed, &[0, 2, 3, 4])?;
-    Ok([failures.failed_at(1, 1), before, one, left])
-}
-
-#[test]
-fn one_link_fails_in_one_step(rt: HostRuntime) -> Result<(), Fail> {
-    let net = four_nodes(rt.alloc())?;
-    assert!(rt; te_model::well_formed(&net));
-    let failures = read(rt.alloc(), &net, 2, b"from,to,link\n1,1,1\n")?;
-    let found = link_one_fails(rt.alloc(), &net, &failures)?;
-    assert_eq!(rt; found, [true; 4]);
-    Ok(())
-}
-
-// The marks of the five links in each of the four steps of the outages below.
-const MARKS_OF_STEPS: [[bool; 5]; 4] = [
-    [false, true, false, false, false],
-    [false, true, false, false, false],
-    [false, true, false, false, true],
-    [false, false, false, false, true],
-];
-
-// Of these outages two overlap, one touches them, one stands twice, and one names a link that is not there.
-fn outages(alloc: Global) -> Result<Failures, AllocError> {
-    let mut list = Vec::new(alloc);
-    for (from, to, link) in [
-        (0, 1, 1),
-        (1, 1, 1),
-        (2, 2, 1),
-        (2, 3, 4),
-        (2, 3, 4),
-        (0, 9, 7),
-    ] {
-        list.push(Outage { from, to, link })?;
-    }
-    Ok(Failures {
-        list: Items::new(list),
-    })
-}
-
-// Whether a series of four steps marks each step as the step alone is marked, and as is wanted here.
+// Whether a series of these steps marks each of them as is wanted, and as the step alone is marked.
 fn series_is(
     alloc: Global,
     net: &Network,
     failures: &Failures,
-    wanted: &[[bool; 5]; 4],
+    wanted: &[Marks],
 ) -> Result<bool, Memory>
     requires { IsTrue (is_well_formed net.now) }
 {
-    let series = failures.series(alloc, net, 4)?;
-    if series.len() != 4 {
-        return Ok(false);
-    }
-    for step in 0..4 {
-        let marks = wanted[step].as_slice();
-        if series[step].as_slice() != marks
-            || !marks_are(alloc, net, failures, step as u32, marks)?
-        {
+    let series = failures.series(alloc, net, wanted.len())?;
+    for (found, row) in series.iter().zip(wanted) {
+        let (step, marks) = *row;
+        let alone = marks_are(alloc, net, failures, step, marks);
+        if found.as_slice() != marks.as_slice() || alone != Ok(true) {
             return Ok(false);
         }
     }
-    Ok(true)
+    Ok(series.len() == wanted.len())
+}
+
+// Whether these outages of the four nodes mark the links so.
+fn outages_mark(alloc: Global, outages: &[Outage], wanted: &[Marks]) -> Result<bool, Memory> {
+    let Ok(net) = topology::read(alloc, FOUR_NODES) else {
+        return Err(Memory);
+    };
+    let list = Items::new(Vec::from_slice(alloc, outages)?);
+    series_is(alloc, &net, &Failures { list }, wanted)
+}
+
+// Outages, and the marks of each step.
+const SERIES: &[(&[Outage], &[Marks])] = &[
+    // One link fails in one step.
+    (
+        &[Outage {
+            from: 1,
+            to: 1,
+            link: 1,
+        }],
+        &[(0, [false; 5]), (1, [false, true, false, false, false])],
+    ),
+    // Two outages overlap, one touches them, one stands twice, and one names a link that is not there.
+    (
+        &[
+            Outage {
+                from: 0,
+                to: 1,
+                link: 1,
+            },
+            Outage {
+                from: 1,
+                to: 1,
+                link: 1,
+            },
+            Outage {
+                from: 2,
+                to: 2,
+                link: 1,
+            },
+            Outage {
+                from: 2,
+                to: 3,
+                link: 4,
+            },
+            Outage {
+                from: 2,
+                to: 3,
+                link: 4,
+            },
+            Outage {
+                from: 0,
+                to: 9,
+                link: 7,
+            },
+        ],
+        &[
+            (0, [false, true, false, false, false]),
+            (1, [false, true, false, false, false]),
+            (2, [false, true, false, false, true]),
+            (3, [false, false, false, false, true]),
+        ],
+    ),
+];
+
+#[test]
+fn outages_of_a_series(rt: HostRuntime) {
+    for row in SERIES {
+        let (outages, wanted) = *row;
+        let found = outages_mark(rt.alloc(), outages, wanted);
+        assert_eq!(rt; found, Ok(true), "{} outages", outages.len());
+    }
+}
+
+// Whether the links of these numbers are left of the four nodes, the second of them being link 2, and all nodes.
+fn leaves(alloc: Global, failed: &[bool], origin: &[u32]) -> Result<bool, Memory> {
+    let Ok(net) = topology::read(alloc, FOUR_NODES) else {
+        return Err(Memory);
+    };
+    if failed.len() != net.links.as_slice().len() {
+        return Ok(false);
+    }
+    let left = surviving(alloc, &net, failed)?;
+    let second = left.network.links.as_slice().get(1) == net.links.as_slice().get(2);
+    let links = left.origin.as_slice() == origin;
+    Ok(second & links & (left.network.names == net.names))
 }
 
 #[test]
-fn outages_of_a_series(rt: HostRuntime) -> Result<(), Fail> {
-    let net = four_nodes(rt.alloc())?;
-    assert!(rt; te_model::well_formed(&net));
-    let failures = outages(rt.alloc())?;
-    let as_wanted = series_is(rt.alloc(), &net, &failures, &MARKS_OF_STEPS)?;
-    assert!(rt; as_wanted);
-    Ok(())
+fn links_that_have_not_failed_are_left(rt: HostRuntime) {
+    let found = leaves(
+        rt.alloc(),
+        &[false, true, false, false, false],
+        &[0, 2, 3, 4],
+    );
+    assert_eq!(rt; found, Ok(true));
 }

@@ -1,83 +1,96 @@
 //! Plans: their faults, and what a plan says where a member is left out.
 use plan::*;
-use std::alloc::{AllocError, Global};
-use std::test::Fail;
+use std::alloc::Global;
 
 // The fault of a plan.
 fn fault_of(alloc: Global, bytes: &[u8]) -> Option<PlanFault> {
     read_plan(alloc, bytes).err()
 }
 
-// The fault of a plan with these members beside the two that it must have.
-fn fault_with(alloc: Global, members: &str) -> Result<Option<PlanFault>, AllocError> {
-    let text = format!(in alloc; "{{\"topology\":\"t\",\"matrices\":\"m\",{members}}}")?;
-    Ok(fault_of(alloc, text.as_bytes()))
-}
+// A plan, and its fault.
+const FAULTS: &[(&str, PlanFault)] = &[
+    // Of the whole plan.
+    ("no json", PlanFault::NotJson),
+    ("[]", PlanFault::Kind(Key::Plan)),
+    (r#"{"plan":1}"#, PlanFault::UnknownKey),
+    ("{}", PlanFault::Missing(Key::Topology)),
+    (r#"{"topology":1}"#, PlanFault::Missing(Key::Matrices)),
+    (
+        r#"{"topology":"","matrices":1}"#,
+        PlanFault::Range(Key::Topology),
+    ),
+    // Of numbers and names.
+    (
+        r#"{"topology":"t","matrices":"m","k":0}"#,
+        PlanFault::Range(Key::K),
+    ),
+    (
+        r#"{"topology":"t","matrices":"m","k":4.0}"#,
+        PlanFault::Kind(Key::K),
+    ),
+    (
+        r#"{"topology":"t","matrices":"m","seed":18446744073709551616}"#,
+        PlanFault::Kind(Key::Seed),
+    ),
+    (
+        r#"{"topology":"t","matrices":"m","publish":"smore"}"#,
+        PlanFault::SchemeName(Key::Publish),
+    ),
+    (
+        r#"{"topology":"t","matrices":"m","recovery":"spare"}"#,
+        PlanFault::Range(Key::Recovery),
+    ),
+    // Of lists.
+    (
+        r#"{"topology":"t","matrices":"m","schemes":[]}"#,
+        PlanFault::Range(Key::Schemes),
+    ),
+    (
+        r#"{"topology":"t","matrices":"m","schemes":["x",1]}"#,
+        PlanFault::Kind(Key::Schemes),
+    ),
+    (
+        r#"{"topology":"t","matrices":"m","schemes":["spf","x"]}"#,
+        PlanFault::SchemeName(Key::Schemes),
+    ),
+    (
+        r#"{"topology":"t","matrices":"m","margin":[2]}"#,
+        PlanFault::Kind(Key::Margin),
+    ),
+    (
+        r#"{"topology":"t","matrices":"m","margin":[1,2]}"#,
+        PlanFault::Range(Key::Margin),
+    ),
+    // Of the envelope, which may not stand beside a margin.
+    (
+        r#"{"topology":"t","matrices":"m","envelope":1}"#,
+        PlanFault::Kind(Key::Envelope),
+    ),
+    (
+        r#"{"topology":"t","matrices":"m","envelope":"true","margin":[2,1]}"#,
+        PlanFault::Kind(Key::Envelope),
+    ),
+    (
+        r#"{"topology":"t","matrices":"m","envelope":true,"margin":[2,1]}"#,
+        PlanFault::Range(Key::Envelope),
+    ),
+    (
+        r#"{"topology":"t","matrices":"m","envelope":1,"seed":-1}"#,
+        PlanFault::Kind(Key::Seed),
+    ),
+];
 
 #[test]
-fn faults_of_whole_plans(rt: HostRuntime) -> Result<(), Fail> {
-    let alloc = rt.alloc();
-    for (bytes, fault) in [
-        (b"no json".as_slice(), PlanFault::NotJson),
-        (b"\"\xff\"".as_slice(), PlanFault::NotJson),
-        (b"[]".as_slice(), PlanFault::Kind(Key::Plan)),
-        (b"{\"plan\":1}".as_slice(), PlanFault::UnknownKey),
-        (b"{}".as_slice(), PlanFault::Missing(Key::Topology)),
-        (
-            b"{\"topology\":1}".as_slice(),
-            PlanFault::Missing(Key::Matrices),
-        ),
-        (
-            b"{\"topology\":\"\",\"matrices\":1}".as_slice(),
-            PlanFault::Range(Key::Topology),
-        ),
-    ] {
-        assert_eq!(rt; fault_of(alloc, bytes), Some(fault));
+fn first_faults(rt: HostRuntime) {
+    for row in FAULTS {
+        let (text, fault) = *row;
+        assert_eq!(rt;
+            fault_of(rt.alloc(), text.as_bytes()),
+            Some(fault),
+            "{text}"
+        );
     }
-    Ok(())
-}
-
-#[test]
-fn faults_of_members(rt: HostRuntime) -> Result<(), Fail> {
-    let alloc = rt.alloc();
-    for (members, fault) in [
-        ("\"k\":0", PlanFault::Range(Key::K)),
-        ("\"k\":4.0", PlanFault::Kind(Key::K)),
-        ("\"seed\":18446744073709551616", PlanFault::Kind(Key::Seed)),
-        ("\"publish\":\"smore\"", PlanFault::SchemeName(Key::Publish)),
-        ("\"recovery\":\"spare\"", PlanFault::Range(Key::Recovery)),
-        ("\"schemes\":[]", PlanFault::Range(Key::Schemes)),
-        ("\"schemes\":[\"x\",1]", PlanFault::Kind(Key::Schemes)),
-        (
-            "\"schemes\":[\"spf\",\"x\"]",
-            PlanFault::SchemeName(Key::Schemes),
-        ),
-        ("\"margin\":[2]", PlanFault::Kind(Key::Margin)),
-        ("\"margin\":[1,2]", PlanFault::Range(Key::Margin)),
-        ("\"envelope\":1", PlanFault::Kind(Key::Envelope)),
-        (
-            "\"envelope\":\"true\",\"margin\":[2,1]",
-            PlanFault::Kind(Key::Envelope),
-        ),
-        (
-            "\"envelope\":true,\"margin\":[2,1]",
-            PlanFault::Range(Key::Envelope),
-        ),
-        ("\"envelope\":1,\"seed\":-1", PlanFault::Kind(Key::Seed)),
-    ] {
-        let found = fault_with(alloc, members)?;
-        assert_eq!(rt; found, Some(fault));
-    }
-    Ok(())
-}
-
-#[test]
-fn members_without_a_fault(rt: HostRuntime) -> Result<(), Fail> {
-    for members in ["\"k\":0,\"k\":32", "\"envelope\":false,\"margin\":[2,1]"] {
-        let found = fault_with(rt.alloc(), members)?;
-        assert_eq!(rt; found, None);
-    }
-    Ok(())
+    assert_eq!(rt; fault_of(rt.alloc(), b"\"\xff\""), Some(PlanFault::NotJson));
 }
 
 // Whether a plan reads the files t and m, whether it has a file of failures, and whether it compares these schemes.
@@ -105,33 +118,57 @@ fn said(
     Ok((files_and_schemes(&plan, schemes), choices, numbers))
 }
 
+// A plan, the schemes that it compares, whether it has a file of failures, its choices and its numbers.
+const PLANS: &[(&str, &[SchemeName], bool, Choices, Numbers)] = &[
+    // Nothing but the two files.
+    (
+        r#"{"topology":"t","matrices":"m"}"#,
+        &SchemeName::ALL,
+        false,
+        (Recovery::Keep, SchemeName::Racke, None, false),
+        (4, 4, 8, 0),
+    ),
+    (
+        r#"{"topology":"t","matrices":"m","failures":"f","schemes":["smore"],"recovery":"bypass","publish":"ksp","margin":[3,2],"seed":18446744073709551615}"#,
+        &[SchemeName::Smore],
+        true,
+        (Recovery::Bypass, SchemeName::Ksp, Some((3, 2)), false),
+        (4, 4, 8, u64::MAX),
+    ),
+    (
+        r#"{"envelope":true,"topology":"t","matrices":"m"}"#,
+        &SchemeName::ALL,
+        false,
+        (Recovery::Keep, SchemeName::Racke, None, true),
+        (4, 4, 8, 0),
+    ),
+    // A key that stands twice, first with a fault.
+    (
+        r#"{"topology":"t","matrices":"m","k":0,"k":32}"#,
+        &SchemeName::ALL,
+        false,
+        (Recovery::Keep, SchemeName::Racke, None, false),
+        (32, 4, 8, 0),
+    ),
+    // No envelope, beside a margin.
+    (
+        r#"{"topology":"t","matrices":"m","envelope":false,"margin":[2,1]}"#,
+        &SchemeName::ALL,
+        false,
+        (Recovery::Keep, SchemeName::Racke, Some((2, 1)), false),
+        (4, 4, 8, 0),
+    ),
+];
+
 #[test]
-fn defaults_and_values(rt: HostRuntime) -> Result<(), Fail> {
-    for (text, schemes, files, choices, numbers) in [
-        (
-            "{\"topology\":\"t\",\"matrices\":\"m\"}",
-            SchemeName::ALL.as_slice(),
-            (true, false, true),
-            (Recovery::Keep, SchemeName::Racke, None, false),
-            (4, 4, 8, 0),
-        ),
-        (
-            "{\"topology\":\"t\",\"matrices\":\"m\",\"failures\":\"f\",\"schemes\":[\"smore\"],\"recovery\":\"bypass\",\"publish\":\"ksp\",\"margin\":[3,2],\"seed\":18446744073709551615}",
-            [SchemeName::Smore].as_slice(),
-            (true, true, true),
-            (Recovery::Bypass, SchemeName::Ksp, Some((3, 2)), false),
-            (4, 4, 8, u64::MAX),
-        ),
-        (
-            "{\"envelope\":true,\"topology\":\"t\",\"matrices\":\"m\"}",
-            SchemeName::ALL.as_slice(),
-            (true, false, true),
-            (Recovery::Keep, SchemeName::Racke, None, true),
-            (4, 4, 8, 0),
-        ),
-    ] {
-        let found = said(rt.alloc(), text, schemes)?;
-        assert_eq!(rt; found, (files, choices, numbers));
+fn defaults_and_values(rt: HostRuntime) {
+    for row in PLANS {
+        let (text, schemes, fails, choices, numbers) = *row;
+        let found = said(rt.alloc(), text, schemes);
+        assert_eq!(rt;
+            found,
+            Ok(((true, fails, true), choices, numbers)),
+            "{text}"
+        );
     }
-    Ok(())
 }

@@ -4,9 +4,20 @@ ghost use Rattle.std.specs.Prelude.{◌≤◌, if◌then◌else◌, nat_eq, slic
 use std::alloc::{AllocError, Global};
 use std::cell::Cell;
 use std::io::{self, Cursor, ErrorKind, Read, Seek, SeekFrom, Write};
-use std::process::Abort;
 use std::test::Fail;
 use te_ports::*;
+
+// A depot that gives the text of one file in pieces of so many bytes. The file had another text before, and the read of
+// that number fails.
+fn file_of(alloc: Global, text: &str, piece: usize, failing: u64) -> Result<MemDepot, AllocError>
+    requires { 1 ≤ piece }
+{
+    let mut files = MemDepot::new(alloc, piece)?;
+    files.add("file", b"other")?;
+    files.add("file", text.as_bytes())?;
+    files.fail_at(failing)?;
+    Ok(files)
+}
 
 // Whether a file is loaded as this text, or why it is not loaded.
 fn loads_as(
@@ -20,89 +31,50 @@ fn loads_as(
     Ok(bytes.as_slice() == text.as_bytes())
 }
 
-// What loads of a depot with the file `five` alone answer: whole, over the limit, of no file, and before and after a
-// read that fails.
-fn five_loads(
-    alloc: Global,
-    depot: &mut MemDepot,
-) -> Result<[Result<bool, LoadFault>; 5], AllocError> {
-    let whole = loads_as(alloc, depot, "five", 5, "bytes");
-    let longer = loads_as(alloc, depot, "five", 4, "");
-    let unknown = loads_as(alloc, depot, "none", 4, "");
-    // The calls so far are four, three and one.
-    depot.fail_at(9)?;
-    let failed = loads_as(alloc, depot, "five", 5, "");
-    let again = loads_as(alloc, depot, "five", 5, "bytes");
-    Ok([whole, longer, unknown, failed, again])
-}
+// Loads of a depot, one after another: the name of a file, the limit, the text, and the answer.
+const LOADS: &[(&str, u8, &str, Result<bool, LoadFault>)] = &[
+    // The whole file by four reads, one byte more than the limit by three, and no file by one.
+    ("file", 5, "bytes", Ok(true)),
+    ("file", 4, "", Err(LoadFault::TooLong)),
+    ("none", 4, "", Err(LoadFault::Failed)),
+    // The second read of the next load, which is number 9, fails, and none after it.
+    ("file", 5, "", Err(LoadFault::Failed)),
+    ("file", 5, "bytes", Ok(true)),
+];
 
 #[test]
 fn files_are_loaded_up_to_a_limit(rt: HostRuntime) -> Result<(), Fail> {
-    let mut depot = MemDepot::new(rt.alloc(), 2)?;
-    depot.add("five", b"other")?;
-    depot.add("five", b"bytes")?;
-    let answers = five_loads(rt.alloc(), &mut depot)?;
-    let failed = Err(LoadFault::Failed);
-    let long = Err(LoadFault::TooLong);
-    assert_eq!(rt; answers, [Ok(true), long, failed, failed, Ok(true)]);
+    let mut depot = file_of(rt.alloc(), "bytes", 2, 9)?;
+    for row in LOADS {
+        let (name, limit, text, answer) = *row;
+        let found = loads_as(rt.alloc(), &mut depot, name, limit, text);
+        assert_eq!(rt; found, answer, "{name} {limit}");
+    }
     Ok(())
 }
 
 #[test]
 fn every_file_of_a_depot_without_faults_is_loaded(rt: HostRuntime) -> Result<(), Fail> {
-    let alloc = rt.alloc();
-    let mut depot = SureDepot::new(alloc)?;
-    depot.add("five", b"bytes")?;
-    let known = loads_as(alloc, &mut depot, "five", 5, "bytes");
-    let unknown = loads_as(alloc, &mut depot, "none", 0, "");
-    assert_eq!(rt; (known, unknown), (Ok(true), Ok(true)));
+    let mut depot = SureDepot::new(rt.alloc())?;
+    let added = depot.add("file", b"bytes");
+    let known = loads_as(rt.alloc(), &mut depot, "file", 5, "bytes");
+    let unknown = loads_as(rt.alloc(), &mut depot, "none", 0, "");
+    assert_eq!(rt; (added, known, unknown), (Ok(()), Ok(true), Ok(true)));
     Ok(())
 }
 
-// Whether the text is written, and whether the sink then holds these bytes.
-fn put_as(sink: &mut MemSink, text: &str, held: &str) -> (bool, bool) {
-    let answer = put_all(sink, text.as_bytes());
-    (answer.is_ok(), sink.bytes() == held.as_bytes())
-}
-
-#[test]
-fn a_text_is_written_as_far_as_there_is_room(rt: HostRuntime) -> Result<(), Fail> {
-    let mut sink = MemSink::new(rt.alloc(), 6, 4)?;
-    let put = put_as(&mut sink, "ten bytes.", "ten by");
-    assert_eq!(rt; put, (false, true));
-    Ok(())
-}
-
-#[test]
-fn a_text_is_written_up_to_a_failure(rt: HostRuntime) -> Result<(), Fail> {
-    let mut sink = MemSink::new(rt.alloc(), 10, 4)?;
-    sink.fail_at(1)?;
-    let first = put_as(&mut sink, "ten bytes.", "ten ");
-    let rest = put_as(&mut sink, "bytes.", "ten bytes.");
-    assert_eq!(rt; (first, rest), ((false, true), (true, true)));
-    Ok(())
-}
-
-#[test]
-fn a_sink_without_faults_counts_the_bytes(rt: HostRuntime) -> Result<(), Fail> {
-    let mut sink = SureSink::new();
-    assert_eq!(rt; put_all(&mut sink, b"ten bytes."), Ok(()));
-    assert_eq!(rt; sink.count(), 10);
-    Ok(())
-}
-
-// Whether a read of the file `five` gave this text at this place.
-fn is_read_of_five(read: &Entry, at: u64, text: &str) -> bool {
+// Whether a read of the file gave this text at this place.
+fn is_read_of_file(read: &Entry, at: u64, text: &str) -> bool {
     let is_text = read.bytes.as_slice() == text.as_bytes();
-    is_text & (read.at == at) & (read.name.as_str() == "five")
+    is_text & (read.at == at) & (read.name.as_str() == "file")
 }
 
-// Whether these are four reads of the file `five`, from its start to its end.
-fn are_reads_of_five(reads: &[Entry]) -> bool {
+// Whether these are four reads of the file, from its start to its end.
+fn are_reads_of_file(reads: &[Entry]) -> bool {
     match reads {
         [first, second, third, end] => {
-            let starts = is_read_of_five(first, 0, "by") & is_read_of_five(second, 2, "te");
-            starts & is_read_of_five(third, 4, "s") & is_read_of_five(end, 5, "")
+            let starts = is_read_of_file(first, 0, "by") & is_read_of_file(second, 2, "te");
+            starts & is_read_of_file(third, 4, "s") & is_read_of_file(end, 5, "")
         }
         _ => false,
     }
@@ -110,24 +82,22 @@ fn are_reads_of_five(reads: &[Entry]) -> bool {
 
 // What a read that fails and one into no room answer, and how many reads are then on record.
 fn two_more_reads(depot: &mut RecordDepot<MemDepot>) -> ([Result<usize, Failed>; 2], usize) {
-    let failed = depot.fetch("five", 0, &mut [0; 2]);
-    let nothing = depot.fetch("five", 0, &mut []);
+    let failed = depot.fetch("file", 0, &mut [0; 2]);
+    let nothing = depot.fetch("file", 0, &mut []);
     ([failed, nothing], depot.reads().len())
 }
 
 #[test]
 fn a_record_holds_a_file_from_its_start_to_its_end(rt: HostRuntime) -> Result<(), Fail> {
-    let alloc = rt.alloc();
-    let mut files = MemDepot::new(alloc, 2)?;
-    files.add("five", b"bytes")?;
-    files.fail_at(4)?;
-    let mut depot = RecordDepot::new(alloc, files);
-    let loaded = loads_as(alloc, &mut depot, "five", 5, "bytes");
+    let files = file_of(rt.alloc(), "bytes", 2, 4)?;
+    let mut depot = RecordDepot::new(rt.alloc(), files);
+    let loaded = loads_as(rt.alloc(), &mut depot, "file", 5, "bytes");
+    let recorded = are_reads_of_file(depot.reads());
+    let more = two_more_reads(&mut depot);
     assert_eq!(rt;
-        (loaded, are_reads_of_five(depot.reads())),
-        (Ok(true), true)
+        (loaded, recorded, more),
+        (Ok(true), true, ([Err(Failed), Ok(0)], 4))
     );
-    assert_eq!(rt; two_more_reads(&mut depot), ([Err(Failed), Ok(0)], 4));
     Ok(())
 }
 
@@ -159,50 +129,88 @@ fn end_of_reads(reads: &[Entry]) -> Option<u64> {
 
 // Whether a file of this text in pieces of so many bytes is loaded as it is, or why it is not loaded, and where the
 // reads end.
-fn load_in_pieces(
-    alloc: Global,
-    piece: usize,
-    text: &str,
-) -> Result<(Result<bool, LoadFault>, Option<u64>), AllocError>
+fn load_in_pieces(alloc: Global, piece: usize, text: &str) -> (Result<bool, LoadFault>, Option<u64>)
     requires { 1 ≤ piece }
 {
-    let mut files = MemDepot::new(alloc, piece)?;
-    files.add("file", text.as_bytes())?;
+    let Ok(files) = file_of(alloc, text, piece, u64::MAX) else {
+        return (Err(LoadFault::Memory), None);
+    };
     let mut depot = RecordDepot::new(alloc, files);
     let answer = match load_within(alloc, &mut depot, "file", &BySecond) {
         Ok(bytes) => Ok(bytes.as_slice() == text.as_bytes()),
         Err(fault) => Err(fault),
     };
-    Ok((answer, end_of_reads(depot.reads())))
+    (answer, end_of_reads(depot.reads()))
 }
 
-// Files in pieces of so many bytes: each read begins where the one before it ended, and they end one byte past the limit
-// at the latest.
-fn read_once_up_to_the_limit(rt: &impl Abort, alloc: Global, piece: usize) -> Result<(), Fail>
-    requires { 1 ≤ piece }
-{
-    let long = Err(LoadFault::TooLong);
-    for (text, answer, end) in [
-        ("", Ok(true), 0),
-        ("a", Ok(true), 1),
-        ("abc", Ok(true), 3),
-        ("abcdefgh", long, 4),
-        ("!bcdefgh", long, 4),
-        ("a!cdef", Ok(true), 6),
-        ("a!cdefgh", long, 7),
-    ] {
-        let given = load_in_pieces(alloc, piece, text)?;
-        assert_eq!(rt; given, (answer, Some(end)), "{text}");
+// A file, whether it is loaded, and where its reads end, which is one byte past the limit at the latest.
+const LIMITS: &[(&str, Result<bool, LoadFault>, u64)] = &[
+    ("", Ok(true), 0),
+    ("a", Ok(true), 1),
+    ("abc", Ok(true), 3),
+    ("abcdefgh", Err(LoadFault::TooLong), 4),
+    ("!bcdefgh", Err(LoadFault::TooLong), 4),
+    ("a!cdef", Ok(true), 6),
+    ("a!cdefgh", Err(LoadFault::TooLong), 7),
+];
+
+#[test]
+fn a_limit_may_hang_on_the_first_bytes(rt: HostRuntime) {
+    for row in LIMITS {
+        let (text, answer, end) = *row;
+        let found = [
+            load_in_pieces(rt.alloc(), 1, text),
+            load_in_pieces(rt.alloc(), 2, text),
+            load_in_pieces(rt.alloc(), 64, text),
+        ];
+        assert_eq!(rt; found, [(answer, Some(end)); 3], "{text}");
     }
-    Ok(())
+}
+
+// Whether the text is written, and whether the sink then holds these bytes.
+fn put_as(sink: &mut MemSink, text: &str, held: &str) -> (bool, bool) {
+    let answer = put_all(sink, text.as_bytes());
+    (answer.is_ok(), sink.bytes() == held.as_bytes())
+}
+
+// Whether a sink with so much room takes all ten bytes, and then the last six of them, and whether it holds these bytes
+// after each. The call of that number fails.
+fn put_twice(
+    alloc: Global,
+    room: usize,
+    failing: u64,
+    held: [&str; 2],
+) -> Result<[(bool, bool); 2], AllocError> {
+    let [held_first, held_last] = held;
+    let mut sink = MemSink::new(alloc, room, 4)?;
+    sink.fail_at(failing)?;
+    let first = put_as(&mut sink, "ten bytes.", held_first);
+    let last = put_as(&mut sink, "bytes.", held_last);
+    Ok([first, last])
+}
+
+// The room, the call that fails, what the sink holds after each text, and whether it takes the last one whole.
+const SINKS: &[(usize, u64, [&str; 2], bool)] = &[
+    // No room for more than six bytes.
+    (6, 99, ["ten by", "ten by"], false),
+    // The second call fails, and none after it.
+    (10, 1, ["ten ", "ten bytes."], true),
+];
+
+#[test]
+fn a_text_is_written_up_to_a_failure_and_as_far_as_there_is_room(rt: HostRuntime) {
+    for row in SINKS {
+        let (room, failing, held, takes_last) = *row;
+        let found = put_twice(rt.alloc(), room, failing, held);
+        assert_eq!(rt; found, Ok([(false, true), (takes_last, true)]), "{room}");
+    }
 }
 
 #[test]
-fn a_limit_may_hang_on_the_first_bytes(rt: HostRuntime) -> Result<(), Fail> {
-    let alloc = rt.alloc();
-    read_once_up_to_the_limit(&rt, alloc, 1)?;
-    read_once_up_to_the_limit(&rt, alloc, 2)?;
-    read_once_up_to_the_limit(&rt, alloc, 64)
+fn a_sink_without_faults_counts_the_bytes(rt: HostRuntime) {
+    let mut sink = SureSink::new();
+    let put = put_all(&mut sink, b"ten bytes.");
+    assert_eq!(rt; (put, sink.count()), (Ok(()), 10));
 }
 
 // A file in memory that gives three bytes a read, after so many reads that a signal interrupts, and counts its seeks.
@@ -249,36 +257,35 @@ impl Disk for OneFile<'_> {
 }
 
 // What two loads of a file answer, and the count of seeks after each.
-fn load_twice(
-    alloc: Global,
-    text: &str,
-    interrupted: u8,
-) -> Result<[(Result<bool, LoadFault>, u8); 2], AllocError> {
+fn load_twice(alloc: Global, text: &str, interrupted: u8) -> [(Result<bool, LoadFault>, u8); 2] {
     let seeks = Cell::new(0);
     let file = SlowFile {
         bytes: Cursor::new(text.as_bytes()),
         interrupted,
         seeks: &seeks,
     };
-    let file = OpenFile::new(String::from_str(alloc, text)?, file);
+    let file = OpenFile::new(String::new(alloc), file);
     let mut depot = RealDepot::over(OneFile { file });
-    let first = loads_as(alloc, &mut depot, text, 10, text);
+    let first = loads_as(alloc, &mut depot, "file", 10, text);
     let seeks_before = seeks.get();
-    let second = loads_as(alloc, &mut depot, text, 10, text);
-    Ok([(first, seeks_before), (second, seeks.get())])
+    let second = loads_as(alloc, &mut depot, "file", 10, text);
+    [(first, seeks_before), (second, seeks.get())]
 }
 
+// How many reads a signal interrupts, what the first load answers, and the count of seeks after the second.
+const INTERRUPTED: &[(u8, Result<bool, LoadFault>, u8)] = &[
+    (0, Ok(true), 1),
+    (99, Ok(true), 1),
+    (100, Err(LoadFault::Failed), 0),
+];
+
 #[test]
-fn a_file_is_read_in_order(rt: HostRuntime) -> Result<(), Fail> {
-    for (interrupted, first, seeks) in [
-        (0, Ok(true), 1),
-        (99, Ok(true), 1),
-        (100, Err(LoadFault::Failed), 0),
-    ] {
-        let answers = load_twice(rt.alloc(), "ten bytes.", interrupted)?;
-        assert_eq!(rt; answers, [(first, 0), (Ok(true), seeks)]);
+fn a_file_is_read_in_order(rt: HostRuntime) {
+    for row in INTERRUPTED {
+        let (interrupted, first, seeks) = *row;
+        let answers = load_twice(rt.alloc(), "ten bytes.", interrupted);
+        assert_eq!(rt; answers, [(first, 0), (Ok(true), seeks)], "{interrupted}");
     }
-    Ok(())
 }
 
 // A stream that takes so many bytes a write and in all, after so many writes that a signal interrupts.
@@ -325,17 +332,24 @@ fn put_in_parts(
     (answer.is_ok(), stream.bytes.as_slice() == taken.as_bytes())
 }
 
+// How many bytes a stream takes at once and in all, how many writes a signal interrupts, and what it then holds.
+const STREAMS: &[(usize, usize, u8, &str)] = &[
+    (4, 10, 0, "ten bytes."),
+    (1, 20, 99, "ten bytes."),
+    (4, 6, 0, "ten by"),
+    (0, 10, 0, ""),
+    (4, 10, 100, ""),
+];
+
 #[test]
-fn a_stream_takes_a_text_in_parts(rt: HostRuntime) -> Result<(), Fail> {
-    for (piece, room, interrupted, taken) in [
-        (4, 10, 0, "ten bytes."),
-        (1, 20, 99, "ten bytes."),
-        (4, 6, 0, "ten by"),
-        (0, 10, 0, ""),
-        (4, 10, 100, ""),
-    ] {
+fn a_stream_takes_a_text_in_parts(rt: HostRuntime) {
+    for row in STREAMS {
+        let (piece, room, interrupted, taken) = *row;
         let put = put_in_parts(rt.alloc(), piece, room, interrupted, taken);
-        assert_eq!(rt; put, (taken.len() == 10, true), "{taken}");
+        assert_eq!(rt;
+            put,
+            (taken.len() == 10, true),
+            "{piece} {room} {interrupted}"
+        );
     }
-    Ok(())
 }
