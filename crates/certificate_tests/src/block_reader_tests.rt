@@ -1,10 +1,10 @@
 //! Certificates that are read one block at a time, against the reader of whole files.
-ghost use Rattle.std.specs.Prelude.{◌≤◌};
-
+use crate::cert_text_tests::{fault_of, is_printed, rule};
+use crate::window_tests::{NEVER, file_of};
 use block_reader::{BlockReader, StreamFault};
-use cert_text::{CertFault, print, read};
+use cert_text::CertFault::{self, Shape};
+use cert_text::read;
 use std::alloc::{AllocError, Global};
-use std::process::Abort;
 use std::test::Fail;
 use te_model::{Block, Certificate, Items, Row, RuleFault};
 use te_ports::{Depot, MemDepot, RecordDepot};
@@ -25,17 +25,84 @@ const MARGIN: &str =
 const BOX: &str =
     "yates-ratio 2\nnodes 3\na\nb\nc\nlinks 4\n0 2 10 1\n1 2 10 1\n0 1 10 1\n1 0 10 1\npairs 2\n0 2 1\n1000000 1 0\n1 2 1\n1000000 1 1\nset box\nlower 10 5\nupper 40 20\nratio 1000000\nblocks 2\n0 500000 1 2\n1 1 0 0\n0 0 0 1\n1 0 0 1\nplus 1 0\nminus 0 1\n1 500000 1 0\n1 1 0 0\nplus 0 1\nminus 1 0\nend\n";
 
-// Changes of each: the number of a line, and what stands there in its place.
-const PARALLEL_CHANGES: &str =
-    "1 yates-ratio 3\n1 yates-ratio 2\n1 yates-ratio 2 \n1 x\n2 nodes 65\n2 nodes 3\n4 a\n5 links 513\n6 0 4294967296 10 1\n8 pairs 4032\n9 0 0 2\n10 500000 1 1\n11 499999 1 1\n12 set any\n13 ratio 10000000000000000000\n13 ratio 18446744073709551616\n14 blocks 1\n14 blocks 3\n14 blocks 513\n15 1 500000 1 1\n15 4294967296 500000 1 1\n15 0 500000 1 64\n15 0 500000 1 65\n15 0 500000 0 1\n15 0 68719476737 1 1\n16 268435457 1\n16 01 1\n16 1\n16 1 1 1\n17 2 0 1\n17 0 0 68719476737\n18 0 500000 1 1\n19 1 268435457\n20 0  1\n21 end \n21 ended\n";
-
-const TRIANGLE_CHANGES: &str = "19 0 1000000 1 2\n21 3 0 0 1\n25 1 0 1 0\n";
-
-const MARGIN_CHANGES: &str =
-    "16 set box\n16 set margin 1 2\n17 base 10 4294967297\n24 plus 1\n25 minus 68719476737 1\n";
-
-const BOX_CHANGES: &str =
-    "1 yates-ratio 1\n2 nodes 129\n16 set margin 1 1\n17 lower 41 5\n18 upper 40 4503599627370497\n20 blocks 1025\n21 0 500000 1 128\n25 plus 0 1 0\n26 minus 0 68719476737\n";
+// A file, lines by their numbers with what stands there in their place, and the fault, if any.
+const FILES: &[(&str, &[(usize, &str)], Option<CertFault>)] = &[
+    // Nothing is changed, and the file is a certificate.
+    (PARALLEL, &[], None),
+    (TRIANGLE, &[], None),
+    (MARGIN, &[], None),
+    (BOX, &[], None),
+    // A line of two parallel links.
+    (PARALLEL, &[(1, "yates-ratio 3")], Some(Shape(1))),
+    (PARALLEL, &[(1, "yates-ratio 2")], None),
+    (PARALLEL, &[(1, "yates-ratio 2 ")], Some(Shape(1))),
+    (PARALLEL, &[(1, "x")], Some(Shape(1))),
+    (PARALLEL, &[(2, "nodes 65")], Some(Shape(2))),
+    (PARALLEL, &[(2, "nodes 3")], Some(Shape(5))),
+    (PARALLEL, &[(4, "a")], Some(rule!(1, 1))),
+    (PARALLEL, &[(5, "links 513")], Some(Shape(5))),
+    (PARALLEL, &[(6, "0 4294967296 10 1")], Some(rule!(2, 0))),
+    (PARALLEL, &[(8, "pairs 4032")], Some(Shape(12))),
+    (PARALLEL, &[(9, "0 0 2")], Some(rule!(3, 0))),
+    (PARALLEL, &[(10, "500000 1 1")], Some(rule!(5, 0))),
+    (PARALLEL, &[(11, "499999 1 1")], Some(rule!(6, 0))),
+    (PARALLEL, &[(12, "set any")], Some(Shape(12))),
+    (
+        PARALLEL,
+        &[(13, "ratio 10000000000000000000")],
+        Some(rule!(8, 0)),
+    ),
+    (
+        PARALLEL,
+        &[(13, "ratio 18446744073709551616")],
+        Some(Shape(13)),
+    ),
+    (PARALLEL, &[(14, "blocks 1")], Some(Shape(18))),
+    (PARALLEL, &[(14, "blocks 3")], Some(Shape(21))),
+    (PARALLEL, &[(14, "blocks 513")], Some(Shape(14))),
+    (PARALLEL, &[(15, "1 500000 1 1")], Some(rule!(8, 2))),
+    (
+        PARALLEL,
+        &[(15, "4294967296 500000 1 1")],
+        Some(rule!(8, 1)),
+    ),
+    (PARALLEL, &[(15, "0 500000 1 64")], Some(Shape(18))),
+    (PARALLEL, &[(15, "0 500000 1 65")], Some(Shape(15))),
+    (PARALLEL, &[(15, "0 500000 0 1")], Some(rule!(8, 1))),
+    (PARALLEL, &[(15, "0 68719476737 1 1")], Some(rule!(8, 1))),
+    (PARALLEL, &[(16, "268435457 1")], Some(rule!(9, 0))),
+    (PARALLEL, &[(16, "01 1")], Some(Shape(16))),
+    (PARALLEL, &[(16, "1")], Some(Shape(16))),
+    (PARALLEL, &[(16, "1 1 1")], Some(Shape(16))),
+    (PARALLEL, &[(17, "2 0 1")], Some(rule!(9, 0))),
+    (PARALLEL, &[(17, "0 0 68719476737")], Some(rule!(9, 0))),
+    (PARALLEL, &[(18, "0 500000 1 1")], Some(rule!(8, 2))),
+    (PARALLEL, &[(19, "1 268435457")], Some(rule!(9, 1))),
+    (PARALLEL, &[(20, "0  1")], Some(Shape(20))),
+    (PARALLEL, &[(21, "end ")], Some(Shape(21))),
+    (PARALLEL, &[(21, "ended")], Some(Shape(21))),
+    (PARALLEL, &[(19, "1 01")], Some(Shape(19))),
+    // A line of three nodes and all matrices.
+    (TRIANGLE, &[(19, "0 1000000 1 2")], Some(rule!(8, 2))),
+    (TRIANGLE, &[(21, "3 0 0 1")], Some(rule!(9, 0))),
+    (TRIANGLE, &[(25, "1 0 1 0")], Some(rule!(8, 3))),
+    // A line of a margin.
+    (MARGIN, &[(16, "set box")], Some(Shape(16))),
+    (MARGIN, &[(16, "set margin 1 2")], Some(rule!(7, 0))),
+    (MARGIN, &[(17, "base 10 4294967297")], Some(rule!(7, 2))),
+    (MARGIN, &[(24, "plus 1")], Some(Shape(24))),
+    (MARGIN, &[(25, "minus 68719476737 1")], Some(rule!(9, 0))),
+    // A line of a box.
+    (BOX, &[(1, "yates-ratio 1")], Some(Shape(16))),
+    (BOX, &[(2, "nodes 129")], Some(Shape(2))),
+    (BOX, &[(16, "set margin 1 1")], Some(Shape(16))),
+    (BOX, &[(17, "lower 41 5")], Some(rule!(7, 1))),
+    (BOX, &[(18, "upper 40 4503599627370497")], Some(rule!(7, 2))),
+    (BOX, &[(20, "blocks 1025")], Some(Shape(20))),
+    (BOX, &[(21, "0 500000 1 128")], Some(Shape(25))),
+    (BOX, &[(25, "plus 0 1 0")], Some(Shape(25))),
+    (BOX, &[(26, "minus 0 68719476737")], Some(rule!(9, 0))),
+];
 
 // The file, with another line in the place of each of these, counted from 1.
 fn changed(alloc: Global, file: &str, changes: &[(usize, &str)]) -> Result<String, AllocError> {
@@ -55,312 +122,221 @@ fn changed(alloc: Global, file: &str, changes: &[(usize, &str)]) -> Result<Strin
     Ok(text)
 }
 
-fn copy_items(alloc: Global, items: &Items<u64>) -> Result<Items<u64>, AllocError> {
-    Ok(Items::new(items.as_slice().to_vec(alloc)?))
-}
-
-fn copy_rows(alloc: Global, rows: &Items<Row>) -> Result<Items<Row>, Fail> {
-    let mut copies = Vec::new(alloc);
-    for row in rows.as_slice() {
-        copies.push(Row {
-            source: row.source,
-            potential: copy_items(alloc, &row.potential)?,
-        })?;
+fn are_same_rows(rows: &[Row], others: &[Row]) -> bool {
+    let mut same = rows.len() == others.len();
+    for (row, other) in rows.iter().zip(others) {
+        same = same && row.source == other.source && row.potential == other.potential;
     }
-    Ok(Items::new(copies))
+    same
 }
 
-fn copy_block(alloc: Global, block: &Block) -> Result<Block, Fail> {
-    Ok(Block {
-        link: block.link,
-        a: block.a,
-        b: block.b,
-        weights: copy_items(alloc, &block.weights)?,
-        rows: copy_rows(alloc, &block.rows)?,
-        plus: copy_items(alloc, &block.plus)?,
-        minus: copy_items(alloc, &block.minus)?,
-    })
+// Whether there is another block, and it is the same.
+fn is_same_block(block: &Block, other: Option<&Block>) -> bool {
+    match other {
+        Some(other) => {
+            (block.link, block.a, block.b) == (other.link, other.a, other.b)
+                && block.weights == other.weights
+                && are_same_rows(block.rows.as_slice(), other.rows.as_slice())
+                && block.plus == other.plus
+                && block.minus == other.minus
+        }
+        None => false,
+    }
 }
 
-// The blocks that a reader hands out, or the fault.
-fn handed_out<D: Depot>(
-    alloc: Global,
+// Whether a reader hands out these blocks before its end, or the fault to which it comes.
+fn hands_out<D: Depot>(
     depot: &mut D,
     reader: &mut BlockReader,
-) -> Result<Result<Vec<Block>, StreamFault>, Fail> {
-    let mut blocks = Vec::new(alloc);
-    for _ in 0..1025 {
+    blocks: &[Block],
+) -> Result<bool, StreamFault> {
+    let mut same = true;
+    for place in 0..1025 {
         match reader.next(depot) {
-            Ok(true) => blocks.push(copy_block(alloc, reader.block())?)?,
-            Ok(false) => break,
-            Err(fault) => return Ok(Err(fault)),
+            Ok(true) => same = is_same_block(reader.block(), blocks.get(place)) && same,
+            Ok(false) => return Ok(same && place == blocks.len()),
+            Err(fault) => return Err(fault),
         }
     }
-    Ok(Ok(blocks))
+    Ok(false)
 }
 
-// The text of what is handed out of the file, or its fault.
-fn streamed<D: Depot>(alloc: Global, depot: &mut D) -> Result<Result<Vec<u8>, StreamFault>, Fail> {
-    let (mut reader, head) = match BlockReader::open(alloc, depot, "file") {
-        Ok(opened) => opened,
-        Err(fault) => return Ok(Err(fault)),
-    };
-    match handed_out(alloc, depot, &mut reader)? {
-        Ok(blocks) => {
-            let blocks = Items::new(blocks);
-            Ok(Ok(print(alloc, &Certificate { head, blocks })?))
-        }
-        Err(fault) => Ok(Err(fault)),
+// The same, where the reader then tells its end or its fault again and reads no more.
+fn hands_out_and_stays(
+    depot: &mut RecordDepot<MemDepot>,
+    reader: &mut BlockReader,
+    blocks: &[Block],
+) -> Result<bool, StreamFault> {
+    let answer = hands_out(depot, reader, blocks);
+    let reads = depot.reads().len();
+    let again = reader.next(depot);
+    if again == Ok(true) || again.err() != answer.err() || depot.reads().len() != reads {
+        return Ok(false);
+    }
+    answer
+}
+
+// The blocks of the certificate that the bytes spell, or none.
+fn blocks_of(alloc: Global, bytes: &[u8]) -> Items<Block> {
+    match read(alloc, bytes) {
+        Ok(cert) => cert.blocks,
+        Err(_) => Items::new(Vec::new(alloc)),
     }
 }
 
-// What the reader of whole files answers.
-fn whole(alloc: Global, text: &str) -> Result<Result<Vec<u8>, StreamFault>, Fail> {
-    match read(alloc, text.as_bytes()) {
-        Ok(cert) => Ok(Ok(print(alloc, &cert)?)),
-        Err(CertFault::Shape(line)) => Ok(Err(StreamFault::Shape(line))),
-        Err(CertFault::Rule(fault)) => Ok(Err(StreamFault::Rule(fault))),
-        Err(CertFault::Memory) => Ok(Err(StreamFault::Memory)),
-    }
+// Whether the head and the blocks that are handed out of the file are the certificate of these bytes, or the fault.
+fn streamed(
+    alloc: Global,
+    depot: &mut RecordDepot<MemDepot>,
+    bytes: &[u8],
+) -> Result<bool, StreamFault> {
+    let (mut reader, head) = BlockReader::open(alloc, depot, "file")?;
+    let blocks = blocks_of(alloc, bytes);
+    let answer = hands_out_and_stays(depot, &mut reader, blocks.as_slice());
+    let cert = Certificate { head, blocks };
+    Ok(answer? && is_printed(alloc, &cert, bytes))
 }
 
-fn file_of(alloc: Global, text: &str, piece: usize) -> Result<RecordDepot<MemDepot>, Fail>
-    requires { 1 ≤ piece }
-{
-    let mut files = MemDepot::new(alloc, piece)?;
-    files.add("file", text.as_bytes())?;
-    Ok(RecordDepot::new(alloc, files))
-}
-
-// What is streamed of a file that is given in pieces of so many bytes.
+// The same of a file of which reads give so many bytes at once, and the read of that number fails.
 fn streamed_in_pieces(
     alloc: Global,
-    text: &str,
+    bytes: &[u8],
     piece: usize,
-) -> Result<Result<Vec<u8>, StreamFault>, Fail>
-    requires { 1 ≤ piece }
-{
-    let mut depot = file_of(alloc, text, piece)?;
-    streamed(alloc, &mut depot)
+    failing: u64,
+) -> Result<bool, StreamFault> {
+    let mut depot = file_of(alloc, bytes, piece, failing)?;
+    streamed(alloc, &mut depot, bytes)
 }
 
-// Both readers answer the same, of a file that is given in pieces of so many bytes.
-fn reads_alike(rt: &impl Abort, alloc: Global, text: &str, piece: usize) -> Result<(), Fail>
-    requires { 1 ≤ piece }
-{
-    let given = streamed_in_pieces(alloc, text, piece)?;
-    let due = whole(alloc, text)?;
-    assert_eq!(rt; given, due, "{text}");
-    Ok(())
+// What the reader of blocks answers where this is the fault of the file, or its certificate is handed out.
+fn answer_of(fault: Option<CertFault>) -> Result<bool, StreamFault> {
+    match fault {
+        None => Ok(true),
+        Some(Shape(line)) => Err(StreamFault::Shape(line)),
+        Some(CertFault::Rule(rule)) => Err(StreamFault::Rule(rule)),
+        Some(CertFault::Memory) => Err(StreamFault::Memory),
+    }
 }
 
-fn reads_alike_in_all_pieces(rt: &impl Abort, alloc: Global, text: &str) -> Result<(), Fail> {
+// Whether this is what both readers answer of a file, of which reads give so many bytes at once.
+fn is_answered(alloc: Global, bytes: &[u8], piece: usize, fault: Option<CertFault>) -> bool {
+    fault_of(alloc, bytes) == fault
+        && streamed_in_pieces(alloc, bytes, piece, NEVER) == answer_of(fault)
+}
+
+fn is_answered_in_all_pieces(alloc: Global, bytes: &[u8], fault: Option<CertFault>) -> bool {
     for piece in [1, 2, 3, 7, 64] {
-        reads_alike(rt, alloc, text, piece)?;
-    }
-    Ok(())
-}
-
-// Whether the text of what is handed out of a file is that of the file.
-fn is_handed_out(alloc: Global, text: &str) -> Result<bool, Fail> {
-    match streamed_in_pieces(alloc, text, 64)? {
-        Ok(bytes) => Ok(bytes.as_slice() == text.as_bytes()),
-        Err(_) => Ok(false),
-    }
-}
-
-#[test]
-fn whole_files_are_handed_out(rt: HostRuntime) -> Result<(), Fail> {
-    for text in [PARALLEL, TRIANGLE, MARGIN, BOX] {
-        let handed_out = is_handed_out(rt.alloc(), text)?;
-        assert!(rt; handed_out, "{text}");
-        reads_alike_in_all_pieces(&rt, rt.alloc(), text)?;
-    }
-    Ok(())
-}
-
-// The file with each of the changes in turn: the number of a line, and what stands there in its place.
-fn changes_are_read_alike(
-    rt: &impl Abort,
-    alloc: Global,
-    file: &str,
-    changes: &str,
-) -> Result<(), Fail> {
-    for change in changes.lines() {
-        if let Some((number, line)) = change.split_once(' ') {
-            let number = number.parse().unwrap_or(0);
-            let text = changed(alloc, file, &[(number, line)])?;
-            reads_alike_in_all_pieces(rt, alloc, text.as_str())?;
+        if !is_answered(alloc, bytes, piece, fault) {
+            return false;
         }
     }
-    Ok(())
+    true
 }
 
 #[test]
-fn faults_are_those_of_whole_files(rt: HostRuntime) -> Result<(), Fail> {
-    let alloc = rt.alloc();
-    for (file, changes) in [
-        (PARALLEL, PARALLEL_CHANGES),
-        (TRIANGLE, TRIANGLE_CHANGES),
-        (MARGIN, MARGIN_CHANGES),
-        (BOX, BOX_CHANGES),
-    ] {
-        changes_are_read_alike(&rt, alloc, file, changes)?;
+fn both_readers_give_the_same_certificates_and_faults(rt: HostRuntime) -> Result<(), Fail> {
+    for row in FILES {
+        let (file, changes, fault) = *row;
+        let text = changed(rt.alloc(), file, changes)?;
+        let answered = is_answered_in_all_pieces(rt.alloc(), text.as_bytes(), fault);
+        assert!(rt; answered, "{text}");
     }
     Ok(())
 }
 
-#[test]
-fn files_may_end_anywhere(rt: HostRuntime) -> Result<(), Fail> {
-    let alloc = rt.alloc();
-    let mut text = String::new(alloc);
-    for line in BOX.lines() {
-        text.push_str(line)?;
-        reads_alike(&rt, alloc, text.as_str(), 64)?;
-        text.push('\n')?;
-        reads_alike(&rt, alloc, text.as_str(), 64)?;
-    }
-    Ok(())
-}
-
-// The fault of two parallel links with these lines in the place of others.
-fn parallel_fault(alloc: Global, changes: &[(usize, &str)]) -> Result<Option<StreamFault>, Fail> {
-    let text = changed(alloc, PARALLEL, changes)?;
-    Ok(streamed_in_pieces(alloc, text.as_str(), 7)?.err())
-}
-
-// Two lines, by their numbers, what stands there in their place, and the number and the place of the rule that fails.
-const RULES: &[((usize, &str), (usize, &str), u8, u64)] = &[
-    ((16, "268435457 1"), (18, "0 500000 1 1"), 8, 2),
-    ((17, "0 0 68719476737"), (18, "1 500000 0 1"), 8, 2),
-    ((16, "268435457 1"), (19, "268435457 1"), 9, 0),
+// Lines of two parallel links, and of the two faults that they make the one that is told.
+const TWO_FAULTS: &[(&[(usize, &str)], CertFault)] = &[
+    // The least rule, of whatever blocks.
+    (&[(16, "268435457 1"), (18, "0 500000 1 1")], rule!(8, 2)),
     (
-        (13, "ratio 10000000000000000000"),
-        (18, "1 500000 0 1"),
-        8,
-        0,
+        &[(17, "0 0 68719476737"), (18, "1 500000 0 1")],
+        rule!(8, 2),
     ),
-    ((4, "a"), (18, "1 500000 0 1"), 1, 1),
+    (&[(16, "268435457 1"), (19, "268435457 1")], rule!(9, 0)),
+    (
+        &[(13, "ratio 10000000000000000000"), (18, "1 500000 0 1")],
+        rule!(8, 0),
+    ),
+    (&[(4, "a"), (18, "1 500000 0 1")], rule!(1, 1)),
+    // A line that leaves the format, before a rule.
+    (&[(16, "268435457 1"), (21, "end\n")], Shape(22)),
+    (&[(13, "ratio 1999999"), (21, "end\nx")], Shape(22)),
+    (&[(4, "a"), (19, "1 01")], Shape(19)),
+    (&[(16, "268435457 1"), (19, "1 01")], Shape(19)),
 ];
 
 #[test]
-fn the_least_rule_of_all_blocks_is_told(rt: HostRuntime) -> Result<(), Fail> {
-    for row in RULES {
-        let (first, second, number, place) = *row;
-        let found = parallel_fault(rt.alloc(), &[first, second])?;
-        assert_eq!(rt; found, Some(StreamFault::Rule(RuleFault { number, place })));
+fn the_first_of_two_faults_is_told(rt: HostRuntime) -> Result<(), Fail> {
+    for row in TWO_FAULTS {
+        let (changes, fault) = *row;
+        let text = changed(rt.alloc(), PARALLEL, changes)?;
+        let answered = is_answered(rt.alloc(), text.as_bytes(), 7, Some(fault));
+        assert!(rt; answered, "{text}");
     }
     Ok(())
 }
 
-// Two lines in the same way, and the line at which the format is left.
-const SHAPES: &[((usize, &str), (usize, &str), u64)] = &[
-    ((16, "268435457 1"), (21, "end\n"), 22),
-    ((13, "ratio 1999999"), (21, "end\nx"), 22),
-    ((4, "a"), (19, "1 01"), 19),
-    ((16, "268435457 1"), (19, "1 01"), 19),
-];
+// The length of the first beginning of a file, of those that end with or before the end of a line, of which the readers do
+// not tell the line in which it ends.
+fn wrong_cut(alloc: Global, bytes: &[u8]) -> Option<usize> {
+    let mut line: u64 = 1;
+    let mut begins = true;
+    for (length, byte) in bytes.iter().enumerate() {
+        let ends = *byte == b'\n';
+        if (begins || ends) && !is_answered(alloc, &bytes[..length], 64, Some(Shape(line))) {
+            return Some(length);
+        }
+        if ends {
+            line = line.saturating_add(1);
+        }
+        begins = ends;
+    }
+    None
+}
 
 #[test]
-fn a_line_that_leaves_the_format_is_told_before_a_rule(rt: HostRuntime) -> Result<(), Fail> {
-    for row in SHAPES {
-        let (first, second, line) = *row;
-        let found = parallel_fault(rt.alloc(), &[first, second])?;
-        assert_eq!(rt; found, Some(StreamFault::Shape(line)));
-    }
-    Ok(())
+fn files_may_end_anywhere(rt: HostRuntime) {
+    assert_eq!(rt; wrong_cut(rt.alloc(), BOX.as_bytes()), None);
 }
 
 // How many reads a file takes in pieces of 25 bytes.
-fn count_of_reads(alloc: Global, text: &str) -> Result<usize, Fail> {
-    let mut depot = file_of(alloc, text, 25)?;
-    let _text = streamed(alloc, &mut depot)?;
-    Ok(depot.reads().len())
+fn count_of_reads(alloc: Global, bytes: &[u8]) -> Result<u64, StreamFault> {
+    let mut depot = file_of(alloc, bytes, 25, NEVER)?;
+    let _answer = streamed(alloc, &mut depot, bytes);
+    Ok(depot.reads().len() as u64)
 }
 
-// What is streamed of a file in pieces of 25 bytes, of which the read of that number fails.
-fn streamed_with_failure(
+// Whether each read that fails is told, and one past the last that the file takes changes nothing.
+fn are_failures_told(
     alloc: Global,
-    text: &str,
-    failing: usize,
-) -> Result<Result<Vec<u8>, StreamFault>, Fail> {
-    let mut files = MemDepot::new(alloc, 25)?;
-    files.add("file", text.as_bytes())?;
-    files.fail_at(failing as u64)?;
-    streamed(alloc, &mut files)
-}
-
-// Each read that fails is told, and one past the last that the file takes changes nothing.
-fn failing_reads_are_told(rt: &impl Abort, alloc: Global, text: &str) -> Result<(), Fail> {
-    let reads = count_of_reads(alloc, text)?;
+    bytes: &[u8],
+    fault: Option<CertFault>,
+) -> Result<bool, StreamFault> {
+    let reads = count_of_reads(alloc, bytes)?;
     for failing in 0..reads {
-        let answer = streamed_with_failure(alloc, text, failing)?;
-        assert_eq!(rt; answer, Err(StreamFault::Failed), "{failing}");
+        if streamed_in_pieces(alloc, bytes, 25, failing) != Err(StreamFault::Failed) {
+            return Ok(false);
+        }
     }
-    let answer = streamed_with_failure(alloc, text, reads)?;
-    let due = streamed_in_pieces(alloc, text, 25)?;
-    assert_eq!(rt; answer, due);
-    Ok(())
+    Ok(streamed_in_pieces(alloc, bytes, 25, reads) == answer_of(fault))
 }
 
 // Changes of two parallel links: none, of a block, of the head, and two that leave the format.
-const CHANGES: &[&[(usize, &str)]] = &[
-    &[],
-    &[(16, "268435457 1")],
-    &[(4, "a")],
-    &[(1, "x")],
-    &[(19, "1 01")],
+const CHANGES: &[(&[(usize, &str)], Option<CertFault>)] = &[
+    (&[], None),
+    (&[(16, "268435457 1")], Some(rule!(9, 0))),
+    (&[(4, "a")], Some(rule!(1, 1))),
+    (&[(1, "x")], Some(Shape(1))),
+    (&[(19, "1 01")], Some(Shape(19))),
 ];
 
 #[test]
 fn a_read_that_fails_is_told(rt: HostRuntime) -> Result<(), Fail> {
-    for changes in CHANGES {
+    for row in CHANGES {
+        let (changes, fault) = *row;
         let text = changed(rt.alloc(), PARALLEL, changes)?;
-        failing_reads_are_told(&rt, rt.alloc(), text.as_str())?;
-    }
-    Ok(())
-}
-
-// The fault that a reader tells at its fourth call, and whether it told it at the third and reads no more.
-fn fourth_answer(
-    reader: &mut BlockReader,
-    depot: &mut RecordDepot<MemDepot>,
-) -> (Option<StreamFault>, bool, bool) {
-    let mut last = Ok(true);
-    for _ in 0..3 {
-        last = reader.next(depot);
-    }
-    let reads = depot.reads().len();
-    let again = reader.next(depot);
-    (again.err(), again == last, depot.reads().len() == reads)
-}
-
-// The same of two parallel links with these lines in the place of others.
-fn fourth_answer_of(
-    alloc: Global,
-    changes: &[(usize, &str)],
-) -> Result<(Option<StreamFault>, bool, bool), Fail> {
-    let text = changed(alloc, PARALLEL, changes)?;
-    let mut depot = file_of(alloc, text.as_str(), 64)?;
-    match BlockReader::open(alloc, &mut depot, "file") {
-        Ok((mut reader, _)) => Ok(fourth_answer(&mut reader, &mut depot)),
-        Err(_) => Err(Fail::from("a head")),
-    }
-}
-
-#[test]
-fn an_end_or_a_fault_is_told_again(rt: HostRuntime) -> Result<(), Fail> {
-    let rule = RuleFault {
-        number: 9,
-        place: 0,
-    };
-    for (changes, fault) in [
-        (&[][..], None),
-        (&[(16, "268435457 1")][..], Some(StreamFault::Rule(rule))),
-        (&[(19, "1 01")][..], Some(StreamFault::Shape(19))),
-    ] {
-        let found = fourth_answer_of(rt.alloc(), changes)?;
-        assert_eq!(rt; found, (fault, true, true));
+        let told = are_failures_told(rt.alloc(), text.as_bytes(), fault);
+        assert_eq!(rt; told, Ok(true), "{text}");
     }
     Ok(())
 }

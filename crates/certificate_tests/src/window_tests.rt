@@ -2,7 +2,7 @@
 ghost use Rattle.std.specs.Prelude.{◌≤◌};
 
 use block_reader::{State, Window};
-use std::alloc::Global;
+use std::alloc::{AllocError, Global};
 use std::test::Fail;
 use te_ports::{Depot, Entry, MemDepot, RecordDepot};
 
@@ -13,16 +13,30 @@ const WANTED: usize = 3;
 
 const STEP: usize = 2;
 
-// A file of ten bytes, of which reads give so many at once and at least one. The read of that number fails.
-fn ten_bytes(alloc: Global, piece: usize, failing: u64) -> Result<RecordDepot<MemDepot>, Fail> {
+const TEN_BYTES: &[u8] = b"ten bytes.";
+
+// The number of a read that does not come.
+pub(crate) const NEVER: u64 = u64::MAX;
+
+// A file of these bytes, of which reads give so many at once and at least one. The read of that number fails.
+pub(crate) fn file_of(
+    alloc: Global,
+    bytes: &[u8],
+    piece: usize,
+    failing: u64,
+) -> Result<RecordDepot<MemDepot>, AllocError> {
     let mut files = MemDepot::new(alloc, piece.max(1))?;
-    files.add("file", b"ten bytes.")?;
+    files.add("file", bytes)?;
     files.fail_at(failing)?;
     Ok(RecordDepot::new(alloc, files))
 }
 
 // Passes the file in steps, and gives what was passed and what became of the file.
-fn pass_all<D: Depot>(alloc: Global, depot: &mut D, limit: u8) -> Result<(Vec<u8>, State), Fail> {
+fn pass_all<D: Depot>(
+    alloc: Global,
+    depot: &mut D,
+    limit: u8,
+) -> Result<(Vec<u8>, State), AllocError> {
     let mut window = Window::new(alloc, ROOM, u64::from(limit))?;
     let mut passed = Vec::new(alloc);
     'steps: for _ in 0..11 {
@@ -46,28 +60,28 @@ fn are_in_order(reads: &[Entry]) -> bool {
     true
 }
 
-// Whether this text is passed, what becomes of the file, and whether its reads are in order.
-fn passed_as(
+// Whether this text is passed, the file comes to this state, and its reads are in order.
+fn is_passed(
     alloc: Global,
     piece: usize,
     failing: u64,
     limit: u8,
     text: &str,
-) -> Result<(bool, State, bool), Fail> {
-    let mut depot = ten_bytes(alloc, piece, failing)?;
+    state: State,
+) -> Result<bool, AllocError> {
+    let mut depot = file_of(alloc, TEN_BYTES, piece, failing)?;
     let (passed, last) = pass_all(alloc, &mut depot, limit)?;
-    let is_text = passed.as_slice() == text.as_bytes();
-    Ok((is_text, last, are_in_order(depot.reads())))
+    Ok(passed.as_slice() == text.as_bytes() && last == state && are_in_order(depot.reads()))
 }
 
 // The bytes that reads give at once, the read that fails, the limit, what is passed, and what becomes of the file.
 const FILES: &[(usize, u64, u8, &str, State)] = &[
-    (1, 99, 11, "ten bytes.", State::Ended),
-    (2, 99, 10, "ten bytes.", State::Ended),
-    (64, 99, 10, "ten bytes.", State::Ended),
-    (1, 99, 9, "ten bytes.", State::TooLong),
-    (3, 99, 8, "ten bytes", State::TooLong),
-    (64, 99, 0, "t", State::TooLong),
+    (1, NEVER, 11, "ten bytes.", State::Ended),
+    (2, NEVER, 10, "ten bytes.", State::Ended),
+    (64, NEVER, 10, "ten bytes.", State::Ended),
+    (1, NEVER, 9, "ten bytes.", State::TooLong),
+    (3, NEVER, 8, "ten bytes", State::TooLong),
+    (64, NEVER, 0, "t", State::TooLong),
     (3, 0, 10, "", State::Failed),
     (3, 1, 10, "ten", State::Failed),
     (3, 2, 10, "ten b", State::Failed),
@@ -78,8 +92,8 @@ const FILES: &[(usize, u64, u8, &str, State)] = &[
 fn a_file_is_passed_piece_by_piece(rt: HostRuntime) -> Result<(), Fail> {
     for row in FILES {
         let (piece, failing, limit, text, state) = *row;
-        let found = passed_as(rt.alloc(), piece, failing, limit, text)?;
-        assert_eq!(rt; found, (true, state, true), "{piece} {failing} {limit}");
+        let passed = is_passed(rt.alloc(), piece, failing, limit, text, state)?;
+        assert!(rt; passed, "{piece} {failing} {limit}");
     }
     Ok(())
 }
@@ -91,7 +105,7 @@ fn is_at(window: &Window, state: State, ready: &str) -> bool {
 
 #[test]
 fn a_window_at_the_start_is_drained(rt: HostRuntime) -> Result<(), Fail> {
-    let mut depot = ten_bytes(rt.alloc(), 2, 99)?;
+    let mut depot = file_of(rt.alloc(), TEN_BYTES, 2, NEVER)?;
     let mut window = Window::at_start(rt.alloc(), &mut depot, "file", &10_u64, WANTED, ROOM)?;
     assert!(rt; is_at(&window, State::Open, "ten "));
     window.drain(&mut depot, "file");
