@@ -1,5 +1,9 @@
 //! The laboratory on the backbone, 11 nodes and 14 fibres, with matrices that are drawn.
-use crate::call::written_over;
+ghost use Rattle.std.specs.Prelude.{IsTrue};
+ghost use Rattle.te_model.specs.Network.{is_well_formed, node_count};
+ghost use Rattle.traffic_matrix.specs.Limits.{IsSeries};
+
+use crate::call::{Command, published_ratio, written};
 use rand::RngExt;
 use rand_chacha::ChaCha8Rng;
 use rand_core::SeedableRng;
@@ -9,110 +13,107 @@ use std::alloc::Global;
 use std::process::Abort;
 use std::test::Fail;
 use te_model::Network;
-use te_ports::MemSink;
-use traffic_matrix::{gravity, print};
+use traffic_matrix::{Series, gravity, print};
 
-const PLAN: &str =
-    "{\"topology\":\"net.csv\",\"matrices\":\"tm.csv\",\"schemes\":[\"spf\",\"ecmp\",\"ksp\",\"mcf\",\"racke\",\"smore\"],\"publish\":\"racke\",\"k\":4,\"budget\":4,\"trees\":8,\"seed\":7}";
+const PUBLISH: Command<'static> = Command {
+    words: &["publish", "plan.json"],
+    names: &["plan.json", "net.csv", "tm.csv"],
+    publishes: true,
+};
 
-const BEST: &str = "{\"topology\":\"net.csv\",\"matrices\":\"tm.csv\",\"schemes\":[\"mcf\"]}";
+const RUN: Command<'static> = Command {
+    words: &["run", "plan.json"],
+    names: &["plan.json", "net.csv", "tm.csv"],
+    publishes: false,
+};
 
-/// What the command writes of a plan on the backbone and these matrices.
-fn on_backbone<'a>(
-    rt: &impl Abort,
-    alloc: Global,
-    command: &str,
-    plan: &'a str,
-    matrices: &'a [u8],
-) -> Result<MemSink, Fail> {
-    let files = [
-        ("plan.json", plan.as_bytes()),
-        ("net.csv", BACKBONE.as_bytes()),
-        ("tm.csv", matrices),
-    ];
-    written_over(rt, alloc, &[command, "plan.json"], &files)
-}
+/// How a plan begins.
+const START: &str = "{\"topology\":\"net.csv\",\"matrices\":\"tm.csv\"";
+
+const PLAN: &[&str] = &[
+    START,
+    ",\"schemes\":[\"spf\",\"ecmp\",\"ksp\",\"mcf\",\"racke\",\"smore\"],\"publish\":\"racke\",\"k\":4,\"budget\":4,\"trees\":8,\"seed\":7}",
+];
+
+const BEST: &[&str] = &[START, ",\"schemes\":[\"mcf\"]}"];
 
 /// The matrices that are published for: those of the gravity model of seed 7, in 24 steps.
-fn gravity_matrices(alloc: Global) -> Result<Vec<u8>, Fail> {
+fn gravity_matrices(alloc: Global) -> Result<String, Fail> {
     let network = topology::read(alloc, BACKBONE.as_bytes())?;
     let series = gravity(alloc, &network, 7, 24)?;
-    Ok(print(alloc, &network, &series)?)
+    Ok(String::from_utf8(print(alloc, &network, &series)?)?)
 }
 
-#[test]
-fn backbone_is_published_and_compared(rt: HostRuntime) -> Result<(), Fail> {
-    let alloc = rt.alloc();
-    let matrices = gravity_matrices(alloc)?;
-    let file = on_backbone(&rt, alloc, "publish", PLAN, &matrices)?;
-    let ratio = cert_text::read(alloc, file.bytes())?.head.ratio;
-    let answer = written_over(&rt, alloc, &["check", "c"], &[("c", file.bytes())])?;
-    let line = format!(in alloc; "yes ratio {ratio} set all\n")?;
-    assert_eq!(rt; answer.bytes(), line.as_bytes());
-    let report = on_backbone(&rt, alloc, "run", PLAN, &matrices)?;
-    let lines = report.bytes().iter().filter(|byte| **byte == b'\n').count();
-    assert_eq!(rt; lines, 151);
-    Ok(())
-}
-
-/// What a plan on the backbone publishes, and a ratio that it may not reach.
-const PUBLISHED: &[(&str, u64)] = &[
-    ("\"publish\":\"racke\",\"trees\":8,\"seed\":7", 26_500_000),
-    ("\"publish\":\"ecmp\"", 106_000_000),
-    ("\"publish\":\"ksp\",\"k\":4", 53_000_000),
-    ("\"publish\":\"spf\",\"margin\":[2,1]", 16_010_554),
+/// A plan on the backbone, the set of its certificate, and a ratio that it may not reach.
+const PUBLISHED: &[(&[&str], &str, u64)] = &[
+    (PLAN, "all", 26_500_000),
+    (
+        &[START, ",\"publish\":\"racke\",\"trees\":8,\"seed\":7}"],
+        "all",
+        26_500_000,
+    ),
+    (&[START, ",\"publish\":\"ecmp\"}"], "all", 106_000_000),
+    (&[START, ",\"publish\":\"ksp\",\"k\":4}"], "all", 53_000_000),
+    (
+        &[START, ",\"publish\":\"spf\",\"margin\":[2,1]}"],
+        "margin 2 1",
+        16_010_554,
+    ),
+    // The default scheme, for the envelope of the matrices: the ratio that the starting weights alone give.
+    (
+        &[START, ",\"trees\":8,\"seed\":7,\"envelope\":true}"],
+        "box",
+        11_742_714,
+    ),
 ];
 
 #[test]
 fn backbone_has_lower_ratios(rt: HostRuntime) -> Result<(), Fail> {
     let alloc = rt.alloc();
     let matrices = gravity_matrices(alloc)?;
-    for (keys, starting) in PUBLISHED {
-        let plan = format!(in alloc;
-            "{{\"topology\":\"net.csv\",\"matrices\":\"tm.csv\",{keys}}}"
-        )?;
-        let file = on_backbone(&rt, alloc, "publish", plan.as_str(), &matrices)?;
-        let again = on_backbone(&rt, alloc, "publish", plan.as_str(), &matrices)?;
-        assert_eq!(rt; file.bytes(), again.bytes());
-        let (_, ratio) = routing_in(alloc, file.bytes())?;
-        assert!(rt; ratio < *starting);
-        let answer = written_over(&rt, alloc, &["check", "c"], &[("c", file.bytes())])?;
-        let line = format!(in alloc; "yes ratio {ratio} set ")?;
-        assert!(rt; answer.bytes().starts_with(line.as_bytes()));
+    for row in PUBLISHED {
+        let (plan, set, bound) = *row;
+        let files: [&[&str]; 3] = [plan, &[BACKBONE], &[matrices.as_str()]];
+        let ratio = published_ratio(&rt, alloc, PUBLISH, &files, set)?;
+        assert!(rt; ratio < bound, "{ratio} is not below {bound}");
     }
     Ok(())
 }
 
-/// The default scheme, for the envelope of the matrices.
-const ENVELOPE: &str =
-    "{\"topology\":\"net.csv\",\"matrices\":\"tm.csv\",\"trees\":8,\"seed\":7,\"envelope\":true}";
+/// What the command writes of a plan on the backbone and these matrices.
+fn on_backbone(
+    rt: &impl Abort,
+    alloc: Global,
+    command: Command<'_>,
+    plan: &[&str],
+    matrices: &str,
+) -> Result<String, Fail> {
+    written(rt, alloc, command, &[plan, &[BACKBONE], &[matrices]])
+}
 
 #[test]
-fn backbone_has_an_envelope(rt: HostRuntime) -> Result<(), Fail> {
-    let alloc = rt.alloc();
-    let matrices = gravity_matrices(alloc)?;
-    let file = on_backbone(&rt, alloc, "publish", ENVELOPE, &matrices)?;
-    let (_, ratio) = routing_in(alloc, file.bytes())?;
-    // The ratio that the starting weights alone give.
-    assert!(rt; ratio < 11_742_714);
-    let answer = written_over(&rt, alloc, &["check", "c"], &[("c", file.bytes())])?;
-    let line = format!(in alloc; "yes ratio {ratio} set box\n")?;
-    assert_eq!(rt; answer.bytes(), line.as_bytes());
+fn schemes_are_compared_on_the_backbone(rt: HostRuntime) -> Result<(), Fail> {
+    let matrices = gravity_matrices(rt.alloc())?;
+    let report = on_backbone(&rt, rt.alloc(), RUN, PLAN, &matrices)?;
+    assert!(rt; report.lines().count() == 151 && report.ends_with('\n'));
     Ok(())
 }
 
+/// The nodes of the backbone, in the order of their numbers.
+const NODES: &[&str] = &[
+    "sea", "sfo", "den", "lax", "hou", "kan", "ind", "atl", "chi", "nyc", "was",
+];
+
 /// Twenty matrices, each demand from 0 to 10000.
-fn drawn_matrices(alloc: Global, network: &Network) -> Result<String, Fail> {
-    let names = network.names.as_slice();
+fn drawn_matrices(alloc: Global) -> Result<String, Fail> {
     let mut rng = ChaCha8Rng::seed_from_u64(7);
     let mut text = "step,source,target,demand\n".to_string(alloc)?;
     for step in 0..20 {
-        for source in names {
-            for target in names {
+        for source in NODES {
+            for target in NODES {
                 if source != target {
-                    let (source, target) = (source.as_str(), target.as_str());
                     let demand = rng.random_range(0..=10_000u32);
-                    text.push_str(&format!(in alloc; "{step},{source},{target},{demand}\n")?)?;
+                    write!(text, "{step},{source},{target},{demand}\n")?;
                 }
             }
         }
@@ -120,11 +121,12 @@ fn drawn_matrices(alloc: Global, network: &Network) -> Result<String, Fail> {
     Ok(text)
 }
 
-/// The column `parts` of a report.
-fn parts_in(rt: &impl Abort, alloc: Global, report: &[u8]) -> Result<Vec<u64>, Fail> {
+/// The column `parts` of the report on the best routings for these matrices.
+fn best_parts(rt: &impl Abort, alloc: Global, matrices: &str) -> Result<Vec<u64>, Fail> {
+    let report = on_backbone(rt, alloc, RUN, BEST, matrices)?;
     let mut list = Vec::new(alloc);
-    for line in str::from_utf8(report)?.lines().skip(1) {
-        let parts = line.split(',').nth(8).expect(rt, "ten columns");
+    for line in report.lines().skip(1) {
+        let parts = line.split(',').nth(8).unwrap_or("");
         list.push(parts.parse::<u64>()?)?;
     }
     Ok(list)
@@ -139,28 +141,67 @@ fn routing_in(alloc: Global, file: &[u8]) -> Result<(Routing, u64), Fail> {
     Ok((routing, head.ratio))
 }
 
+/// On each of the twenty matrices, the routing uses no link more than its ratio times what the best routing does.
 #[tactic(auto, using(crate::proofs::Drawn::step_demands))]
+fn keeps_ratio(
+    routing: &Routing,
+    ratio: u64,
+    network: &Network,
+    series: &Series,
+    best: &[u64],
+) -> bool
+    requires network { IsTrue (is_well_formed network.now) }
+    requires series { IsSeries (node_count network.now) series.now }
+{
+    let steps = series.steps.as_slice();
+    if routing.routes.as_slice().len() != 110 {
+        return false;
+    }
+    if series.pairs.list.as_slice().len() != 110 {
+        return false;
+    }
+    if steps.len() != 20 {
+        return false;
+    }
+    // The last line is that of the totals.
+    if best.len() != 21 {
+        return false;
+    }
+    for step in 0..steps.len() {
+        let bound = u128::from(ratio) * u128::from(best[step]);
+        let most = routing.parts(network, &steps[step]);
+        if most > bound.div_ceil(1_000_000) {
+            return false;
+        }
+    }
+    true
+}
+
+/// The routing of the certificate does so.
+fn certificate_keeps_ratio(
+    alloc: Global,
+    file: &str,
+    matrices: &str,
+    best: &[u64],
+) -> Result<bool, Fail> {
+    let (routing, ratio) = routing_in(alloc, file.as_bytes())?;
+    let network = topology::read(alloc, BACKBONE.as_bytes())?;
+    let series = traffic_matrix::read(alloc, &network, matrices.as_bytes())?;
+    Ok(keeps_ratio(&routing, ratio, &network, &series, best))
+}
+
+/// The certificate that the plan publishes.
+fn published(rt: &impl Abort, alloc: Global) -> Result<String, Fail> {
+    let matrices = gravity_matrices(alloc)?;
+    on_backbone(rt, alloc, PUBLISH, PLAN, &matrices)
+}
+
 #[test]
 fn drawn_matrices_keep_the_ratio(rt: HostRuntime) -> Result<(), Fail> {
     let alloc = rt.alloc();
-    let gravity = gravity_matrices(alloc)?;
-    let file = on_backbone(&rt, alloc, "publish", PLAN, &gravity)?;
-    let (routing, ratio) = routing_in(alloc, file.bytes())?;
-    let network = topology::read(alloc, BACKBONE.as_bytes())?;
-    let drawn = drawn_matrices(alloc, &network)?;
-    let report = on_backbone(&rt, alloc, "run", BEST, drawn.as_bytes())?;
-    let best = parts_in(&rt, alloc, report.bytes())?;
-    let series = traffic_matrix::read(alloc, &network, drawn.as_bytes())?;
-    let steps = series.steps.as_slice();
-    assert_eq!(rt; routing.routes.as_slice().len(), 110);
-    assert_eq!(rt; series.pairs.list.as_slice().len(), 110);
-    assert_eq!(rt; steps.len(), 20);
-    // The last line is that of the totals.
-    assert_eq!(rt; best.len(), 21);
-    for step in 0..steps.len() {
-        let bound = u128::from(ratio) * u128::from(best[step]);
-        let most = routing.parts(&network, &steps[step]);
-        assert!(rt; most <= bound.div_ceil(1_000_000));
-    }
+    let file = published(&rt, alloc)?;
+    let drawn = drawn_matrices(alloc)?;
+    let best = best_parts(&rt, alloc, &drawn)?;
+    assert!(rt; certificate_keeps_ratio(alloc, &file, &drawn, &best)?);
     Ok(())
 }

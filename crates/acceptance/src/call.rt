@@ -7,107 +7,114 @@ use std::test::Fail;
 use te_command::run;
 use te_ports::{Depot, Entry, MemDepot, MemSink, RecordDepot};
 
-/// A file's name, and its text in parts. A file without parts is not there.
-pub type File<'a> = (&'a str, &'a [&'a str]);
+/// The texts of files, each in parts. A file without parts is not there.
+pub type Files<'a> = &'a [&'a [&'a str]];
 
-/// What stands in `out`.
+/// Files in the order in which they are read, how many of them are read from their start to their end, the status, and the text
+/// that is left: in `out` at 0 and 1, and else in `err`.
+pub type Row<'a> = (Files<'a>, usize, u8, &'a str);
+
+/// The words of a command, and the names of its files.
 #[derive(Clone, Copy)]
-pub enum Out<'a> {
-    Text(&'a str),
-    /// A text in parts.
-    Parts(&'a [&'a str]),
-    /// A certificate to which `check` says yes, and in which this text stands.
-    Certificate(&'a str),
+pub struct Command<'a> {
+    pub words: &'a [&'a str],
+    pub names: &'a [&'a str],
+    /// What it writes at 0 is a certificate, to which `check` says yes.
+    pub publishes: bool,
 }
+
+pub const CHECK: Command<'static> = Command {
+    words: &["check", "c"],
+    names: &["c"],
+    publishes: false,
+};
+
+pub const PUBLISH: Command<'static> = Command {
+    words: &["publish", "p"],
+    names: &["p", "t", "m"],
+    publishes: true,
+};
+
+pub const RUN: Command<'static> = Command {
+    words: &["run", "p"],
+    names: &["p", "t", "m", "f"],
+    publishes: false,
+};
 
 /// A call, and what it leaves.
 #[derive(Clone, Copy)]
 pub struct Call<'a> {
-    pub words: &'a [&'a str],
-    /// In the order in which they are read.
-    pub files: &'a [File<'a>],
-    /// How many files are read from their start to their end.
+    pub command: Command<'a>,
+    pub files: Files<'a>,
     pub read: usize,
     pub failing_fetch: Option<u64>,
     pub failing_put: Option<u64>,
     pub room_of_err: usize,
     pub status: u8,
-    pub out: Out<'a>,
+    /// All that stands in `out`, or a text in the certificate that is published.
+    pub out: &'a str,
     pub err: &'a str,
 }
 
-/// A call that leaves this text: in `out` at 0 and 1, and else in `err`.
-pub fn says<'a>(
-    words: &'a [&'a str],
-    files: &'a [File<'a>],
-    read: usize,
+/// What a call left.
+#[derive(Drop)]
+struct Outcome {
     status: u8,
-    text: &'a str,
-) -> Call<'a> {
+    out: MemSink,
+    err: MemSink,
+}
+
+/// The call of a row.
+pub fn says<'a>(command: Command<'a>, row: Row<'a>) -> Call<'a> {
+    let (files, read, status, text) = row;
     let answers = status <= 1;
     Call {
-        words,
+        command,
         files,
         read,
         failing_fetch: None,
         failing_put: None,
         room_of_err: 200,
         status,
-        out: Out::Text(if answers { text } else { "" }),
+        out: if answers { text } else { "" },
         err: if answers { "" } else { text },
     }
 }
 
-/// A call that writes the text of these parts.
-pub fn writes<'a>(
-    words: &'a [&'a str],
-    files: &'a [File<'a>],
-    read: usize,
-    parts: &'a [&'a str],
-) -> Call<'a> {
-    Call {
-        out: Out::Parts(parts),
-        ..says(words, files, read, 0, "")
-    }
-}
-
-/// A call that publishes a certificate in which this text stands.
-pub fn publishes<'a>(
-    words: &'a [&'a str],
-    files: &'a [File<'a>],
-    read: usize,
-    text: &'a str,
-) -> Call<'a> {
-    Call {
-        out: Out::Certificate(text),
-        ..says(words, files, read, 0, "")
-    }
-}
-
-/// The parts as one text.
-fn joined(alloc: Global, parts: &[&str]) -> Result<String, Fail> {
-    let mut text = String::new(alloc);
-    for part in parts {
-        text.push_str(part)?;
-    }
-    Ok(text)
-}
-
-/// What the program writes to `out`, and that it ends with 0, over files with these names and bytes.
-pub fn written_over(
-    rt: &impl Abort,
+/// The files that are there, which are given in pieces of so many bytes.
+pub fn depot_of(
     alloc: Global,
-    words: &[&str],
-    files: &[(&str, &[u8])],
-) -> Result<MemSink, Fail> {
-    let mut depot = MemDepot::new(alloc, 4096)?;
-    for (name, bytes) in files {
-        depot.add(name, bytes)?;
+    names: &[&str],
+    files: Files<'_>,
+    piece: usize,
+) -> Result<MemDepot, Fail>
+    requires { 1 ≤ piece }
+{
+    let mut depot = MemDepot::new(alloc, piece)?;
+    for (name, parts) in names.iter().zip(files) {
+        if !parts.is_empty() {
+            depot.add(name, parts.concat(alloc)?.as_bytes())?;
+        }
     }
-    let mut out = MemSink::new(alloc, 1_000_000, 4096)?;
-    let mut err = MemSink::new(alloc, 200, 200)?;
-    let status = status_of(alloc, words, &mut depot, &mut out, &mut err)?;
-    assert_eq!(rt; status, 0);
+    Ok(depot)
+}
+
+fn depot_for(alloc: Global, call: &Call<'_>, piece: usize) -> Result<MemDepot, Fail>
+    requires { 1 ≤ piece }
+{
+    let mut depot = depot_of(alloc, call.command.names, call.files, piece)?;
+    if let Some(fetch) = call.failing_fetch {
+        depot.fail_at(fetch)?;
+    }
+    Ok(depot)
+}
+
+/// An `out` with so much room, which takes 4 bytes at once.
+fn out_for(alloc: Global, call: &Call<'_>, room: usize) -> Result<MemSink, Fail> {
+    let mut out = MemSink::new(alloc, room, 4)?;
+    if let Some(put) = call.failing_put {
+        out.fail_at(put)?;
+    }
     Ok(out)
 }
 
@@ -126,126 +133,185 @@ fn status_of<D: Depot>(
     Ok(run(alloc, &all, depot, out, err))
 }
 
-/// The files, which are given in pieces of so many bytes.
-fn depot_in_pieces(alloc: Global, files: &[File<'_>], piece: usize) -> Result<MemDepot, Fail>
-    requires { 1 ≤ piece }
-{
-    let mut depot = MemDepot::new(alloc, piece)?;
-    for (name, parts) in files {
-        if !parts.is_empty() {
-            depot.add(name, joined(alloc, parts)?.as_bytes())?;
-        }
-    }
-    Ok(depot)
-}
-
-/// The files, which are given in pieces of 64 bytes.
-pub fn depot_of(alloc: Global, files: &[File<'_>]) -> Result<MemDepot, Fail> {
-    depot_in_pieces(alloc, files, 64)
-}
-
-fn depot_for(alloc: Global, call: &Call<'_>) -> Result<MemDepot, Fail> {
-    let mut depot = depot_of(alloc, call.files)?;
-    if let Some(fetch) = call.failing_fetch {
-        depot.fail_at(fetch)?;
-    }
-    Ok(depot)
-}
-
-/// The text stands in the file, to which `check` says yes.
-fn is_accepted(rt: &impl Abort, alloc: Global, file: &[u8], text: &str) -> Result<(), Fail> {
-    assert!(rt;
-        file.windows(text.len().max(1))
-            .any(|part| part == text.as_bytes())
-    );
-    let mut depot = MemDepot::new(alloc, 64)?;
-    depot.add("c", file)?;
-    let mut out = MemSink::new(alloc, 200, 200)?;
-    let mut err = MemSink::new(alloc, 200, 200)?;
-    let status = status_of(alloc, &["check", "c"], &mut depot, &mut out, &mut err)?;
-    assert_eq!(rt; status, 0);
-    Ok(())
-}
-
-/// `check` refuses the file of these bytes with this line.
-pub fn is_refused(rt: &impl Abort, alloc: Global, file: &[u8], line: &str) -> Result<(), Fail> {
-    let mut depot = MemDepot::new(alloc, 64)?;
-    depot.add("c", file)?;
-    let mut out = MemSink::new(alloc, 200, 200)?;
-    let mut err = MemSink::new(alloc, 200, 200)?;
-    let status = status_of(alloc, &["check", "c"], &mut depot, &mut out, &mut err)?;
-    assert_eq!(rt; status, 3);
-    assert_eq!(rt; err.bytes(), line.as_bytes());
-    Ok(())
-}
-
-/// Makes the call over the depot, and an `out` that takes 4 bytes at once.
-pub fn leaves_over<D: Depot>(
-    rt: &impl Abort,
+fn outcome_over<D: Depot>(
     alloc: Global,
     call: &Call<'_>,
     depot: &mut D,
-) -> Result<(), Fail> {
-    let mut out = MemSink::new(alloc, 2000, 4)?;
-    if let Some(put) = call.failing_put {
-        out.fail_at(put)?;
-    }
+    room: usize,
+) -> Result<Outcome, Fail> {
+    let mut out = out_for(alloc, call, room)?;
     let mut err = MemSink::new(alloc, call.room_of_err, 200)?;
-    let status = status_of(alloc, call.words, depot, &mut out, &mut err)?;
-    assert_eq!(rt; status, call.status);
-    assert_eq!(rt; err.bytes(), call.err.as_bytes());
-    match call.out {
-        Out::Text(text) => {
-            assert_eq!(rt; out.bytes(), text.as_bytes());
-            Ok(())
-        }
-        Out::Parts(parts) => {
-            assert_eq!(rt; out.bytes(), joined(alloc, parts)?.as_bytes());
-            Ok(())
-        }
-        Out::Certificate(text) => is_accepted(rt, alloc, out.bytes(), text),
+    let status = status_of(alloc, call.command.words, depot, &mut out, &mut err)?;
+    Ok(Outcome { status, out, err })
+}
+
+/// What is left by the call over files that are told, in pieces of 64 bytes.
+fn outcome_of(alloc: Global, call: &Call<'_>) -> Result<Outcome, Fail> {
+    let mut depot = depot_for(alloc, call, 64)?;
+    outcome_over(alloc, call, &mut depot, 1_000_000)
+}
+
+/// What the command writes to `out`, and that it ends with 0.
+pub fn written(
+    rt: &impl Abort,
+    alloc: Global,
+    command: Command<'_>,
+    files: Files<'_>,
+) -> Result<String, Fail> {
+    let left = outcome_of(alloc, &says(command, (files, 0, 0, "")))?;
+    assert_eq!(rt; left.status, 0);
+    Ok(str::from_utf8(left.out.bytes())?.to_string(alloc)?)
+}
+
+/// The command writes the same once more.
+pub fn is_written_again(
+    rt: &impl Abort,
+    alloc: Global,
+    command: Command<'_>,
+    files: Files<'_>,
+    text: &str,
+) -> Result<bool, Fail> {
+    Ok(written(rt, alloc, command, files)?.as_str() == text)
+}
+
+/// The ratio of the certificate that a command publishes, each time the same. `check` says yes to it, for this set.
+pub fn published_ratio(
+    rt: &impl Abort,
+    alloc: Global,
+    command: Command<'_>,
+    files: Files<'_>,
+    set: &str,
+) -> Result<u64, Fail> {
+    let file = written(rt, alloc, command, files)?;
+    assert!(rt; is_written_again(rt, alloc, command, files, &file)?);
+    let ratio = cert_text::read(alloc, file.as_bytes())?.head.ratio;
+    let line = format!(in alloc; "yes ratio {ratio} set {set}\n")?;
+    let row: Row = (&[&[file.as_str()]], 1, 0, line.as_str());
+    assert!(rt; leaves_over_told(alloc, &says(CHECK, row), 64)?);
+    Ok(ratio)
+}
+
+fn is_accepted(alloc: Global, certificate: &str) -> Result<bool, Fail> {
+    let left = outcome_of(alloc, &says(CHECK, (&[&[certificate]], 1, 0, "")))?;
+    Ok(left.status == 0)
+}
+
+/// The call left what it has to.
+fn is_due(alloc: Global, call: &Call<'_>, left: &Outcome) -> Result<bool, Fail> {
+    if left.status != call.status || left.err.bytes() != call.err.as_bytes() {
+        return Ok(false);
     }
+    let text = str::from_utf8(left.out.bytes())?;
+    if call.command.publishes && call.status == 0 {
+        return Ok(text.contains(call.out) && is_accepted(alloc, text)?);
+    }
+    Ok(text == call.out)
+}
+
+/// The call over this depot leaves what it has to.
+pub fn leaves_over<D: Depot>(alloc: Global, call: &Call<'_>, depot: &mut D) -> Result<bool, Fail> {
+    let left = outcome_over(alloc, call, depot, 2000)?;
+    is_due(alloc, call, &left)
+}
+
+/// The call over files that are told, in pieces of so many bytes, leaves what it has to.
+pub fn leaves_over_told(alloc: Global, call: &Call<'_>, piece: usize) -> Result<bool, Fail>
+    requires { 1 ≤ piece }
+{
+    let mut depot = depot_for(alloc, call, piece)?;
+    leaves_over(alloc, call, &mut depot)
+}
+
+/// The call over files that are not told, of which the reads are on record, leaves what it has to.
+fn leaves_over_record(alloc: Global, call: &Call<'_>) -> Result<bool, Fail> {
+    let mut depot = RecordDepot::new(alloc, depot_for(alloc, call, 64)?);
+    Ok(leaves_over(alloc, call, &mut depot)? && are_reads_of(alloc, call, depot.reads())?)
+}
+
+/// The read gave bytes of the file, or nothing at its end.
+fn is_read_of(alloc: Global, parts: &[&str], read: &Entry) -> Result<bool, Fail> {
+    let text = parts.concat(alloc)?;
+    let rest = text.as_bytes().get(read.at as usize..).unwrap_or(&[]);
+    Ok(rest.starts_with(&read.bytes) && read.bytes.is_empty() == rest.is_empty())
+}
+
+/// Each read begins where the read before ended: at the start of a file where that gave nothing.
+pub fn follow_each_other(reads: &[Entry]) -> bool {
+    let mut at: u64 = 0;
+    for read in reads {
+        if read.at != at {
+            return false;
+        }
+        at = match read.bytes.len() as u64 {
+            0 => 0,
+            count => at.saturating_add(count),
+        };
+    }
+    true
 }
 
 /// The reads gave the files that the call reads, each from its start to its end, in order. After them stands at most a part
 /// of a file of which a read failed.
-fn are_reads_of(
-    rt: &impl Abort,
-    alloc: Global,
-    call: &Call<'_>,
-    reads: &[Entry],
-) -> Result<(), Fail> {
-    let mut read_files = 0;
-    let mut bytes: Vec<u8> = Vec::new(alloc);
+fn are_reads_of(alloc: Global, call: &Call<'_>, reads: &[Entry]) -> Result<bool, Fail> {
+    let mut read_files: usize = 0;
+    let mut is_between_files = true;
     for read in reads {
-        assert!(rt; read_files < call.files.len());
-        let (name, parts) = call.files[read_files];
-        assert_eq!(rt; read.name.as_str(), name);
-        assert_eq!(rt; read.at, bytes.len() as u64);
-        bytes.extend_from_slice(&read.bytes)?;
-        if read.bytes.is_empty() {
-            assert_eq!(rt; bytes.as_slice(), joined(alloc, parts)?.as_bytes());
-            bytes.clear();
-            read_files += 1;
+        let mut files = call.command.names.iter().zip(call.files);
+        let Some((name, parts)) = files.nth(read_files) else {
+            return Ok(false);
+        };
+        if read.name.as_str() != *name || !is_read_of(alloc, parts, read)? {
+            return Ok(false);
+        }
+        is_between_files = read.bytes.is_empty();
+        if is_between_files {
+            read_files = read_files.saturating_add(1);
         }
     }
-    assert_eq!(rt; read_files, call.read);
-    assert!(rt; bytes.is_empty() || call.status == 4);
+    let are_whole = is_between_files || call.status == 4;
+    Ok(read_files == call.read && are_whole && follow_each_other(reads))
+}
+
+/// Makes the call over files that are told, and again over files of which the reads are on record.
+pub fn leaves(rt: &impl Abort, alloc: Global, call: &Call<'_>) -> Result<(), Fail> {
+    let holds = leaves_over_told(alloc, call, 64)? && leaves_over_record(alloc, call)?;
+    let (out, err) = (call.out, call.err);
+    assert!(rt; holds, "{out}{err}");
     Ok(())
 }
 
-/// Makes the call over files that are given byte by byte, and then as `leaves` does.
-pub fn leaves_byte_by_byte(rt: &impl Abort, alloc: Global, call: &Call<'_>) -> Result<(), Fail> {
-    let mut depot = depot_in_pieces(alloc, call.files, 1)?;
-    leaves_over(rt, alloc, call, &mut depot)?;
-    leaves(rt, alloc, call)
+/// Makes each of the calls.
+pub fn all_leave(rt: &impl Abort, alloc: Global, calls: &[Call<'_>]) -> Result<(), Fail> {
+    for call in calls {
+        leaves(rt, alloc, call)?;
+    }
+    Ok(())
 }
 
-/// Makes the call over files that are told, and again over files that are not, of which the reads are on record.
-pub fn leaves(rt: &impl Abort, alloc: Global, call: &Call<'_>) -> Result<(), Fail> {
-    let mut told = depot_for(alloc, call)?;
-    leaves_over(rt, alloc, call, &mut told)?;
-    let mut untold = RecordDepot::new(alloc, depot_for(alloc, call)?);
-    leaves_over(rt, alloc, call, &mut untold)?;
-    are_reads_of(rt, alloc, call, untold.reads())
+/// Makes the call of each row.
+pub fn all_say(
+    rt: &impl Abort,
+    alloc: Global,
+    command: Command<'_>,
+    rows: &[Row<'_>],
+) -> Result<(), Fail> {
+    for row in rows {
+        leaves(rt, alloc, &says(command, *row))?;
+    }
+    Ok(())
+}
+
+/// Makes the call of each row over files that are given byte by byte.
+pub fn all_say_byte_by_byte(
+    rt: &impl Abort,
+    alloc: Global,
+    command: Command<'_>,
+    rows: &[Row<'_>],
+) -> Result<(), Fail> {
+    for row in rows {
+        let call = says(command, *row);
+        let (out, err) = (call.out, call.err);
+        assert!(rt; leaves_over_told(alloc, &call, 1)?, "{out}{err}");
+    }
+    Ok(())
 }

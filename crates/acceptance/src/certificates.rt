@@ -53,23 +53,11 @@ const UNREACHED: &str =
     "yates-ratio 1\nnodes 3\na\nb\nz\nlinks 2\n0 1 10 1\n2 1 10 1\npairs 1\n0 1 1\n1000000 1 0\nset all\nratio 1000000\nblocks 1\n0 1000000 1 1\n1 0\n";
 
 /// The smallest certificate in the second format, and with a ratio that is too low.
-pub const SMALLEST_IN_SECOND: &[&str] = &[
-    SECOND,
-    SMALLEST_NETWORK,
-    SMALLEST_ROUTES,
-    "set all\nratio 1000000\n",
-    SMALLEST_BLOCK,
-    "end\n",
-];
+pub const SMALLEST_IN_SECOND: &str =
+    "yates-ratio 2\nnodes 2\na\nb\nlinks 1\n0 1 10 1\npairs 1\n0 1 1\n1000000 1 0\nset all\nratio 1000000\nblocks 1\n0 1000000 1 1\n1\n0 0 1\nend\n";
 
-pub const SMALLEST_WITH_LESS_IN_SECOND: &[&str] = &[
-    SECOND,
-    SMALLEST_NETWORK,
-    SMALLEST_ROUTES,
-    "set all\nratio 999999\n",
-    SMALLEST_BLOCK,
-    "end\n",
-];
+pub const SMALLEST_WITH_LESS_IN_SECOND: &str =
+    "yates-ratio 2\nnodes 2\na\nb\nlinks 1\n0 1 10 1\npairs 1\n0 1 1\n1000000 1 0\nset all\nratio 999999\nblocks 1\n0 1000000 1 1\n1\n0 0 1\nend\n";
 
 pub const SMALLEST_WITH_LESS: &[&str] = &[SMALLEST_HEAD, "ratio 999999\n", SMALLEST_BLOCK, "end\n"];
 
@@ -174,14 +162,8 @@ pub const TRIANGLE_SMALL_MARGIN: &[&str] = &[
 ];
 
 /// The same for a box in the second format, whose bounds are the demands of the margin.
-pub const TRIANGLE_FOR_BOX: &[&str] = &[
-    SECOND,
-    TRIANGLE,
-    "set box\nlower 10 10\nupper 10 10\n",
-    TRIANGLE_BLOCKS,
-    "0 1",
-    TRIANGLE_BLOCKS_END,
-];
+pub const TRIANGLE_FOR_BOX: &str =
+    "yates-ratio 2\nnodes 3\na\nb\nc\nlinks 4\n0 2 10 1\n1 2 10 1\n0 1 10 1\n1 0 10 1\npairs 2\n0 2 1\n1000000 1 0\n1 2 1\n1000000 1 1\nset box\nlower 10 10\nupper 10 10\nratio 1000000\nblocks 2\n0 500000 1 2\n1 1 0 0\n0 0 0 1\n1 0 0 1\nplus 1 0\nminus 0 1\n1 500000 1 2\n1 1 0 0\n0 0 0 1\n1 0 0 1\nplus 0 1\nminus 1 0\nend\n";
 
 pub const TRIANGLE_WIDE_BOX: &[&str] = &[
     SECOND,

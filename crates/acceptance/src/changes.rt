@@ -1,8 +1,9 @@
 //! Files that change while they are read, and files without an end. What is answered is what the reads on record gave.
-use crate::call::{File, depot_of, leaves_over, says};
+use crate::call::{
+    CHECK, Call, Command, Files, PUBLISH, depot_of, follow_each_other, leaves_over, says,
+};
 use crate::certificates::{SMALLEST, SMALLEST_WITH_LESS};
 use std::alloc::Global;
-use std::process::Abort;
 use std::test::Fail;
 use te_ports::{Depot, Entry, Failed, MemDepot, RecordDepot};
 
@@ -63,11 +64,10 @@ impl Depot for EndlessDepot {
 }
 
 /// The files that the reads gave, each to its end. A file that was not read to its end is not there.
-fn files_on_record(rt: &impl Abort, alloc: Global, reads: &[Entry]) -> Result<MemDepot, Fail> {
-    let mut depot = depot_of(alloc, &[])?;
+fn files_on_record(alloc: Global, reads: &[Entry]) -> Result<MemDepot, Fail> {
+    let mut depot = MemDepot::new(alloc, 64)?;
     let mut bytes: Vec<u8> = Vec::new(alloc);
     for read in reads {
-        assert_eq!(rt; read.at, bytes.len() as u64);
         bytes.extend_from_slice(&read.bytes)?;
         if read.bytes.is_empty() {
             depot.add(&read.name, &bytes)?;
@@ -82,90 +82,99 @@ const SPF: &str = "{\"topology\":\"t\",\"matrices\":\"m\",\"publish\":\"spf\"}";
 /// A demand from a to c.
 const DEMAND: &str = "step,source,target,demand\n0,a,c,1\n";
 
-/// The versions of the files at one read after the other, the words, and the status and text that they leave. A read gives at
+/// A command, the versions of its files at one read after the other, and the status and text that they leave. A read gives at
 /// most 64 bytes, and the ratio of a certificate stands in its second piece.
-const CHANGES: &[(&[&[File<'static>]], &[&str], u8, &str)] = &[
+const CHANGES: &[(Command<'static>, &[Files<'static>], u8, &str)] = &[
     // The file is replaced by another, either way.
     (
-        &[&[("c", &[SMALLEST])], &[("c", SMALLEST_WITH_LESS)]],
-        &["check", "c"],
+        CHECK,
+        &[&[&[SMALLEST]], &[SMALLEST_WITH_LESS]],
         1,
         "no link 0 rule I4 place 0\n",
     ),
     (
-        &[&[("c", SMALLEST_WITH_LESS)], &[("c", &[SMALLEST])]],
-        &["check", "c"],
+        CHECK,
+        &[&[SMALLEST_WITH_LESS], &[&[SMALLEST]]],
         0,
         "yes ratio 1000000 set all\n",
     ),
     // It is replaced by a shorter one, and back: the last byte is read twice.
     (
-        &[
-            &[("c", &[SMALLEST])],
-            &[("c", SMALLEST_WITH_LESS)],
-            &[("c", &[SMALLEST])],
-        ],
-        &["check", "c"],
+        CHECK,
+        &[&[&[SMALLEST]], &[SMALLEST_WITH_LESS], &[&[SMALLEST]]],
         3,
         "refused: c: shape at line 17\n",
     ),
     // It is cut, written late, or deleted.
     (
-        &[&[("c", &[SMALLEST])], &[("c", &[""])]],
-        &["check", "c"],
+        CHECK,
+        &[&[&[SMALLEST]], &[&[""]]],
         3,
         "refused: c: shape at line 9\n",
     ),
     (
-        &[&[("c", &[""])], &[("c", &[SMALLEST])]],
-        &["check", "c"],
+        CHECK,
+        &[&[&[""]], &[&[SMALLEST]]],
         3,
         "refused: c: shape at line 1\n",
     ),
-    (
-        &[&[("c", &[SMALLEST])], &[]],
-        &["check", "c"],
-        4,
-        "fault: read\n",
-    ),
+    (CHECK, &[&[&[SMALLEST]], &[]], 4, "fault: read\n"),
     // The topology is replaced once the plan is read: the way from a to c is gone.
     (
+        PUBLISH,
         &[
-            &[("p", &[SPF])],
+            &[&[SPF]],
             &[
-                ("p", &[SPF]),
-                ("t", &["source,target,capacity,cost\na,b,10,1\nb,c,10,1\n"]),
+                &[SPF],
+                &["source,target,capacity,cost\na,b,10,1\nb,c,10,1\n"],
             ],
             &[
-                ("t", &["source,target,capacity,cost\na,b,10,1\nc,b,10,1\n"]),
-                ("m", &[DEMAND]),
+                &[],
+                &["source,target,capacity,cost\na,b,10,1\nc,b,10,1\n"],
+                &[DEMAND],
             ],
         ],
-        &["publish", "p"],
         7,
         "no path: a c\n",
     ),
 ];
 
+/// Files with these names that change so, of which the reads are on record.
+fn changing_files(
+    alloc: Global,
+    names: &[&str],
+    all_files: &[Files<'_>],
+) -> Result<RecordDepot<ChangingDepot>, Fail> {
+    let mut versions = Vec::new(alloc);
+    for files in all_files {
+        versions.push(depot_of(alloc, names, files, 64)?)?;
+    }
+    let changing = ChangingDepot {
+        versions,
+        reads: 0,
+        faults: 0,
+    };
+    Ok(RecordDepot::new(alloc, changing))
+}
+
+/// The call leaves what it has to over the files that the reads gave.
+fn leaves_over_reads(alloc: Global, call: &Call<'_>, reads: &[Entry]) -> Result<bool, Fail> {
+    let mut depot = files_on_record(alloc, reads)?;
+    Ok(follow_each_other(reads) && leaves_over(alloc, call, &mut depot)?)
+}
+
+/// The call leaves what it has to over files that change so, and again over what the reads gave.
+fn answers_reads(alloc: Global, call: &Call<'_>, all_files: &[Files<'_>]) -> Result<bool, Fail> {
+    let mut depot = changing_files(alloc, call.command.names, all_files)?;
+    Ok(leaves_over(alloc, call, &mut depot)? && leaves_over_reads(alloc, call, depot.reads())?)
+}
+
 #[test]
 fn what_reads_gave_is_answered(rt: HostRuntime) -> Result<(), Fail> {
-    let alloc = rt.alloc();
     for row in CHANGES {
-        let (all_files, words, status, text) = *row;
-        let mut versions = Vec::new(alloc);
-        for files in all_files {
-            versions.push(depot_of(alloc, files)?)?;
-        }
-        let changing = ChangingDepot {
-            versions,
-            reads: 0,
-            faults: 0,
-        };
-        let mut depot = RecordDepot::new(alloc, changing);
-        let call = says(words, &[], 0, status, text);
-        leaves_over(&rt, alloc, &call, &mut depot)?;
-        let mut told = files_on_record(&rt, alloc, depot.reads())?;
-        leaves_over(&rt, alloc, &call, &mut told)?;
+        let (command, all_files, status, text) = *row;
+        let call = says(command, (&[], 0, status, text));
+        assert!(rt; answers_reads(rt.alloc(), &call, all_files)?, "{text}");
     }
     Ok(())
 }
@@ -173,10 +182,13 @@ fn what_reads_gave_is_answered(rt: HostRuntime) -> Result<(), Fail> {
 #[test]
 fn a_file_without_an_end_is_too_long(rt: HostRuntime) -> Result<(), Fail> {
     let mut depot = EndlessDepot { faults: 0 };
-    for command in ["publish", "check"] {
-        let words = [command, "f"];
-        let call = says(&words, &[], 0, 3, "refused: f: too long\n");
-        leaves_over(&rt, rt.alloc(), &call, &mut depot)?;
+    for word in ["publish", "check"] {
+        let command = Command {
+            words: &[word, "f"],
+            ..CHECK
+        };
+        let call = says(command, (&[], 0, 3, "refused: f: too long\n"));
+        assert!(rt; leaves_over(rt.alloc(), &call, &mut depot)?, "{word}");
     }
     Ok(())
 }

@@ -1,5 +1,5 @@
 //! The command `check`.
-use crate::call::{Call, Out, leaves, says};
+use crate::call::{CHECK, Call, Command, Row, all_leave, all_say, leaves};
 use crate::certificates::{
     BLOCK_OF_NO_LINK, CUT, LEADING_ZERO, MANY_BLOCKS, MANY_NODES, MANY_PAIRS, MANY_PATHS,
     NO_CAPACITY, PAIR_OF_ONE_NODE, PARALLEL_LIGHT, PARALLEL_TWO_FAULTS, PARALLEL_WHOLE,
@@ -22,57 +22,62 @@ const OVER_CAPACITY: &str = "no link 0 rule I4 place 0\n";
 const NO_NETWORK: &str = "no network\n";
 
 /// A certificate, and the status and text that it leaves.
-const CERTIFICATES: &[(&[&str], u8, &str)] = &[
-    (&[SMALLEST], 0, YES),
-    (SMALLEST_WITH_LESS, 1, OVER_CAPACITY),
-    (PARALLEL_WHOLE, 0, YES_TWICE),
-    (PARALLEL_WITHOUT_SECOND, 1, "no link 1 rule I2 place 0\n"),
-    (TRIANGLE_FOR_ALL, 0, YES_TWICE),
-    (TRIANGLE_WITH_IDLE_BLOCKS, 0, YES_TWICE),
-    (TRIANGLE_FOR_ALL_WITH_LESS, 1, OVER_CAPACITY),
-    (TRIANGLE_FOR_MARGIN, 0, YES_MARGIN),
-    (TRIANGLE_WITHOUT_MINUS, 1, "no link 0 rule I3 place 0\n"),
-    // A node out of reach has a potential too.
-    (UNREACHED_TOO_LOW, 1, "no link 0 rule I1 place 2\n"),
-    (UNREACHED_HIGH, 0, YES),
-    (TWICE_A_NAME, 3, "refused: c: rule V1 at 1\n"),
-    (NO_CAPACITY, 3, "refused: c: rule V2 at 0\n"),
-    (PAIR_OF_ONE_NODE, 3, "refused: c: rule V3 at 0\n"),
-    (TRIANGLE_TWICE_A_NODE, 3, "refused: c: rule V4 at 0\n"),
-    (PATHS_OUT_OF_ORDER, 3, "refused: c: rule V5 at 0\n"),
-    (PARALLEL_LIGHT, 3, "refused: c: rule V6 at 0\n"),
-    (TRIANGLE_SMALL_MARGIN, 3, "refused: c: rule V7 at 0\n"),
-    (WIDE_RATIO, 3, "refused: c: rule V8 at 0\n"),
-    (BLOCK_OF_NO_LINK, 3, "refused: c: rule V8 at 1\n"),
-    (WIDE_WEIGHT, 3, "refused: c: rule V9 at 0\n"),
-    // The least number of a rule is told, of all blocks; and a fault of shape before a no.
-    (PARALLEL_TWO_FAULTS, 3, "refused: c: rule V8 at 2\n"),
+const CERTIFICATES: &[Row<'static>] = &[
+    (&[&[SMALLEST]], 1, 0, YES),
+    (&[SMALLEST_WITH_LESS], 1, 1, OVER_CAPACITY),
+    (&[PARALLEL_WHOLE], 1, 0, YES_TWICE),
     (
-        PARALLEL_WITH_LESS_AND_MORE,
+        &[PARALLEL_WITHOUT_SECOND],
+        1,
+        1,
+        "no link 1 rule I2 place 0\n",
+    ),
+    (&[TRIANGLE_FOR_ALL], 1, 0, YES_TWICE),
+    (&[TRIANGLE_WITH_IDLE_BLOCKS], 1, 0, YES_TWICE),
+    (&[TRIANGLE_FOR_ALL_WITH_LESS], 1, 1, OVER_CAPACITY),
+    (&[TRIANGLE_FOR_MARGIN], 1, 0, YES_MARGIN),
+    (
+        &[TRIANGLE_WITHOUT_MINUS],
+        1,
+        1,
+        "no link 0 rule I3 place 0\n",
+    ),
+    // A node out of reach has a potential too.
+    (&[UNREACHED_TOO_LOW], 1, 1, "no link 0 rule I1 place 2\n"),
+    (&[UNREACHED_HIGH], 1, 0, YES),
+    (&[TWICE_A_NAME], 1, 3, "refused: c: rule V1 at 1\n"),
+    (&[NO_CAPACITY], 1, 3, "refused: c: rule V2 at 0\n"),
+    (&[PAIR_OF_ONE_NODE], 1, 3, "refused: c: rule V3 at 0\n"),
+    (&[TRIANGLE_TWICE_A_NODE], 1, 3, "refused: c: rule V4 at 0\n"),
+    (&[PATHS_OUT_OF_ORDER], 1, 3, "refused: c: rule V5 at 0\n"),
+    (&[PARALLEL_LIGHT], 1, 3, "refused: c: rule V6 at 0\n"),
+    (&[TRIANGLE_SMALL_MARGIN], 1, 3, "refused: c: rule V7 at 0\n"),
+    (&[WIDE_RATIO], 1, 3, "refused: c: rule V8 at 0\n"),
+    (&[BLOCK_OF_NO_LINK], 1, 3, "refused: c: rule V8 at 1\n"),
+    (&[WIDE_WEIGHT], 1, 3, "refused: c: rule V9 at 0\n"),
+    // The least number of a rule is told, of all blocks; and a fault of shape before a no.
+    (&[PARALLEL_TWO_FAULTS], 1, 3, "refused: c: rule V8 at 2\n"),
+    (
+        &[PARALLEL_WITH_LESS_AND_MORE],
+        1,
         3,
         "refused: c: shape at line 22\n",
     ),
-    (LEADING_ZERO, 3, "refused: c: shape at line 11\n"),
-    (UNENDED, 3, "refused: c: shape at line 16\n"),
-    (&[SMALLEST, "x"], 3, "refused: c: shape at line 17\n"),
-    (&[""], 3, "refused: c: shape at line 1\n"),
-    (CUT, 3, "refused: c: shape at line 16\n"),
-    (MANY_NODES, 3, "refused: c: shape at line 2\n"),
-    (WIDE_NODES, 3, "refused: c: shape at line 2\n"),
-    (MANY_PAIRS, 3, "refused: c: shape at line 7\n"),
-    (MANY_PATHS, 3, "refused: c: shape at line 8\n"),
-    (MANY_BLOCKS, 3, "refused: c: shape at line 16\n"),
+    (&[LEADING_ZERO], 1, 3, "refused: c: shape at line 11\n"),
+    (&[UNENDED], 1, 3, "refused: c: shape at line 16\n"),
+    (&[&[SMALLEST, "x"]], 1, 3, "refused: c: shape at line 17\n"),
+    (&[&[""]], 1, 3, "refused: c: shape at line 1\n"),
+    (&[CUT], 1, 3, "refused: c: shape at line 16\n"),
+    (&[MANY_NODES], 1, 3, "refused: c: shape at line 2\n"),
+    (&[WIDE_NODES], 1, 3, "refused: c: shape at line 2\n"),
+    (&[MANY_PAIRS], 1, 3, "refused: c: shape at line 7\n"),
+    (&[MANY_PATHS], 1, 3, "refused: c: shape at line 8\n"),
+    (&[MANY_BLOCKS], 1, 3, "refused: c: shape at line 16\n"),
 ];
 
 #[test]
 fn certificates_are_judged(rt: HostRuntime) -> Result<(), Fail> {
-    for row in CERTIFICATES {
-        let (certificate, status, text) = *row;
-        let files = [("c", certificate)];
-        let call = says(&["check", "c"], &files, 1, status, text);
-        leaves(&rt, rt.alloc(), &call)?;
-    }
-    Ok(())
+    all_say(&rt, rt.alloc(), CHECK, CERTIFICATES)
 }
 
 /// The header of a topology, and the row of the link of the smallest certificate.
@@ -91,110 +96,99 @@ const MANY_LINKS: &[&str] = &[
 ];
 
 /// A certificate and a topology, how many of the two are read, and the status and text that they leave.
-const NETWORKS: &[(&[&str], &[&str], usize, u8, &str)] = &[
-    (&[SMALLEST], &[HEADER, ROW], 2, 0, YES),
-    (&[SMALLEST], &[HEADER, "a,b,11,1\n"], 2, 1, NO_NETWORK),
-    (&[SMALLEST], &[HEADER, "a,c,10,1\n"], 2, 1, NO_NETWORK),
-    (SMALLEST_WITH_LESS, &[HEADER, ROW], 2, 1, OVER_CAPACITY),
+const NETWORKS: &[Row<'static>] = &[
+    (&[&[SMALLEST], &[HEADER, ROW]], 2, 0, YES),
+    (&[&[SMALLEST], &[HEADER, "a,b,11,1\n"]], 2, 1, NO_NETWORK),
+    (&[&[SMALLEST], &[HEADER, "a,c,10,1\n"]], 2, 1, NO_NETWORK),
+    (&[SMALLEST_WITH_LESS, &[HEADER, ROW]], 2, 1, OVER_CAPACITY),
     // The network stands before the inequalities.
     (
-        SMALLEST_WITH_LESS,
-        &[HEADER, "a,b,11,1\n"],
+        &[SMALLEST_WITH_LESS, &[HEADER, "a,b,11,1\n"]],
         2,
         1,
         NO_NETWORK,
     ),
     (
-        &[SMALLEST],
-        &["source,target,capacity\n"],
+        &[&[SMALLEST], &["source,target,capacity\n"]],
         2,
         3,
         "refused: t: header\n",
     ),
     (
-        &[SMALLEST],
-        &[HEADER, ROW, "a,b,10\n"],
+        &[&[SMALLEST], &[HEADER, ROW, "a,b,10\n"]],
         2,
         3,
         "refused: t: fields at row 2\n",
     ),
     (
-        &[SMALLEST],
-        &[HEADER, "a,b c,10,1\n"],
+        &[&[SMALLEST], &[HEADER, "a,b c,10,1\n"]],
         2,
         3,
         "refused: t: name at row 1\n",
     ),
     (
-        &[SMALLEST],
-        &[HEADER, "a,b,0,1\n"],
+        &[&[SMALLEST], &[HEADER, "a,b,0,1\n"]],
         2,
         3,
         "refused: t: number at row 1\n",
     ),
     (
-        &[SMALLEST],
-        &[HEADER, ROW, "b,b,10,1\n"],
+        &[&[SMALLEST], &[HEADER, ROW, "b,b,10,1\n"]],
         2,
         3,
         "refused: t: self link at row 2\n",
     ),
     (
-        &[SMALLEST],
-        MANY_LINKS,
+        &[&[SMALLEST], MANY_LINKS],
         2,
         3,
         "refused: t: too many at row 1025\n",
     ),
-    (&[SMALLEST], &[HEADER], 2, 3, "refused: t: empty\n"),
-    (&[SMALLEST], &[], 1, 4, "fault: read\n"),
+    (&[&[SMALLEST], &[HEADER]], 2, 3, "refused: t: empty\n"),
+    (&[&[SMALLEST]], 1, 4, "fault: read\n"),
     // A certificate that is refused needs no topology.
-    (&[""], &[], 1, 3, "refused: c: shape at line 1\n"),
+    (&[&[""]], 1, 3, "refused: c: shape at line 1\n"),
 ];
+
+const CHECK_NETWORK: Command<'static> = Command {
+    words: &["check", "c", "t"],
+    names: &["c", "t"],
+    publishes: false,
+};
+
+/// One file for both words is read twice, and is no topology.
+const TWICE: Call<'static> = Call {
+    command: Command {
+        words: &["check", "c", "c"],
+        names: &["c", "c"],
+        publishes: false,
+    },
+    files: &[&[SMALLEST], &[SMALLEST]],
+    read: 2,
+    failing_fetch: None,
+    failing_put: None,
+    room_of_err: 200,
+    status: 3,
+    out: "",
+    err: "refused: c: header\n",
+};
 
 #[test]
 fn networks_are_compared(rt: HostRuntime) -> Result<(), Fail> {
-    for row in NETWORKS {
-        let (certificate, topology, read, status, text) = *row;
-        let files = [("c", certificate), ("t", topology)];
-        let call = says(&["check", "c", "t"], &files, read, status, text);
-        leaves(&rt, rt.alloc(), &call)?;
-    }
-    // One file for both words is read twice, and is no topology.
-    let files: [(&str, &[&str]); 2] = [("c", &[SMALLEST]), ("c", &[SMALLEST])];
-    let call = says(&["check", "c", "c"], &files, 2, 3, "refused: c: header\n");
-    leaves(&rt, rt.alloc(), &call)
-}
-
-/// Words that are no form of a command.
-const NO_COMMANDS: &[&[&str]] = &[
-    &[],
-    &["check"],
-    &["Check", "c"],
-    &["check", "c", "t", "t"],
-    &["publish"],
-    &["run", "p", "p"],
-    &["yates", "check", "c"],
-];
-
-#[test]
-fn words_are_refused(rt: HostRuntime) -> Result<(), Fail> {
-    for words in NO_COMMANDS {
-        leaves(&rt, rt.alloc(), &says(words, &[], 0, 2, "usage\n"))?;
-    }
-    Ok(())
+    all_say(&rt, rt.alloc(), CHECK_NETWORK, NETWORKS)?;
+    leaves(&rt, rt.alloc(), &TWICE)
 }
 
 /// The smallest certificate is judged. The read and the write after the last would fail.
 const JUDGED: Call<'static> = Call {
-    words: &["check", "c"],
-    files: &[("c", &[SMALLEST])],
+    command: CHECK,
+    files: &[&[SMALLEST]],
     read: 1,
     failing_fetch: Some(3),
     failing_put: Some(7),
     room_of_err: 200,
     status: 0,
-    out: Out::Text(YES),
+    out: YES,
     err: "",
 };
 
@@ -202,7 +196,7 @@ const JUDGED: Call<'static> = Call {
 const UNREAD: Call<'static> = Call {
     read: 0,
     status: 4,
-    out: Out::Text(""),
+    out: "",
     err: "fault: read\n",
     ..JUDGED
 };
@@ -219,14 +213,17 @@ const FAULTS: &[Call<'static>] = &[
         ..UNREAD
     },
     Call {
-        words: &["check", "d"],
+        command: Command {
+            words: &["check", "d"],
+            ..CHECK
+        },
         ..UNREAD
     },
     // The line is written in part.
     Call {
         failing_put: Some(1),
         status: 5,
-        out: Out::Text("yes "),
+        out: "yes ",
         err: "fault: write\n",
         ..JUDGED
     },
@@ -238,7 +235,10 @@ const FAULTS: &[Call<'static>] = &[
         ..UNREAD
     },
     Call {
-        words: &[],
+        command: Command {
+            words: &[],
+            ..CHECK
+        },
         read: 0,
         room_of_err: 3,
         status: 2,
@@ -249,8 +249,5 @@ const FAULTS: &[Call<'static>] = &[
 
 #[test]
 fn faults_are_told(rt: HostRuntime) -> Result<(), Fail> {
-    for call in FAULTS {
-        leaves(&rt, rt.alloc(), call)?;
-    }
-    Ok(())
+    all_leave(&rt, rt.alloc(), FAULTS)
 }

@@ -24,3 +24,5 @@ mod gravity;
 mod publish;
 #[cfg(test)]
 mod report;
+#[cfg(test)]
+mod usage;

@@ -1,11 +1,6 @@
 //! The command `run`.
-use crate::call::{Call, Out, leaves, says};
-use std::alloc::Global;
+use crate::call::{Call, RUN, Row, all_leave, all_say};
 use std::test::Fail;
-
-/// The first line of a report.
-const HEADER: &str =
-    "scheme,step,offered,delivered,lost_full,lost_failed,lost_no_path,peak,parts,low\n";
 
 const PLAN: &str =
     "{\"topology\":\"t\",\"matrices\":\"m\",\"failures\":\"f\",\"schemes\":[\"spf\"]}";
@@ -31,209 +26,186 @@ const BYPASS: &str =
 const REROUTE: &str =
     "{\"topology\":\"t\",\"matrices\":\"m\",\"failures\":\"f\",\"schemes\":[\"ksp\"],\"k\":2,\"recovery\":\"reroute\"}";
 
-/// A plan, a topology, matrices and failures, how many of them are read, and the lines of the report.
-const REPORTS: &[(&[&str], &[&str], &[&str], &[&str], usize, &str)] = &[
+/// A plan, a topology, matrices and failures, how many of them are read, and the report.
+const REPORTS: &[Row<'static>] = &[
     (
-        &[KEEP],
-        &[WAYS],
-        &[TWELVE],
-        &[SECOND],
+        &[&[KEEP], &[WAYS], &[TWELVE], &[SECOND]],
         4,
-        "ksp,0,12,12,0,0,0,600000,600000,-\nksp,1,12,6,0,6,0,600000,600000,-\nksp,total,24,18,0,6,0,600000,600000,-\n",
+        0,
+        "scheme,step,offered,delivered,lost_full,lost_failed,lost_no_path,peak,parts,low\n\
+         ksp,0,12,12,0,0,0,600000,600000,-\n\
+         ksp,1,12,6,0,6,0,600000,600000,-\n\
+         ksp,total,24,18,0,6,0,600000,600000,-\n",
     ),
     (
-        &[SCALE],
-        &[WAYS],
-        &[TWELVE],
-        &[SECOND],
+        &[&[SCALE], &[WAYS], &[TWELVE], &[SECOND]],
         4,
-        "ksp,0,12,12,0,0,0,600000,600000,-\nksp,1,12,10,2,0,0,1000000,600000,-\nksp,total,24,22,2,0,0,1000000,600000,-\n",
+        0,
+        "scheme,step,offered,delivered,lost_full,lost_failed,lost_no_path,peak,parts,low\n\
+         ksp,0,12,12,0,0,0,600000,600000,-\n\
+         ksp,1,12,10,2,0,0,1000000,600000,-\n\
+         ksp,total,24,22,2,0,0,1000000,600000,-\n",
     ),
     (
-        &[BYPASS],
-        &[WAYS],
-        &[TWELVE],
-        &[SECOND],
+        &[&[BYPASS], &[WAYS], &[TWELVE], &[SECOND]],
         4,
-        "ksp,0,12,12,0,0,0,600000,600000,-\nksp,1,12,9,3,0,0,1000000,600000,-\nksp,total,24,21,3,0,0,1000000,600000,-\n",
+        0,
+        "scheme,step,offered,delivered,lost_full,lost_failed,lost_no_path,peak,parts,low\n\
+         ksp,0,12,12,0,0,0,600000,600000,-\n\
+         ksp,1,12,9,3,0,0,1000000,600000,-\n\
+         ksp,total,24,21,3,0,0,1000000,600000,-\n",
     ),
     (
-        &[REROUTE],
-        &[WAYS],
-        &[TWELVE],
-        &[SECOND],
+        &[&[REROUTE], &[WAYS], &[TWELVE], &[SECOND]],
         4,
-        "ksp,0,12,12,0,0,0,600000,600000,-\nksp,1,12,9,3,0,0,1000000,2000000,-\nksp,total,24,21,3,0,0,1000000,2000000,-\n",
+        0,
+        "scheme,step,offered,delivered,lost_full,lost_failed,lost_no_path,peak,parts,low\n\
+         ksp,0,12,12,0,0,0,600000,600000,-\n\
+         ksp,1,12,9,3,0,0,1000000,2000000,-\n\
+         ksp,total,24,21,3,0,0,1000000,2000000,-\n",
     ),
     // Both links from s that the paths use have failed.
     (
-        &[SCALE],
-        &[WAYS],
-        &[TWELVE],
-        &["from,to,link\n1,1,1\n1,1,0\n"],
+        &[
+            &[SCALE],
+            &[WAYS],
+            &[TWELVE],
+            &["from,to,link\n1,1,1\n1,1,0\n"],
+        ],
         4,
-        "ksp,0,12,12,0,0,0,600000,600000,-\nksp,1,12,0,0,0,12,0,600000,-\nksp,total,24,12,0,0,12,600000,600000,-\n",
+        0,
+        "scheme,step,offered,delivered,lost_full,lost_failed,lost_no_path,peak,parts,low\n\
+         ksp,0,12,12,0,0,0,600000,600000,-\n\
+         ksp,1,12,0,0,0,12,0,600000,-\n\
+         ksp,total,24,12,0,0,12,600000,600000,-\n",
     ),
     // Traffic without a path is lost, and needs no failure file.
     (
-        &["{\"topology\":\"t\",\"matrices\":\"m\",\"schemes\":[\"spf\"]}"],
-        &["source,target,capacity,cost\na,b,10,1\nb,c,10,1\n"],
-        &["step,source,target,demand\n0,a,b,1\n0,a,c,1\n0,c,a,1\n"],
-        &[],
+        &[
+            &["{\"topology\":\"t\",\"matrices\":\"m\",\"schemes\":[\"spf\"]}"],
+            &["source,target,capacity,cost\na,b,10,1\nb,c,10,1\n"],
+            &["step,source,target,demand\n0,a,b,1\n0,a,c,1\n0,c,a,1\n"],
+        ],
         3,
-        "spf,0,3,2,0,0,1,200000,200000,-\nspf,total,3,2,0,0,1,200000,200000,-\n",
+        0,
+        "scheme,step,offered,delivered,lost_full,lost_failed,lost_no_path,peak,parts,low\n\
+         spf,0,3,2,0,0,1,200000,200000,-\n\
+         spf,total,3,2,0,0,1,200000,200000,-\n",
     ),
 ];
 
-/// The report of these lines.
-fn report_of(alloc: Global, lines: &str) -> Result<String, Fail> {
-    let mut text = String::from_str(alloc, HEADER)?;
-    text.push_str(lines)?;
-    Ok(text)
-}
-
 #[test]
 fn schemes_are_compared(rt: HostRuntime) -> Result<(), Fail> {
-    let alloc = rt.alloc();
-    for row in REPORTS {
-        let (plan, topology, matrices, failures, read, lines) = *row;
-        let files = [
-            ("p", plan),
-            ("t", topology),
-            ("m", matrices),
-            ("f", failures),
-        ];
-        let text = report_of(alloc, lines)?;
-        let call = says(&["run", "p"], &files, read, 0, &text);
-        leaves(&rt, alloc, &call)?;
-    }
-    Ok(())
+    all_say(&rt, rt.alloc(), RUN, REPORTS)
 }
 
 /// A plan, a topology, matrices and failures, how many of them are read, and the status and text that they leave.
-const REFUSALS: &[(&[&str], &[&str], &[&str], &[&str], usize, u8, &str)] = &[
+const REFUSALS: &[Row<'static>] = &[
     (
-        &[PLAN],
-        &[WAYS],
-        &[TWELVE],
-        &["from,to\n"],
+        &[&[PLAN], &[WAYS], &[TWELVE], &["from,to\n"]],
         4,
         3,
         "refused: f: header\n",
     ),
     (
-        &[PLAN],
-        &[WAYS],
-        &[TWELVE],
-        &[SECOND, "1,1\n"],
+        &[&[PLAN], &[WAYS], &[TWELVE], &[SECOND, "1,1\n"]],
         4,
         3,
         "refused: f: fields at row 2\n",
     ),
     (
-        &[PLAN],
-        &[WAYS],
-        &[TWELVE],
-        &["from,to,link\n1,1,a\n"],
+        &[&[PLAN], &[WAYS], &[TWELVE], &["from,to,link\n1,1,a\n"]],
         4,
         3,
         "refused: f: number at row 1\n",
     ),
     (
-        &[PLAN],
-        &[WAYS],
-        &[TWELVE],
-        &["from,to,link\n0,1,5\n"],
+        &[&[PLAN], &[WAYS], &[TWELVE], &["from,to,link\n0,1,5\n"]],
         4,
         3,
         "refused: f: no such link at row 1\n",
     ),
     (
-        &[PLAN],
-        &[WAYS],
-        &[TWELVE],
-        &["from,to,link\n1,0,1\n"],
+        &[&[PLAN], &[WAYS], &[TWELVE], &["from,to,link\n1,0,1\n"]],
         4,
         3,
         "refused: f: interval at row 1\n",
     ),
     // There are two steps.
     (
-        &[PLAN],
-        &[WAYS],
-        &[TWELVE],
-        &["from,to,link\n0,1,4\n1,2,1\n"],
+        &[
+            &[PLAN],
+            &[WAYS],
+            &[TWELVE],
+            &["from,to,link\n0,1,4\n1,2,1\n"],
+        ],
         4,
         3,
         "refused: f: interval at row 2\n",
     ),
     // A plan that is refused needs no topology, a topology no matrices, and matrices no failures.
+    (&[&["{}"]], 1, 3, "refused: p: missing topology\n"),
     (
-        &["{}"],
-        &[],
-        &[],
-        &[],
-        1,
-        3,
-        "refused: p: missing topology\n",
-    ),
-    (
-        &[PLAN],
-        &["source,target,capacity,cost\n"],
-        &[],
-        &[],
+        &[&[PLAN], &["source,target,capacity,cost\n"]],
         2,
         3,
         "refused: t: empty\n",
     ),
-    (&[PLAN], &[WAYS], &[WAYS], &[], 3, 3, "refused: m: header\n"),
-    (&[], &[WAYS], &[TWELVE], &[SECOND], 0, 4, "fault: read\n"),
-    (&[PLAN], &[], &[TWELVE], &[SECOND], 1, 4, "fault: read\n"),
-    (&[PLAN], &[WAYS], &[], &[SECOND], 2, 4, "fault: read\n"),
-    (&[PLAN], &[WAYS], &[TWELVE], &[], 3, 4, "fault: read\n"),
+    (&[&[PLAN], &[WAYS], &[WAYS]], 3, 3, "refused: m: header\n"),
+    (&[&[], &[WAYS], &[TWELVE], &[SECOND]], 0, 4, "fault: read\n"),
+    (&[&[PLAN], &[], &[TWELVE], &[SECOND]], 1, 4, "fault: read\n"),
+    (&[&[PLAN], &[WAYS], &[], &[SECOND]], 2, 4, "fault: read\n"),
+    (&[&[PLAN], &[WAYS], &[TWELVE]], 3, 4, "fault: read\n"),
 ];
 
 #[test]
 fn files_of_run_are_refused(rt: HostRuntime) -> Result<(), Fail> {
-    for row in REFUSALS {
-        let (plan, topology, matrices, failures, read, status, text) = *row;
-        let files = [
-            ("p", plan),
-            ("t", topology),
-            ("m", matrices),
-            ("f", failures),
-        ];
-        let call = says(&["run", "p"], &files, read, status, text);
-        leaves(&rt, rt.alloc(), &call)?;
-    }
-    Ok(())
+    all_say(&rt, rt.alloc(), RUN, REFUSALS)
 }
 
-/// A read that fails, the first being number 0, and how many files were read before. The topology has three reads, and each
-/// other file two, of which the last gives nothing.
-const FAILING_READS: &[(u64, usize)] = &[(1, 0), (4, 1), (6, 2), (8, 3)];
+/// The first read fails that would find the end of a file, the plan's. The topology has three reads, and each other file two.
+const UNREAD: Call<'static> = Call {
+    command: RUN,
+    files: &[&[PLAN], &[WAYS], &[TWELVE], &[SECOND]],
+    read: 0,
+    failing_fetch: Some(1),
+    failing_put: None,
+    room_of_err: 200,
+    status: 4,
+    out: "",
+    err: "fault: read\n",
+};
+
+const FAULTS: &[Call<'static>] = &[
+    UNREAD,
+    Call {
+        failing_fetch: Some(4),
+        read: 1,
+        ..UNREAD
+    },
+    Call {
+        failing_fetch: Some(6),
+        read: 2,
+        ..UNREAD
+    },
+    Call {
+        failing_fetch: Some(8),
+        read: 3,
+        ..UNREAD
+    },
+    // The header is written in part.
+    Call {
+        failing_fetch: None,
+        failing_put: Some(3),
+        read: 4,
+        status: 5,
+        out: "scheme,step,",
+        err: "fault: write\n",
+        ..UNREAD
+    },
+];
 
 #[test]
 fn faults_of_run_are_told(rt: HostRuntime) -> Result<(), Fail> {
-    let files: [(&str, &[&str]); 4] = [
-        ("p", &[PLAN]),
-        ("t", &[WAYS]),
-        ("m", &[TWELVE]),
-        ("f", &[SECOND]),
-    ];
-    for row in FAILING_READS {
-        let (fetch, read) = *row;
-        let call = Call {
-            failing_fetch: Some(fetch),
-            ..says(&["run", "p"], &files, read, 4, "fault: read\n")
-        };
-        leaves(&rt, rt.alloc(), &call)?;
-    }
-    // The header is written in part.
-    let call = Call {
-        failing_put: Some(3),
-        out: Out::Text("scheme,step,"),
-        ..says(&["run", "p"], &files, 4, 5, "fault: write\n")
-    };
-    leaves(&rt, rt.alloc(), &call)
+    all_leave(&rt, rt.alloc(), FAULTS)
 }
