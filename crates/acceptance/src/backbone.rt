@@ -3,7 +3,7 @@ ghost use Rattle.std.specs.Prelude.{IsTrue};
 ghost use Rattle.te_model.specs.Network.{is_well_formed, node_count};
 ghost use Rattle.traffic_matrix.specs.Limits.{IsSeries};
 
-use crate::call::{Command, published_ratio, written};
+use crate::call::{Command, published_ratio, written_over};
 use rand::RngExt;
 use rand_chacha::ChaCha8Rng;
 use rand_core::SeedableRng;
@@ -13,6 +13,7 @@ use std::alloc::Global;
 use std::process::Abort;
 use std::test::Fail;
 use te_model::Network;
+use te_ports::MemDepot;
 use traffic_matrix::{Series, gravity, print};
 
 const PUBLISH: Command<'static> = Command {
@@ -44,6 +45,15 @@ fn gravity_matrices(alloc: Global) -> Result<String, Fail> {
     Ok(String::from_utf8(print(alloc, &network, &series)?)?)
 }
 
+/// The files of a plan on the backbone and these matrices.
+fn files_of(alloc: Global, plan: &[&str], matrices: &str) -> Result<MemDepot, Fail> {
+    let mut files = MemDepot::new(alloc, 64)?;
+    files.add("plan.json", plan.concat(alloc)?.as_bytes())?;
+    files.add("net.csv", BACKBONE.as_bytes())?;
+    files.add("tm.csv", matrices.as_bytes())?;
+    Ok(files)
+}
+
 /// A plan on the backbone, the set of its certificate, and a ratio that it may not reach.
 const PUBLISHED: &[(&[&str], &str, u64)] = &[
     (PLAN, "all", 26_500_000),
@@ -73,8 +83,8 @@ fn backbone_has_lower_ratios(rt: HostRuntime) -> Result<(), Fail> {
     let matrices = gravity_matrices(alloc)?;
     for row in PUBLISHED {
         let (plan, set, bound) = *row;
-        let files: [&[&str]; 3] = [plan, &[BACKBONE], &[matrices.as_str()]];
-        let ratio = published_ratio(&rt, alloc, PUBLISH, &files, set)?;
+        let mut files = files_of(alloc, plan, &matrices)?;
+        let ratio = published_ratio(&rt, alloc, PUBLISH, &mut files, set)?;
         assert!(rt; ratio < bound, "{ratio} is not below {bound}");
     }
     Ok(())
@@ -88,7 +98,8 @@ fn on_backbone(
     plan: &[&str],
     matrices: &str,
 ) -> Result<String, Fail> {
-    written(rt, alloc, command, &[plan, &[BACKBONE], &[matrices]])
+    let mut files = files_of(alloc, plan, matrices)?;
+    written_over(rt, alloc, command, &mut files)
 }
 
 #[test]

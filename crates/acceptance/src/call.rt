@@ -145,55 +145,64 @@ fn outcome_over<D: Depot>(
     Ok(Outcome { status, out, err })
 }
 
-/// What is left by the call over files that are told, in pieces of 64 bytes.
-fn outcome_of(alloc: Global, call: &Call<'_>) -> Result<Outcome, Fail> {
-    let mut depot = depot_for(alloc, call, 64)?;
-    outcome_over(alloc, call, &mut depot, 1_000_000)
-}
-
-/// What the command writes to `out`, and that it ends with 0.
-pub fn written(
+/// What the command writes to `out` over this depot, and that it ends with 0.
+pub fn written_over<D: Depot>(
     rt: &impl Abort,
     alloc: Global,
     command: Command<'_>,
-    files: Files<'_>,
+    depot: &mut D,
 ) -> Result<String, Fail> {
-    let left = outcome_of(alloc, &says(command, (files, 0, 0, "")))?;
+    let call = says(command, (&[], 0, 0, ""));
+    let left = outcome_over(alloc, &call, depot, 1_000_000)?;
     assert_eq!(rt; left.status, 0);
     Ok(str::from_utf8(left.out.bytes())?.to_string(alloc)?)
 }
 
-/// The command writes the same once more.
-pub fn is_written_again(
+/// What the command writes to `out` over these files, and that it ends with 0.
+pub fn written<'a>(
     rt: &impl Abort,
     alloc: Global,
-    command: Command<'_>,
-    files: Files<'_>,
-    text: &str,
-) -> Result<bool, Fail> {
-    Ok(written(rt, alloc, command, files)?.as_str() == text)
+    command: Command<'a>,
+    files: Files<'a>,
+) -> Result<String, Fail> {
+    let mut depot = depot_of(alloc, command.names, files, 64)?;
+    written_over(rt, alloc, command, &mut depot)
 }
 
-/// The ratio of the certificate that a command publishes, each time the same. `check` says yes to it, for this set.
+/// What `check` leaves of the certificate.
+fn outcome_of_check(alloc: Global, certificate: &str) -> Result<Outcome, Fail> {
+    let mut depot = MemDepot::new(alloc, 64)?;
+    depot.add("c", certificate.as_bytes())?;
+    outcome_over(alloc, &says(CHECK, (&[], 1, 0, "")), &mut depot, 200)
+}
+
+/// `check` says yes to the certificate, by this line.
+pub fn is_accepted_with(alloc: Global, certificate: &str, line: &str) -> Result<bool, Fail> {
+    let left = outcome_of_check(alloc, certificate)?;
+    let says_it = left.out.bytes() == line.as_bytes() && left.err.bytes().is_empty();
+    Ok(left.status == 0 && says_it)
+}
+
+/// The ratio of the certificate that a command publishes over this depot, each time the same. `check` says yes to it, for
+/// this set.
 pub fn published_ratio(
     rt: &impl Abort,
     alloc: Global,
     command: Command<'_>,
-    files: Files<'_>,
+    depot: &mut MemDepot,
     set: &str,
 ) -> Result<u64, Fail> {
-    let file = written(rt, alloc, command, files)?;
-    assert!(rt; is_written_again(rt, alloc, command, files, &file)?);
+    let file = written_over(rt, alloc, command, depot)?;
+    let again = written_over(rt, alloc, command, depot)?;
+    assert!(rt; file == again);
     let ratio = cert_text::read(alloc, file.as_bytes())?.head.ratio;
     let line = format!(in alloc; "yes ratio {ratio} set {set}\n")?;
-    let row: Row = (&[&[file.as_str()]], 1, 0, line.as_str());
-    assert!(rt; leaves_over_told(alloc, &says(CHECK, row), 64)?);
+    assert!(rt; is_accepted_with(alloc, &file, &line)?);
     Ok(ratio)
 }
 
 fn is_accepted(alloc: Global, certificate: &str) -> Result<bool, Fail> {
-    let left = outcome_of(alloc, &says(CHECK, (&[&[certificate]], 1, 0, "")))?;
-    Ok(left.status == 0)
+    Ok(outcome_of_check(alloc, certificate)?.status == 0)
 }
 
 /// The call left what it has to.

@@ -1,5 +1,5 @@
 //! A chain of 65 nodes: one node more than the first format has room for.
-use crate::call::{CHECK, Files, PUBLISH, RUN, Row, leaves, leaves_over_told, says, written};
+use crate::call::{CHECK, Call, Files, PUBLISH, RUN, is_accepted_with, leaves, says, written};
 use std::alloc::Global;
 use std::test::Fail;
 
@@ -42,6 +42,11 @@ fn certificate(alloc: Global, ratio: u32) -> Result<String, Fail> {
     Ok(text)
 }
 
+/// The call of `check` over the file, and what it leaves.
+fn check_of<'a>(file: Files<'a>, status: u8, text: &'a str) -> Call<'a> {
+    says(CHECK, (file, 1, status, text))
+}
+
 #[test]
 fn chain_is_judged(rt: HostRuntime) -> Result<(), Fail> {
     let alloc = rt.alloc();
@@ -50,8 +55,9 @@ fn chain_is_judged(rt: HostRuntime) -> Result<(), Fail> {
         (999_999, 1, "no link 0 rule I4 place 0\n"),
     ] {
         let file = certificate(alloc, ratio)?;
-        let row: Row = (&[&[file.as_str()]], 1, status, text);
-        leaves(&rt, alloc, &says(CHECK, row))?;
+        let parts = [file.as_str()];
+        let files = [parts.as_slice()];
+        leaves(&rt, alloc, &check_of(&files, status, text))?;
     }
     Ok(())
 }
@@ -113,8 +119,7 @@ fn chains_are_published(rt: HostRuntime) -> Result<(), Fail> {
         let (files, start, middle, line) = *row;
         let file = written(&rt, alloc, PUBLISH, files)?;
         assert!(rt; file.starts_with(start) && file.contains(middle), "{line}");
-        let row: Row = (&[&[file.as_str()]], 1, 0, line);
-        assert!(rt; leaves_over_told(alloc, &says(CHECK, row), 64)?, "{line}");
+        assert!(rt; is_accepted_with(alloc, &file, line)?, "{line}");
     }
     Ok(())
 }

@@ -1,5 +1,5 @@
 //! The command `publish`.
-use crate::call::{Call, Files, PUBLISH, Row, all_leave, all_say, published_ratio};
+use crate::call::{Call, Files, PUBLISH, Row, all_leave, all_say, depot_of, published_ratio};
 use std::test::Fail;
 
 const SPF: &str = "{\"topology\":\"t\",\"matrices\":\"m\",\"publish\":\"spf\"}";
@@ -178,7 +178,8 @@ const RATIOS: &[(Files<'static>, &str, u64, u64)] = &[
 fn ratios_are_near_those_of_the_routings(rt: HostRuntime) -> Result<(), Fail> {
     for row in RATIOS {
         let (files, set, least, most) = *row;
-        let ratio = published_ratio(&rt, rt.alloc(), PUBLISH, files, set)?;
+        let mut depot = depot_of(rt.alloc(), PUBLISH.names, files, 64)?;
+        let ratio = published_ratio(&rt, rt.alloc(), PUBLISH, &mut depot, set)?;
         assert!(rt;
             least <= ratio && ratio <= most,
             "{ratio} is not {least} or a little more"
