@@ -1,8 +1,8 @@
 //! Even splits over least paths, and the paths that they come apart into.
-use crate::answers::{THIRDS, are_paths, has_routes};
+use crate::thirds::THIRDS;
 use ecmp_split::*;
 use routing::decompose;
-use sample_networks::{network, pairs, three_ways};
+use sample_networks::{are_paths, are_routes, network, pairs, three_ways};
 use scheme::{Oblivious, Scheme, SchemeFault};
 use std::test::Fail;
 use te_model::Pair;
@@ -60,7 +60,7 @@ fn paths_carry_the_flow_of_equal_splits(rt: HostRuntime) -> Result<(), Fail> {
     let net = three_ways(alloc, 1)?;
     let there = pairs(alloc, &[(0, 4)])?;
     let plan = Ecmp.prepare(alloc, &net, &there)?;
-    assert!(rt; has_routes(Ecmp.fixed(&plan), &[(0, 4, THIRDS)]));
+    assert!(rt; are_routes(Ecmp.fixed(&plan).routes.as_slice(), &[(0, 4, THIRDS)]));
     Ok(())
 }
 

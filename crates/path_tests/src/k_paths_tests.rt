@@ -2,9 +2,9 @@
 ghost use Rattle.std.specs.Prelude.{◌≢◌, ◌<◌, ◌≤◌, IsTrue};
 ghost use Rattle.te_model.specs.Network.{is_well_formed, node_count};
 
-use crate::answers::{THIRDS, has_routes};
+use crate::thirds::THIRDS;
 use k_paths::*;
-use sample_networks::{network, pairs, three_ways};
+use sample_networks::{are_routes, network, pairs, three_ways};
 use scheme::{Oblivious, Scheme};
 use std::alloc::Global;
 use std::test::Fail;
@@ -79,6 +79,6 @@ fn paths_have_even_weights(rt: HostRuntime) -> Result<(), Fail> {
     let pairs = pairs(alloc, &[(0, 4)])?;
     let ksp = Ksp { k: 5 };
     let plan = ksp.prepare(alloc, &net, &pairs)?;
-    assert!(rt; has_routes(ksp.fixed(&plan), &[(0, 4, THIRDS)]));
+    assert!(rt; are_routes(ksp.fixed(&plan).routes.as_slice(), &[(0, 4, THIRDS)]));
     Ok(())
 }

@@ -2,8 +2,6 @@
 #![tactic(auto)]
 
 #[cfg(test)]
-mod answers;
-#[cfg(test)]
 mod ecmp_split_tests;
 #[cfg(test)]
 mod k_paths_tests;
@@ -15,3 +13,5 @@ mod routing_tests;
 mod scheme_tests;
 #[cfg(test)]
 mod shortest_path_tests;
+#[cfg(test)]
+mod thirds;

@@ -1,8 +1,7 @@
 //! The heaviest paths of a pair, where it has more than it may keep.
-use crate::answers::has_routes;
 use path_budget::*;
 use routing::Routing;
-use sample_networks::weighted_routes;
+use sample_networks::{are_routes, weighted_routes};
 use std::test::Fail;
 
 #[test]
@@ -15,6 +14,11 @@ fn the_heaviest_two_of_three_paths_stay(rt: HostRuntime) -> Result<(), Fail> {
     )?;
     let routing = Routing { routes };
     let trimmed = trim(alloc, &routing, 2)?;
-    assert!(rt; has_routes(&trimmed, &[(0, 1, &[(&[0], 625_000), (&[2], 375_000)])]));
+    assert!(rt;
+        are_routes(
+            trimmed.routes.as_slice(),
+            &[(0, 1, &[(&[0], 625_000), (&[2], 375_000)])]
+        )
+    );
     Ok(())
 }

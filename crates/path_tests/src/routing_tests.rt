@@ -2,9 +2,9 @@
 ghost use Rattle.std.specs.Prelude.{◌≡◌, IfOk, length};
 ghost use Rattle.path_tests.specs.RoutingSamples.{fork, halves, three_middles, way_and_back};
 
-use crate::answers::{THIRDS, are_paths};
+use crate::thirds::THIRDS;
 use routing::*;
-use sample_networks::{matrix, network, weighted_paths, weighted_routes};
+use sample_networks::{are_paths, matrix, network, weighted_paths, weighted_routes};
 use std::alloc::{AllocError, Global};
 use std::test::Fail;
 use te_model::{Items, Memory, Network, Pair, Path, PathShare};

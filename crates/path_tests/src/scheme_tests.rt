@@ -1,17 +1,16 @@
 //! The least path of each pair as a scheme, in generic code.
 mod generic;
 
-use crate::answers::has_routes;
 use generic::{fixed_copy, planned};
 use routing::Routing;
-use sample_networks::{four_nodes, matrix, pairs};
+use sample_networks::{are_routes, four_nodes, matrix, pairs};
 use scheme::*;
 use std::test::Fail;
 
 /// Whether each of the two pairs has its least path alone.
 fn has_least_paths(routing: &Routing) -> bool {
-    has_routes(
-        routing,
+    are_routes(
+        routing.routes.as_slice(),
         &[(0, 1, &[(&[0], 1_000_000)]), (0, 2, &[(&[1], 1_000_000)])],
     )
 }

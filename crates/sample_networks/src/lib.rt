@@ -1,10 +1,13 @@
-//! Small networks and the backbone, and pairs, paths and demands: what several crates of tests begin with.
+//! Small networks and the backbone, and pairs, paths and demands: what several crates of tests begin with, and how they compare
+//! the routes that they find.
 #![tactic(auto)]
 
+pub mod answers;
 pub mod backbone;
 pub mod literals;
 pub mod networks;
 
+pub use answers::{are_paths, are_routes};
 pub use backbone::BACKBONE;
 pub use literals::{WeightedPath, matrix, network, pairs, weighted_paths, weighted_routes};
 pub use networks::{

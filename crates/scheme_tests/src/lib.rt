@@ -2,7 +2,7 @@
 #![tactic(auto)]
 
 #[cfg(test)]
-mod answers;
+mod brackets;
 #[cfg(test)]
 mod centred_steps_tests;
 #[cfg(test)]

@@ -4,11 +4,10 @@ ghost use Rattle.routing.specs.Routes.{IsRoutingOf};
 ghost use Rattle.sample_networks.specs.Literals.{pair_of};
 ghost use Rattle.sample_networks.specs.Networks.{parallel_links};
 
-use crate::answers::has_routes;
 use crate::commodities::on_parallel_links;
 use local_search::*;
 use routing::Routing;
-use sample_networks::weighted_routes;
+use sample_networks::{are_routes, weighted_routes};
 use std::alloc::Global;
 use std::test::Fail;
 use te_model::Memory;
@@ -55,6 +54,11 @@ fn weight_leaves_the_narrow_link(rt: HostRuntime) -> Result<(), Fail> {
 fn a_stable_routing_stays(rt: HostRuntime) -> Result<(), Fail> {
     let (routing, parts) = from_balance(rt.alloc())?;
     assert!(rt; parts == 1_000_000);
-    assert!(rt; has_routes(&routing, &[(0, 1, &[(&[0], 250_000), (&[1], 750_000)])]));
+    assert!(rt;
+        are_routes(
+            routing.routes.as_slice(),
+            &[(0, 1, &[(&[0], 250_000), (&[1], 750_000)])]
+        )
+    );
     Ok(())
 }

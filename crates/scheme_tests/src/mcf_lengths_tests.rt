@@ -4,10 +4,11 @@ ghost use Rattle.mcf_lengths.specs.Rounds.{AreFlowRounds, IsRoundsRouting};
 ghost use Rattle.sample_networks.specs.Literals.{pair_of};
 ghost use Rattle.sample_networks.specs.Networks.{parallel_links};
 
-use crate::answers::{has_routes, is_between};
+use crate::brackets::is_between;
 use crate::commodities::{on_parallel_links, plan_and_route};
 use mcf_lengths::*;
 use routing::Routing;
+use sample_networks::are_routes;
 use std::alloc::Global;
 use std::test::Fail;
 use te_model::Memory;
@@ -72,7 +73,12 @@ fn sample_routing(alloc: Global) -> Result<(Routing, u128, usize), Memory>
 fn most_rounds_take_the_large_link(rt: HostRuntime) -> Result<(), Fail> {
     let (routing, parts, rounds) = sample_routing(rt.alloc())?;
     assert!(rt; parts == 1_047_620 && rounds == 28);
-    assert!(rt; has_routes(&routing, &[(0, 1, &[(&[0], 214_285), (&[1], 785_715)])]));
+    assert!(rt;
+        are_routes(
+            routing.routes.as_slice(),
+            &[(0, 1, &[(&[0], 214_285), (&[1], 785_715)])]
+        )
+    );
     Ok(())
 }
 

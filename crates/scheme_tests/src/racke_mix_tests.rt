@@ -1,15 +1,15 @@
 //! The mix of trees, on two nodes with one link each way.
-use crate::answers::has_routes;
 use crate::commodities::{plan_and_route, there_and_back};
 use racke_mix::*;
 use routing::Routing;
+use sample_networks::are_routes;
 use scheme::Oblivious;
 use std::test::Fail;
 
 /// Whether each pair has its own link alone.
 fn has_single_links(routing: &Routing) -> bool {
-    has_routes(
-        routing,
+    are_routes(
+        routing.routes.as_slice(),
         &[(0, 1, &[(&[0], 1_000_000)]), (1, 0, &[(&[1], 1_000_000)])],
     )
 }

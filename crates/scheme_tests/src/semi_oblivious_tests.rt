@@ -1,9 +1,10 @@
 //! Rates for one matrix over fixed paths, on two parallel links.
-use crate::answers::{has_routes, is_between};
+use crate::brackets::is_between;
 use crate::commodities::{on_parallel_links, plan_and_route};
 use k_paths::Ksp;
 use racke_mix::Racke;
 use routing::Routing;
+use sample_networks::are_routes;
 use semi_oblivious::*;
 use std::test::Fail;
 
@@ -34,7 +35,7 @@ fn one_fixed_path_stays_alone(rt: HostRuntime) -> Result<(), Fail> {
     let semi = Semi { base, budget: 1 };
     let commodities = on_parallel_links(alloc)?;
     let (_plan, routing, note) = plan_and_route(alloc, &semi, &commodities)?;
-    assert!(rt; has_routes(&routing, &[(0, 1, &[(&[0], 1_000_000)])]));
+    assert!(rt; are_routes(routing.routes.as_slice(), &[(0, 1, &[(&[0], 1_000_000)])]));
     assert!(rt; is_between(&note, 4_000_000, 4_000_000));
     Ok(())
 }

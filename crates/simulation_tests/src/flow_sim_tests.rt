@@ -7,10 +7,10 @@ ghost use Rattle.sample_networks.specs.Networks.{four_nodes};
 use flow_sim::*;
 use local_recovery::{Mode, Recovered, recover};
 use routing::Routing;
-use sample_networks::{WeightedPath, four_nodes, matrix, pairs, weighted_routes};
+use sample_networks::{WeightedPath, are_routes, four_nodes, matrix, pairs, weighted_routes};
 use std::alloc::Global;
 use std::test::Fail;
-use te_model::{Memory, Network, Pair, PairRoutes, PathShare};
+use te_model::{Memory, Network};
 
 /// What is left of half of the demand on the straight link and half over x in the mode, where the marked links have failed.
 fn left_of_two_ways(
@@ -110,28 +110,6 @@ const BYPASS: &[WeightedPath] = &[(&[3, 4, 2], 1_000_000)];
 
 const NO_PATH: &[WeightedPath] = &[];
 
-/// Whether these are the paths, each with its weight.
-fn are_paths(paths: &[PathShare], weighted: &[WeightedPath]) -> bool {
-    paths.len() == weighted.len()
-        && paths.iter().zip(weighted).all(|(path, (links, weight))| {
-            path.links.as_slice() == *links && path.weight == *weight
-        })
-}
-
-/// Whether the rates are of these pairs, by source and destination, and leave each these paths.
-fn are_rates(rates: &Recovered, pairs: &[(u32, u32, &[WeightedPath])]) -> bool {
-    let routes = rates.routes.as_slice();
-    routes.len() == pairs.len()
-        && routes.iter().zip(pairs).all(|(routes, (src, dst, paths))| {
-            routes.pair
-                == Pair {
-                    src: *src,
-                    dst: *dst,
-                }
-                && are_paths(routes.paths.as_slice(), *paths)
-        })
-}
-
 #[test]
 fn what_is_left(rt: HostRuntime) -> Result<(), Fail> {
     let net = four_nodes(rt.alloc())?;
@@ -145,7 +123,10 @@ fn what_is_left(rt: HostRuntime) -> Result<(), Fail> {
         (Mode::Bypass, both, BYPASS),
     ] {
         let rates = left_of_two_ways(rt.alloc(), mode, &net, &failed)?;
-        assert!(rt; are_rates(&rates, &[(0, 1, paths)]), "{mode:?} {failed:?}");
+        assert!(rt;
+            are_routes(rates.routes.as_slice(), &[(0, 1, paths)]),
+            "{mode:?} {failed:?}"
+        );
     }
     Ok(())
 }
@@ -163,6 +144,11 @@ fn spread_back(alloc: Global) -> Result<Recovered, Memory> {
 #[test]
 fn an_added_pair_has_no_path(rt: HostRuntime) -> Result<(), Fail> {
     let rates = spread_back(rt.alloc())?;
-    assert!(rt; are_rates(&rates, &[(0, 1, TWO_WAYS), (1, 0, NO_PATH)]));
+    assert!(rt;
+        are_routes(
+            rates.routes.as_slice(),
+            &[(0, 1, TWO_WAYS), (1, 0, NO_PATH)]
+        )
+    );
     Ok(())
 }
