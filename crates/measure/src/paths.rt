@@ -48,24 +48,34 @@ fn print_links(rt: &HostRuntime, net: &Network) -> io::Result<()> {
     Ok(())
 }
 
+// Prints how many paths the pairs have, and if `is_timed` the links before that, and after it how many microseconds the
+// search took.
+fn search(rt: &HostRuntime, net: &Network, sources: u32, is_timed: bool) -> io::Result<()>
+    requires network { IsTrue (is_well_formed net.now) }
+    requires nodes { node_count net.now ≡ 64 }
+    requires sources { sources ≤ 64 }
+{
+    if is_timed {
+        print_links(rt, net)?;
+    }
+    let start = Instant::now(rt)?;
+    let count = paths_of_sources(rt.alloc(), net, sources);
+    let microseconds = start.elapsed(rt)?.as_micros();
+    println!(rt; "{count}")?;
+    if is_timed {
+        println!(rt; "{microseconds}")?;
+    }
+    Ok(())
+}
+
 /// Prints how many paths the pairs of the first `sources` nodes have. If `is_timed` it prints before that the links,
 /// one on each line as `tail head cost`, and after it how many microseconds the search took.
 pub fn measure_paths(rt: &HostRuntime, sources: u32, is_timed: bool) -> io::Result<()>
     requires { sources ≤ 64 }
 {
-    let alloc = rt.alloc();
-    let net = network(alloc, 10, 90)?;
+    let net = network(rt.alloc(), 10, 90)?;
     if net.names.as_slice().len() == 64 && well_formed(&net) {
-        if is_timed {
-            print_links(rt, &net)?;
-        }
-        let start = Instant::now(rt)?;
-        let count = paths_of_sources(alloc, &net, sources);
-        let microseconds = start.elapsed(rt)?.as_micros();
-        println!(rt; "{count}")?;
-        if is_timed {
-            println!(rt; "{microseconds}")?;
-        }
+        search(rt, &net, sources, is_timed)?;
     }
     Ok(())
 }

@@ -6,7 +6,7 @@ ghost use Rattle.local_recovery.specs.Rates.{ArePairs, IsRates};
 
 use crate::network::{network, next_number};
 use crate::pairs::pairs_from;
-use flow_sim::{StepResult, step};
+use flow_sim::step;
 use k_paths::Ksp;
 use local_recovery::{Mode, Recovered, recover};
 use scheme::{Oblivious, Scheme, SchemeFault};
@@ -54,13 +54,27 @@ fn four_paths(
     Ok(rates)
 }
 
+// The rates of the four least paths of each pair, where no link fails.
+fn rates_of(alloc: Global, net: &Network, pairs: &Pairs) -> Result<Recovered, SchemeFault>
+    requires network { IsTrue (is_well_formed net.now) }
+    requires pairs { ArePairsOf net.now pairs.now.list }
+    requires ascending { ArePairs net.now pairs.now.list }
+    ensures rates { IfOk result (λ r. IsRates net.now r.routes) }
+{
+    let failed = vec![in alloc; false; net.links.as_slice().len()]?;
+    four_paths(alloc, net, &failed, pairs)
+}
+
+// What is offered, delivered and lost on full links in a step.
+type Amounts = (u64, u64, u64);
+
 // Takes `STEPS` steps in which no link fails, and says what became of the demands in the last.
 fn steps(
     alloc: Global,
     net: &Network,
     rates: &Recovered,
     matrix: &Matrix,
-) -> Result<StepResult, Memory>
+) -> Result<Amounts, Memory>
     requires network { IsTrue (is_well_formed net.now) }
     requires rates { IsRates net.now rates.now.routes }
     requires demands { length matrix.now.demand ≡ length rates.now.routes }
@@ -70,7 +84,8 @@ fn steps(
     for _ in 1..STEPS {
         let _ = step(alloc, net, &failed, rates, matrix)?;
     }
-    step(alloc, net, &failed, rates, matrix)
+    let last = step(alloc, net, &failed, rates, matrix)?;
+    Ok((last.offered, last.delivered, last.lost_full))
 }
 
 // How many links the least paths of the pairs have.
@@ -94,20 +109,21 @@ fn simulate(
     net: &Network,
     pairs: &Pairs,
     rates: &Recovered,
+    matrix: &Matrix,
     is_timed: bool,
 ) -> io::Result<()>
     requires network { IsTrue (is_well_formed net.now) }
     requires pairs { ArePairsOf net.now pairs.now.list }
     requires rates { IsRates net.now rates.now.routes }
+    requires demands { length matrix.now.demand ≡ length rates.now.routes }
+    requires small { EachIndex matrix.now.demand (λ p. slice_index matrix.now.demand p ≤ 2 ^ 32) }
 {
     let alloc = rt.alloc();
-    let matrix = demands(alloc, rates.routes.as_slice().len())?;
     let start = Instant::now(rt)?;
-    let Ok(found) = steps(alloc, net, rates, &matrix) else {
+    let Ok((offered, delivered, lost_full)) = steps(alloc, net, rates, matrix) else {
         return Ok(());
     };
     let of_steps = start.elapsed(rt)?.as_micros();
-    let (offered, delivered, lost_full) = (found.offered, found.delivered, found.lost_full);
     println!(rt; "{offered} {delivered} {lost_full}")?;
     if is_timed {
         let start = Instant::now(rt)?;
@@ -127,9 +143,9 @@ pub fn measure_steps(rt: &HostRuntime, sources: u32, is_timed: bool) -> io::Resu
     let net = network(alloc, 10_000, 90_000)?;
     if net.names.as_slice().len() == 64 && well_formed(&net) {
         let pairs = pairs_from(alloc, &net, sources)?;
-        let failed = vec![in alloc; false; net.links.as_slice().len()]?;
-        if let Ok(rates) = four_paths(alloc, &net, &failed, &pairs) {
-            simulate(rt, &net, &pairs, &rates, is_timed)?;
+        if let Ok(rates) = rates_of(alloc, &net, &pairs) {
+            let matrix = demands(alloc, rates.routes.as_slice().len())?;
+            simulate(rt, &net, &pairs, &rates, &matrix, is_timed)?;
         }
     }
     Ok(())

@@ -32,6 +32,32 @@ fn paths_by<S: Oblivious>(alloc: Global, scheme: &S, net: &Network, pairs: &Pair
     }
 }
 
+// Prints how many paths the pairs have over the mix of the trees, and if `is_timed` how many microseconds it took, and how
+// many the least paths.
+fn mix(
+    rt: &HostRuntime,
+    net: &Network,
+    pairs: &Pairs,
+    trees: &Racke,
+    is_timed: bool,
+) -> io::Result<()>
+    requires network { IsTrue (is_well_formed net.now) }
+    requires pairs { ArePairsOf net.now pairs.now.list }
+{
+    let alloc = rt.alloc();
+    let start = Instant::now(rt)?;
+    let count = paths_by(alloc, trees, net, pairs);
+    let of_mix = start.elapsed(rt)?.as_micros();
+    println!(rt; "{count}")?;
+    if is_timed {
+        let start = Instant::now(rt)?;
+        let _ = paths_by(alloc, &Spf, net, pairs);
+        let of_least = start.elapsed(rt)?.as_micros();
+        println!(rt; "{of_mix} {of_least}")?;
+    }
+    Ok(())
+}
+
 /// Prints how many paths the pairs have over a mix of so many trees, and if `is_timed` how many microseconds the mix
 /// took, and how many the least paths of all pairs.
 pub fn measure_trees(rt: &HostRuntime, trees: u32, is_timed: bool) -> io::Result<()>
@@ -42,17 +68,7 @@ pub fn measure_trees(rt: &HostRuntime, trees: u32, is_timed: bool) -> io::Result
     let net = network(alloc, 10, 90)?;
     if net.names.as_slice().len() == 64 && well_formed(&net) {
         let pairs = pairs_from(alloc, &net, NODES)?;
-        let racke = Racke { trees, seed: 7 };
-        let start = Instant::now(rt)?;
-        let count = paths_by(alloc, &racke, &net, &pairs);
-        let of_mix = start.elapsed(rt)?.as_micros();
-        println!(rt; "{count}")?;
-        if is_timed {
-            let start = Instant::now(rt)?;
-            let _ = paths_by(alloc, &Spf, &net, &pairs);
-            let of_least = start.elapsed(rt)?.as_micros();
-            println!(rt; "{of_mix} {of_least}")?;
-        }
+        mix(rt, &net, &pairs, &Racke { trees, seed: 7 }, is_timed)?;
     }
     Ok(())
 }
