@@ -8,7 +8,7 @@ use topology::TopologyFault;
 use traffic_matrix::MatrixFault;
 
 /// Why the bytes of a file are refused. It shows as the words after the file's name.
-#[derive(Clone, Copy, Debug, PartialEq, Eq)]
+#[derive(Clone, Copy)]
 pub enum Refusal {
     /// Of a certificate: the first line, counted from 1, at which the bytes leave the grammar.
     Shape(u64),
@@ -25,7 +25,7 @@ pub enum Refusal {
 }
 
 /// Why the bytes of a file give no value.
-#[derive(Clone, Copy, Debug, PartialEq, Eq)]
+#[derive(Clone, Copy)]
 pub enum BytesFault {
     /// They are refused.
     Refused(Refusal),

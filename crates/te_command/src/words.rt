@@ -11,7 +11,7 @@ use std::alloc::Global;
 use te_ports::Depot;
 
 /// What the words ask for.
-#[derive(Clone, Copy, Debug)]
+#[derive(Clone, Copy)]
 pub enum Command<'a> {
     Check(Check<'a>),
     CheckNetwork(CheckNetwork<'a>),

@@ -16,7 +16,7 @@ use te_model::{DemandSet, Memory};
 use te_ports::Depot;
 
 /// `check CERT`.
-#[derive(Clone, Copy, Debug)]
+#[derive(Clone, Copy)]
 pub struct Check<'a> {
     pub certificate: &'a str,
 }

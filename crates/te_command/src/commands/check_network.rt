@@ -18,7 +18,7 @@ use te_model::{Memory, Network, same_network};
 use te_ports::Depot;
 
 /// `check CERT TOPOLOGY`.
-#[derive(Clone, Copy, Debug)]
+#[derive(Clone, Copy)]
 pub struct CheckNetwork<'a> {
     pub certificate: &'a str,
     pub topology: &'a str,

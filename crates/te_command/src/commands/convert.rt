@@ -14,7 +14,7 @@ use te_model::{Certificate, Memory};
 use te_ports::Depot;
 
 /// `convert CERT`.
-#[derive(Clone, Copy, Debug)]
+#[derive(Clone, Copy)]
 pub struct Convert<'a> {
     pub certificate: &'a str,
 }

@@ -10,7 +10,7 @@ use std::alloc::Global;
 use te_ports::Depot;
 
 /// `gen NODES SEED`, of 2 to 64 nodes. No file belongs to it.
-#[derive(Clone, Copy, Debug)]
+#[derive(Clone, Copy)]
 pub struct Generate {
     pub nodes: u32,
     pub seed: u64,

@@ -17,7 +17,7 @@ use te_ports::Depot;
 use traffic_matrix::Series;
 
 /// `publish PLAN`.
-#[derive(Clone, Copy, Debug)]
+#[derive(Clone, Copy)]
 pub struct Publish<'a> {
     pub plan: &'a str,
 }

@@ -6,7 +6,7 @@ use std::alloc::Global;
 use te_ports::Depot;
 
 /// `run PLAN`.
-#[derive(Clone, Copy, Debug)]
+#[derive(Clone, Copy)]
 pub struct RunPlan<'a> {
     pub plan: &'a str,
 }
