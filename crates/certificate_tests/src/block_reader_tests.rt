@@ -1,4 +1,5 @@
 //! Certificates that are read one block at a time, against the reader of whole files.
+use crate::blocks::is_same_block;
 use crate::cert_text_tests::{fault_of, is_printed, rule};
 use crate::window_tests::{NEVER, file_of};
 use block_reader::{BlockReader, StreamFault};
@@ -6,7 +7,7 @@ use cert_text::CertFault::{self, Shape};
 use cert_text::read;
 use std::alloc::{AllocError, Global};
 use std::test::Fail;
-use te_model::{Block, Certificate, Items, Row, RuleFault};
+use te_model::{Block, Certificate, Items, RuleFault};
 use te_ports::{Depot, MemDepot, RecordDepot};
 
 // Two parallel links.
@@ -122,24 +123,10 @@ fn changed(alloc: Global, file: &str, changes: &[(usize, &str)]) -> Result<Strin
     Ok(text)
 }
 
-fn are_same_rows(rows: &[Row], others: &[Row]) -> bool {
-    let mut same = rows.len() == others.len();
-    for (row, other) in rows.iter().zip(others) {
-        same = same && row.source == other.source && row.potential == other.potential;
-    }
-    same
-}
-
-// Whether there is another block, and it is the same.
-fn is_same_block(block: &Block, other: Option<&Block>) -> bool {
-    match other {
-        Some(other) => {
-            (block.link, block.a, block.b) == (other.link, other.a, other.b)
-                && block.weights == other.weights
-                && are_same_rows(block.rows.as_slice(), other.rows.as_slice())
-                && block.plus == other.plus
-                && block.minus == other.minus
-        }
+// Whether the block stands at that place of the list.
+fn is_block_at(block: &Block, blocks: &[Block], place: usize) -> bool {
+    match blocks.get(place) {
+        Some(other) => is_same_block(block, other),
         None => false,
     }
 }
@@ -153,7 +140,7 @@ fn hands_out<D: Depot>(
     let mut same = true;
     for place in 0..1025 {
         match reader.next(depot) {
-            Ok(true) => same = is_same_block(reader.block(), blocks.get(place)) && same,
+            Ok(true) => same = is_block_at(reader.block(), blocks, place) && same,
             Ok(false) => return Ok(same && place == blocks.len()),
             Err(fault) => return Err(fault),
         }

@@ -4,6 +4,8 @@
 #[cfg(test)]
 mod block_reader_tests;
 #[cfg(test)]
+mod blocks;
+#[cfg(test)]
 mod cert_text_tests;
 #[cfg(test)]
 mod ratio_certificate_tests;

@@ -3,6 +3,7 @@ ghost use Rattle.std.specs.Prelude.{◌≡◌, ◌^◌, ◌<◌, ◌≤◌, All,
 ghost use Rattle.te_model.specs.ThreeNodes.{straight_routes};
 ghost use Rattle.best_blocks.specs.Conditions.{IsSetWithin};
 
+use crate::blocks::is_same_block;
 use ratio_certificate::*;
 use routing::Routing;
 use sample_networks::{matrix, straight_routes, three_nodes};
@@ -218,23 +219,10 @@ fn made_certificates_have_nearly_the_least_ratio(rt: HostRuntime) -> Result<(), 
     Ok(())
 }
 
-/// Whether the rows have the same sources and potentials.
-fn are_same_rows(rows: &[Row], others: &[Row]) -> bool {
-    rows.len() == others.len()
-        && rows.iter().zip(others).all(|(row, other)| row.source == other.source
-            && row.potential == other.potential)
-}
-
 /// Whether the blocks have the same numbers.
 fn are_same_blocks(blocks: &[Block], others: &[Block]) -> bool {
     blocks.len() == others.len()
-        && blocks.iter().zip(others).all(|(block, other)| {
-            (block.link, block.a, block.b) == (other.link, other.a, other.b)
-                && block.weights == other.weights
-                && are_same_rows(block.rows.as_slice(), other.rows.as_slice())
-                && block.plus == other.plus
-                && block.minus == other.minus
-        })
+        && blocks.iter().zip(others).all(|(block, other)| is_same_block(block, other))
 }
 
 /// Whether one is of the first format and has a margin, the other of the second and has a box, and ratio and blocks are the same.
