@@ -1,16 +1,19 @@
 -- What is added is taken back where the pairs with a share use no more than the distances allow.
-use Rattle.std.proofs.Common.{◌≡◌, ℕ, ◌+◌, ◌-◌, ◌*◌, ◌^◌, ◌≤◌, List, length, slice_index, arith, ap, sym, subst, take, ◌∙◌, inl, inr}
+use Rattle.std.proofs.Common.{◌≡◌, ℕ, ◌+◌, ◌-◌, ◌*◌, ◌^◌, ◌<◌, ◌≤◌, List, length, get_or, slice_index, arith, ap, sym, subst, take, ◌∙◌, inl, inr}
 use Rattle.std.specs.Prelude.{min, nat_le, sum_by}
 use Rattle.std.proofs.lemmas.Bool.{cases_lt, le-leb, lt-leb}
 use Rattle.std.proofs.lemmas.List.{take_all}
-use Rattle.std.proofs.lemmas.List.Sums.{sum_by-take-le}
+use Rattle.std.proofs.lemmas.List.Elements.{All-get_or}
+use Rattle.std.proofs.lemmas.List.Sums.{sum_by-take-le, sum_by_more}
 use Rattle.te_model.specs.declared.demand.DemandSet.{DemandSet}
 use Rattle.te_model.specs.declared.units.TheConstants.{SHARE_UNIT}
 use Rattle.te_model.specs.Demand.{lower_of, upper_of}
 use Rattle.te_model.specs.Inequalities.{weigh}
+use Rattle.te_model.specs.Path.{share}
 use Rattle.te_model.proofs.Quotients.{quotient_up-least}
 use Rattle.te_model.proofs.Sums.{sum_below-add, sum_below-bound, sum_below-same}
 use Rattle.routing.proofs.Shared.{sum_over_shares}
+use Rattle.routing.proofs.Sharing.{no_share}
 use Rattle.routing.specs.declared.shares.PairShare.{PairShare}
 use Rattle.best_blocks.specs.declared.sharing.SharedLink.{SharedLink}
 use Rattle.best_blocks.specs.Best.{plus_amount, weighed_share, balances, minus_amount}
@@ -66,6 +69,24 @@ pub sum_small : (wanted : DemandSet) (l : SharedLink) (distances : List ℕ) (b 
 sum_small wanted l distances b i sum small are few is =
     let part = sum_by-take-le (λ (s : PairShare). used_at wanted l.shares distances b s.pair) l.list i in
     omega (arith, is, part, used_listed wanted l distances b are, used_small wanted l.shares distances b small few)
+
+-- with the next of the list
+pub sum_more : (wanted : DemandSet) (l : SharedLink) (distances : List ℕ) (b i sum more : ℕ) (items : List PairShare) → AreSharesListed l → items ≡ l.list → i < length items →
+    more ≡ used_by (lower_of wanted (get_or items i no_share).pair) (upper_of wanted (get_or items i no_share).pair) (slice_index distances (get_or items i no_share).pair)
+    (weighed_share b (get_or items i no_share).share) →
+    sum ≡ sum_by (λ s. used_at wanted l.shares distances b s.pair) (take i l.list) → sum + more ≡ sum_by (λ s. used_at wanted l.shares distances b s.pair) (take (i + 1) l.list)
+sum_more wanted l distances b i sum more items are same inside more_is sum_is =
+    let used : PairShare → ℕ = λ s. used_by (lower_of wanted s.pair) (upper_of wanted s.pair) (slice_index distances s.pair) (weighed_share b s.share) in
+    let s = get_or l.list i no_share in
+    let below : i < length l.list = subst (λ (xs : List PairShare). i < length xs) same inside in
+    let entry = All-get_or (λ (t : PairShare). (t.pair < length are.routes) × (0 < t.share) × (t.share ≡ share are.routes t.pair l.link)) l.list i no_share below are.listed.shares in
+    let listed : s.share ≡ slice_index l.shares s.pair = entry.2 ∙ sym (are.shares_are.each s.pair entry.0) in
+    let here : more ≡ used_at wanted l.shares distances b s.pair =
+    subst (λ (xs : List PairShare). more ≡ used (get_or xs i no_share)) same more_is
+    ∙ ap (λ x. used_by (lower_of wanted s.pair) (upper_of wanted s.pair) (slice_index distances s.pair) (weighed_share b x)) listed
+    in
+    let whole = sum_by_more (λ (t : PairShare). used_at wanted l.shares distances b t.pair) l.list i no_share below in
+    omega (arith, here, sum_is, whole)
 
 pub sum_whole : (wanted : DemandSet) (l : SharedLink) (distances : List ℕ) (b i sum : ℕ) → AreSharesListed l → length l.list ≤ i →
     sum ≡ sum_by (λ s. used_at wanted l.shares distances b s.pair) (take i l.list) →

@@ -1,7 +1,7 @@
 -- The numbers of a function, and the greatest number that passes a test.
-use Rattle.std.proofs.Common.{◌≡◌, ℕ, zero, suc, ◌<◌, ◌≤◌, Bool, true, false, List, arith, refl, inl, inr, ap, ◌∙◌, sym}
+use Rattle.std.proofs.Common.{◌≡◌, ℕ, zero, suc, ◌+◌, ◌<◌, ◌≤◌, Bool, true, false, List, [], ◌∷◌, ◌++◌, arith, refl, inl, inr, ap, ◌∙◌, sym}
 use Rattle.std.proofs.lemmas.Bool.{cases_lt}
-use Rattle.te_model.proofs.Choices.{list_exists}
+use Rattle.te_model.proofs.Choices.{list_exists, pushed_count, pushed_each}
 use Rattle.shortest_path.specs.Pairs.{AreValues}
 
 -- the numbers of a function
@@ -9,6 +9,13 @@ pub values_exist : (n : ℕ) (value : ℕ → ℕ) → (xs : List ℕ) × AreVal
 values_exist n value =
     let (xs, count, each) = list_exists (λ k x. x ≡ value k) 0 n (λ k below. (value k, refl)) in
     (xs, record { count = count; each = each })
+
+-- with one more
+pub value_pushed : (n : ℕ) (value : ℕ → ℕ) (xs : List ℕ) (x : ℕ) → AreValues n value xs → x ≡ value n → AreValues (n + 1) value (xs ++ x ∷ [])
+value_pushed n value xs x are is = record {
+  count = pushed_count xs x n are.count;
+  each = pushed_each (λ k y. y ≡ value k) xs x 0 n are.count are.each is;
+}
 
 -- b is the greatest number from 1 to n that passes
 pub record IsGreatestPassing (test : ℕ → Bool) (n b : ℕ) : Type 0 where

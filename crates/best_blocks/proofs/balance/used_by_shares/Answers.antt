@@ -1,6 +1,6 @@
 use Rattle.std.proofs.Common.{◌≤◌, List, length, arith, ap}
 use Rattle.routing.specs.declared.shares.PairShare.{PairShare}
-use Rattle.best_blocks.proofs.AllowedUse.{sum_small, sum_whole}
+use Rattle.best_blocks.proofs.AllowedUse.{sum_more, sum_small, sum_whole}
 use Rattle.best_blocks.proofs.balance.used_by_shares.Goals as goal
 
 pub overflow_add-sum : goal.overflow_add-sum
@@ -16,3 +16,8 @@ returns c =
     in
     sum_whole c.args.set.now c.args.shared.now c.args.distances.now c.args.b c.loop-entry.entry-index c.loop-entry.sum c.requires.listed all
     c.loop-entry.invariant
+
+pub loop-entry-preserved : goal.loop-entry-preserved
+loop-entry-preserved c =
+    sum_more c.args.set.now c.args.shared.now c.args.distances.now c.args.b c.loop-entry.entry-index c.loop-entry.sum c.used_by-sum.result
+    c.as_slice-entry-items.result.now c.requires.listed c.as_slice-entry-items.ensures c.loop-entry-test.true c.used_by-sum.ensures.value c.loop-entry.invariant

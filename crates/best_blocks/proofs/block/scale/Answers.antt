@@ -1,4 +1,5 @@
-use Rattle.std.proofs.Common.{◌≡◌, ◌<◌, List, ℕ, Bool, length, slice_index, arith, rules, sym, subst}
+use Rattle.std.proofs.Common.{◌≡◌, ◌^◌, ◌<◌, ◌≤◌, List, ℕ, Bool, length, slice_index, arith, ap, sym, subst, ◌∙◌}
+use Rattle.std.specs.Prelude.{All}
 use Rattle.te_model.specs.Path.{share}
 use Rattle.routing.specs.Shares.{AreSharesOn}
 use Rattle.best_blocks.specs.Best.{AreNeededDistances}
@@ -34,7 +35,7 @@ best_block-requires-clause-metric c =
 
 pub returns-clause-best : goal.returns-clause-best
 returns-clause-best c =
-    let is : c.in_ok-metric.metric.weights ≡ c.args.weights.now = search rules in
+    let is : c.in_ok-metric.metric.weights ≡ c.args.weights.now = c.in_ok-metric.ensures.weights ∙ c.in_ok-weights.ensures.items in
     best_read c.args.net.now c.args.routing.now.routes c.args.set.now c.in_ok-shared.shared.link c.args.link c.in_ok-metric.metric.weights c.args.weights.now
     c.best_block.result c.in_ok-shared.ensures.link is c.best_block.ensures.best
 
@@ -45,10 +46,16 @@ returns-clause-none c =
     let set = c.args.set.now in
     let l = c.in_ok-shared.shared in
     let m = c.in_ok-metric.metric in
-    let is : m.weights ≡ c.args.weights.now = search rules in
+    let is : m.weights ≡ c.args.weights.now = c.in_ok-metric.ensures.weights ∙ c.in_ok-weights.ensures.items in
     let metric = subst (λ (marks : List Bool). IsMetric net routes marks m) c.as_slice.ensures c.in_ok-metric.ensures.metric in
     let needed = needed_distances net routes set l m c.requires.routing c.in_ok-shared.ensures.shared metric in
     let known = subst (λ (w : List ℕ). AreNeededDistances net w routes set (slice_index l.shares) (slice_index m.distances)) is needed in
     let are = subst (λ k. (p : ℕ) → p < length routes → slice_index l.shares p ≡ share routes p k) c.in_ok-shared.ensures.link c.in_ok-shared.ensures.shared.shares_are.each in
     none_of c.best_block.result _ _ (no_best_block net routes set c.args.link c.args.weights.now (slice_index l.shares) (slice_index m.distances) are known)
     c.best_block.ensures.none
+
+pub metric_of-requires-clause-small : goal.metric_of-requires-clause-small
+metric_of-requires-clause-small c = subst (λ (ws : List ℕ). All (λ w. w ≤ 2 ^ 28) ws) (sym c.in_ok-weights.ensures.items) c.requires.small
+
+pub metric_of-requires-clause-marks : goal.metric_of-requires-clause-marks
+metric_of-requires-clause-marks c = ap (λ (ms : List Bool). length ms) c.as_slice.ensures ∙ c.in_ok-shared.ensures.shared.marks_are.count

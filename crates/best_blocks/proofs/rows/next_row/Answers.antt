@@ -17,3 +17,9 @@ returns-then-are_slack-clause-distances c =
     subst (AreDistances net new node) (sym c.in_ok-kept.ensures.items)
     (row_stays net old new c.args.changed.now row node c.requires.network c.requires.node c.requires.weights.others (c.are_slack.ensures c.if-are_slack.true)
     (subst (AreDistances net old node) (sym is) c.requires.row))
+
+pub returns-clause-distances : goal.returns-clause-distances
+returns-clause-distances c = c.in_ok-found.ensures.distances
+
+pub row_from-requires-clause-along : goal.row_from-requires-clause-along
+row_from-requires-clause-along c = c.in_ok-made.ensures.along
