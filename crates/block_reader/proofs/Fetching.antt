@@ -1,14 +1,14 @@
 -- What a read with one answer or another makes of a window.
-use Rattle.std.proofs.Common.{◌≡◌, ◌∙◌, ℕ, ◌+◌, ◌≤◌, ◌<◌, Bool, true, false, List, [], ◌++◌, length, take, Result, Ok, Err, refl, sym, ap, subst, arith, append-nil, length-take-le}
-use Rattle.std.specs.Prelude.{◌==◌, nat_lt, if◌then◌else◌, IfOk}
+use Rattle.std.proofs.Common.{◌≡◌, ◌∙◌, ℕ, ◌+◌, ◌-◌, ◌≤◌, ◌<◌, ◌≢◌, Bool, true, false, List, [], ◌++◌, length, take, Result, Ok, Err, refl, sym, ap, subst, arith, append-nil, length-take-le}
+use Rattle.std.specs.Prelude.{◌==◌, nat_lt, if◌then◌else◌, IfOk, OnOk, OnErr}
 use Rattle.std.specs.Result.{result_unwrap_or}
 use Rattle.std.proofs.lemmas.Bool.Decides.{nat_tests}
 use Rattle.te_ports.specs.Record.{IsPiece}
 use Rattle.block_reader.specs.declared.window.Window.{Window}
 use Rattle.block_reader.specs.declared.window.State.{State}
-use Rattle.block_reader.specs.declared.window.State.TheVariants.{Open, Ended, TooLong}
+use Rattle.block_reader.specs.declared.window.State.TheVariants.{Open, Ended, Failed, TooLong}
 use Rattle.block_reader.specs.Fetching.{state_after}
-use Rattle.block_reader.specs.Standing.{ready, fetched_of, state_of, limit_of, IsEndOf, IsStateOf, StandsAt, StandsIn}
+use Rattle.block_reader.specs.Standing.{ready, fetched_of, state_of, limit_of, reads_left_in, IsEndOf, IsStateOf, StandsAt, StandsIn}
 use Rattle.block_reader.proofs.Going.{at_failed, at_more, in_failed, in_more}
 
 -- the state by whether nothing was read and whether too much was
@@ -69,3 +69,47 @@ in_answer content w w' passed buf (Ok n) count is_count room next at is pieces s
 in_answer content w w' passed buf (Err fault) count is_count room next at is pieces s =
     let same : ready w' ≡ ready w = next ∙ ap (λ k. ready w ++ take k buf) is_count ∙ append-nil (ready w) in
     in_failed content w w' passed same (omega (arith, at, is_count)) is s
+
+-- a read that succeeds leaves no state of failure
+not_failed : (none long : Bool) → by_tests none long ≢ Failed
+not_failed true long is = cc
+not_failed false true is = cc
+not_failed false false is = cc
+
+pub failed_by : {E P : Type 0} (r : Result ℕ E) (limit fetched : ℕ) (now : State) → now ≡ state_after r fetched limit → OnErr r P → now ≡ Failed → P
+failed_by (Ok n) limit fetched now is fault failed = absurd (not_failed (n == 0) (nat_lt limit fetched) (sym is ∙ failed))
+failed_by (Err e) limit fetched now is fault failed = fault
+
+pub steady_by : {E P : Type 0} (r : Result ℕ E) (limit fetched : ℕ) (now : State) → now ≡ state_after r fetched limit → OnOk r P → now ≢ Failed → P
+steady_by (Ok n) limit fetched now is same sound = same
+steady_by (Err e) limit fetched now is same sound = absurd (sound is)
+
+module _ {E : Type 0} (limit fetched count : ℕ) (now : State) (open_still : fetched ≤ limit) (room : fetched + count ≤ limit + 1) where
+  -- each read of a file that is open leaves fewer
+  pub fewer_by : (r : Result ℕ E) (before : State) → before ≡ Open → now ≡ state_after r (fetched + count) limit → count ≡ result_unwrap_or r 0 →
+      reads_left_in now (limit + 1 - (fetched + count)) < reads_left_in before (limit + 1 - fetched)
+  fewer_by (Ok n) before at is is_count = rw (at, is) (go (n == 0) (nat_lt limit (fetched + count)) refl)
+    where
+      go : (none long : Bool) → (n == 0) ≡ none → reads_left_in (by_tests none long) (limit + 1 - (fetched + count)) < reads_left_in Open (limit + 1 - fetched)
+      go true long e = omega arith
+      go false true e = omega arith
+      go false false e = let some : 1 ≤ n = grind (arith, nat_tests) in omega (arith, some, is_count)
+  fewer_by (Err e) before at is is_count = rw (at, is) (omega arith)
+
+  pub within_by : (r : Result ℕ E) → now ≡ state_after r (fetched + count) limit → count ≡ result_unwrap_or r 0 → now ≢ TooLong → fetched + count ≤ limit
+  within_by (Ok n) is is_count short = go (n == 0) (nat_lt limit (fetched + count)) refl refl is
+    where
+      go : (none long : Bool) → (n == 0) ≡ none → nat_lt limit (fetched + count) ≡ long → now ≡ by_tests none long → fetched + count ≤ limit
+      go true long e f s = let zero : n ≡ 0 = grind (arith, nat_tests) in omega (arith, zero, is_count)
+      go false true e f s = absurd (short s)
+      go false false e f s = grind (arith, nat_tests)
+  within_by (Err e) is is_count short = omega (arith, is_count)
+
+  pub past_by : (r : Result ℕ E) → now ≡ state_after r (fetched + count) limit → now ≡ TooLong → fetched + count ≡ limit + 1
+  past_by (Ok n) is long = go (n == 0) (nat_lt limit (fetched + count)) refl (sym is ∙ long)
+    where
+      go : (none past : Bool) → nat_lt limit (fetched + count) ≡ past → by_tests none past ≡ TooLong → fetched + count ≡ limit + 1
+      go true past f s = absurd cc
+      go false true f s = let beyond : limit < fetched + count = grind (arith, nat_tests) in omega (arith, beyond)
+      go false false f s = absurd cc
+  past_by (Err e) is long = absurd (let no : Failed ≡ TooLong = sym is ∙ long in cc)

@@ -9,6 +9,7 @@ pub mod Steps
 pub mod Small
 pub mod PartLaws
 pub mod Placing
+pub mod BlockSteps
 pub mod Reading
 pub mod Filling
 pub mod Answering

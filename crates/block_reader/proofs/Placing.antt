@@ -48,7 +48,7 @@ behind_front {X} front new q (Ok x) e = (x.0, ap (λ (p : Place). Ok (x.0, p)) (
 behind_front front new q (Err k) e = absurd cc
 
 -- the end of the line comes last
-ended_as : {X : Type 0} (x : X) (r : Result (Unit {0}) Stop) (after : Place) (read : Result Place ℕ) (whole : Result (X × Place) ℕ) →
+pub ended_as : {X : Type 0} (x : X) (r : Result (Unit {0}) Stop) (after : Place) (read : Result Place ℕ) (whole : Result (X × Place) ℕ) →
     whole ≡ (read >>= λ e. Ok (x, e)) → Passes r after read → ReadsViewed (λ _. x) r after whole
 ended_as {X} x (Ok u) after read whole is passes = is ∙ ap (λ (t : Result Place ℕ). t >>= λ e. Ok (x, e)) passes
 ended_as x (Err stops.Memory) after read whole is passes = tt

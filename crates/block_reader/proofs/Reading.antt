@@ -2,7 +2,7 @@
 use Rattle.std.proofs.Common.{◌≡◌, ◌≢◌, ◌∙◌, ℕ, List, Result, Ok, Err, refl, ap, subst, arith}
 use Rattle.te_ports.specs.Ports.{Rose}
 use Rattle.block_reader.specs.declared.stream_fault.StreamFault.{StreamFault}
-use Rattle.block_reader.specs.declared.stream_fault.StreamFault.TheVariants.{Failed}
+use Rattle.block_reader.specs.declared.stream_fault.StreamFault.TheVariants.{Failed, Memory}
 use Rattle.te_ports.specs.Shown.{Shown}
 use Rattle.block_reader.specs.Depots.{ReadsNamed}
 
@@ -48,3 +48,10 @@ reads_none d name r ok = record {
 
 pub reads_start : (d : Shown) (name : List ℕ) → ReadsNamed {A = Unit {0}} d d name (Ok tt)
 reads_start d name = reads_none {A = Unit {0}} d name (Ok tt) (λ e. cc)
+
+-- memory was short, and nothing was read
+pub reads_short : {A : Type 0} (d : Shown) (name : List ℕ) (fault : StreamFault) → fault ≡ Memory → ReadsNamed {A = A} d d name (Err fault)
+reads_short {A} d name fault is = reads_none {A = A} d name (Err fault) (λ e. cc)
+
+pub ok_sound : {A : Type 0} (x : A) → ◌≢◌ {A = Result A StreamFault} (Ok x) (Err Failed)
+ok_sound x e = cc

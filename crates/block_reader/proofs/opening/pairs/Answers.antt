@@ -1,12 +1,14 @@
-use Rattle.std.proofs.Common.{Ok, Err, refl, arith}
+use Rattle.std.proofs.Common.{◌≡◌, Ok, Err, refl, subst, arith}
 use Rattle.std.proofs.lemmas.Result.{err_from_is_err_and}
 use Rattle.cert_text.specs.Fits.{FitsPair}
-use Rattle.cert_text.specs.Reading.{narrow_number}
+use Rattle.cert_text.specs.Reading.{narrow_number, read_many}
 use Rattle.cert_text.specs.Grammar.{read_pair}
 use Rattle.cert_text.proofs.Loop.{listed_more, listed_all}
+use Rattle.block_reader.specs.Answers.{Gives}
+use Rattle.block_reader.specs.declared.stream_fault.StreamFault.TheVariants.{Memory}
 use Rattle.block_reader.proofs.Answering.{many_gives, many_stop, none_gives}
 use Rattle.block_reader.proofs.PartLaws.{pair_part}
-use Rattle.block_reader.proofs.Reading.{reads_then, reads_as, reads_err, reads_start}
+use Rattle.block_reader.proofs.Reading.{reads_then, reads_as, reads_err, reads_start, reads_short}
 use Rattle.block_reader.proofs.opening.pairs.Goals as goal
 
 pub loop-preserved : goal.loop-preserved
@@ -42,3 +44,19 @@ loop-init g c = (
   rw c.in_ok-items.ensures.items (none_gives (g.D.Depot.gave c.args.depot.now c.args.name.now) c.args.lines.now (read_pair c.args.limits.now narrow_number)),
   reads_start _ c.args.name.now,
 )
+
+pub returns-clause-answers : goal.returns-clause-answers
+returns-clause-answers g c =
+    let gave = g.D.Depot.gave in
+    let name = c.args.name.now in
+    let all : c.loop.counter ≡ c.args.count = omega (arith, c.loop-test.false) in
+    rw c.new.ensures
+    (subst (λ n. Gives (gave c.args.depot.now name) (gave c.loop.depot name) c.args.lines.now c.loop.lines (read_many n (read_pair c.args.limits.now narrow_number)) c.loop.items.items) all
+    c.loop.invariant.2)
+
+pub returns-in_err-push-clause-reads : goal.returns-in_err-push-clause-reads
+returns-in_err-push-clause-reads g c =
+    let p = err_from_is_err_and c.from_residual-in_err-push.result c.from_residual-in_err-push.ensures.1 in
+    rw (p.1, p.2)
+    (reads_then _ _ _ _ tt (Err Memory) c.loop.invariant.3
+    (reads_then _ _ _ _ c.in_ok-item.item (Err Memory) c.in_ok-item.ensures.reads (reads_short _ c.args.name.now Memory refl)))

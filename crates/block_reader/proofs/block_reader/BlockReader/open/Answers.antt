@@ -1,8 +1,11 @@
 use Rattle.std.proofs.Common.{◌∙◌, [], Err, refl, sym, ap, subst}
+use Rattle.std.proofs.lemmas.Result.{err_from_is_err_and}
+use Rattle.te_ports.specs.Ports.{Rose}
 use Rattle.block_reader.specs.declared.stream_fault.StreamFault.TheVariants.{Failed as IsFailed}
 use Rattle.block_reader.specs.Blocks.{IsFaultOf}
 use Rattle.block_reader.proofs.Handing.{valid_head, head_earliest}
 use Rattle.block_reader.proofs.Advancing.{Judges, fault_is}
+use Rattle.block_reader.proofs.Reading.{ok_sound}
 use Rattle.block_reader.proofs.block_reader.BlockReader.open.Goals as goal
 
 pub returns-in-None-clause-head : goal.returns-in-None-clause-head
@@ -28,4 +31,27 @@ returns-in-Some-clause-refused g c = λ fault same.
 pub returns-in-Some-clause-steady : goal.returns-in-Some-clause-steady
 returns-in-Some-clause-steady g c = λ other.
     c.judge_rest.ensures.reads.steady (λ e. other (ap (λ f. Err f) (fault_is c.judge_rest.result IsFailed e)))
-    ∙ c.in_ok-reader.ensures.reads.steady (λ e. cc)
+    ∙ c.in_ok-reader.ensures.reads.steady (ok_sound _)
+
+pub returns-in-Some-clause-failed : goal.returns-in-Some-clause-failed
+returns-in-Some-clause-failed g c = λ e.
+    let read = c.in_ok-reader.ensures in
+    let name = c.args.name.now in
+    let rose = rw read.name at (c.judge_rest.ensures.reads.failed (ap (λ f. Err f) (fault_is c.judge_rest.result IsFailed e))) in
+    subst (λ f. Rose (f name) (g.D.Depot.faults c.judge_rest.new.depot name)) (read.reads.steady (ok_sound _)) rose
+
+pub returns-in_err-reader-clause-refused : goal.returns-in_err-reader-clause-refused
+returns-in_err-reader-clause-refused g c =
+    let p = err_from_is_err_and c.from_residual.result c.from_residual.ensures.1 in
+    let f = c.in_err-reader.field-0.0 in
+    rw (p.1, p.2) (λ fault is. subst (IsFaultOf _) (fault_is f fault is) (c.in_err-reader.ensures.refused f refl))
+
+pub returns-in_err-reader-clause-failed : goal.returns-in_err-reader-clause-failed
+returns-in_err-reader-clause-failed g c =
+    let p = err_from_is_err_and c.from_residual.result c.from_residual.ensures.1 in
+    rw (p.1, p.2) (λ e. c.in_err-reader.ensures.reads.failed (ap (λ f. Err f) (fault_is c.in_err-reader.field-0.0 IsFailed e)))
+
+pub returns-in_err-reader-clause-steady : goal.returns-in_err-reader-clause-steady
+returns-in_err-reader-clause-steady g c =
+    let p = err_from_is_err_and c.from_residual.result c.from_residual.ensures.1 in
+    rw (p.1, p.2) (λ other. c.in_err-reader.ensures.reads.steady (λ e. other (ap (λ f. Err f) (fault_is c.in_err-reader.field-0.0 IsFailed e))))

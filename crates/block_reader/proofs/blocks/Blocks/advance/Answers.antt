@@ -1,9 +1,10 @@
-use Rattle.std.proofs.Common.{[], ◌∷◌, ◌++◌, ap, refl, subst}
+use Rattle.std.proofs.Common.{[], ◌∷◌, ◌++◌, Err, true, false, ap, refl, subst}
 use Rattle.std.specs.Prelude.{string_bytes}
 use Rattle.std.proofs.lemmas.Result.{err_from_is_err_and}
 use Rattle.block_reader.specs.Blocks.{IsFaultOf}
 use Rattle.block_reader.proofs.Handing.{sound_text}
-use Rattle.block_reader.proofs.Advancing.{Judges, fault_is, follows_of, valid_of, sound_next, fault_next}
+use Rattle.block_reader.proofs.Advancing.{Judges, fault_is, follows_of, valid_of, sound_next, fault_next, same_room_then}
+use Rattle.block_reader.proofs.Reading.{reads_then, reads_as, reads_err}
 use Rattle.block_reader.proofs.blocks.Blocks.advance.Goals as goal
 
 pub returns-in_err-read_end-clause-refused : goal.returns-in_err-read_end-clause-refused
@@ -50,3 +51,27 @@ returns-in-Some-clause-refused g c = λ fault is head blocks are sound.
     subst (IsFaultOf _) (fault_is c.judge_rest.result fault is)
     (judged head (blocks ++ new.room.block ∷ []) (next.handed head blocks are)
     (fault_next _ c.args.self.now new head blocks c.in_ok-read_next.field-0 c.in-Some.fault are next.fault c.in-Some.is sound))
+
+pub returns-in_err-read_end-clause-reads : goal.returns-in_err-read_end-clause-reads
+returns-in_err-read_end-clause-reads g c =
+    let p = err_from_is_err_and c.from_residual.result c.from_residual.ensures.1 in
+    rw (p.1, p.2) (reads_err _ _ _ c.in_err-read_end.field-0.0 c.in_err-read_end.ensures.reads)
+
+pub returns-then-self-eq0-clause-reads : goal.returns-then-self-eq0-clause-reads
+returns-then-self-eq0-clause-reads g c = reads_as _ _ _ tt false c.in_ok-read_end.ensures.reads
+
+pub returns-in_err-read_next-clause-reads : goal.returns-in_err-read_next-clause-reads
+returns-in_err-read_next-clause-reads g c =
+    let p = err_from_is_err_and c.from_residual-in_err-read_next.result c.from_residual-in_err-read_next.ensures.1 in
+    rw (p.1, p.2) (reads_err _ _ _ c.in_err-read_next.field-0.0 c.in_err-read_next.ensures.reads)
+
+pub returns-in-None-clause-reads : goal.returns-in-None-clause-reads
+returns-in-None-clause-reads g c = reads_as _ _ _ c.in_ok-read_next.field-0 true c.in_ok-read_next.ensures.reads
+
+pub returns-in-Some-clause-reads : goal.returns-in-Some-clause-reads
+returns-in-Some-clause-reads g c =
+    let next = c.in_ok-read_next.ensures in
+    reads_then _ _ _ _ c.in_ok-read_next.field-0 (Err c.judge_rest.result) next.reads (reads_err _ _ _ c.judge_rest.result (rw next.room.name at c.judge_rest.ensures.reads))
+
+pub returns-in-Some-clause-room : goal.returns-in-Some-clause-room
+returns-in-Some-clause-room g c = same_room_then c.args.self.now c.read_next.new.self c.judge_rest.new.self c.in_ok-read_next.ensures.room c.judge_rest.ensures.room

@@ -1,4 +1,4 @@
-use Rattle.std.proofs.Common.{Err, refl, subst}
+use Rattle.std.proofs.Common.{Err, ap, refl, subst}
 use Rattle.std.proofs.lemmas.Result.{err_from_is_err_and}
 use Rattle.cert_text.specs.Reading.{narrow_number}
 use Rattle.cert_text.specs.Grammar.{read_block}
@@ -7,7 +7,8 @@ use Rattle.block_reader.specs.Answers.{HasEnough}
 use Rattle.block_reader.specs.Sizes.{block_size}
 use Rattle.block_reader.proofs.Sizes.{block_ahead}
 use Rattle.block_reader.proofs.Answering.{part_gives, part_stops, fill_stops}
-use Rattle.block_reader.proofs.Advancing.{stop_is}
+use Rattle.block_reader.specs.declared.stream_fault.StreamFault.TheVariants as faults
+use Rattle.block_reader.proofs.Advancing.{stop_is, fault_is}
 use Rattle.block_reader.proofs.Reading.{reads_then, reads_err}
 use Rattle.block_reader.proofs.blocks.Blocks.take_next.Goals as goal
 
@@ -43,3 +44,10 @@ returns-in-Err-clause-answers g c =
 
 pub returns-in-Err-clause-reads : goal.returns-in-Err-clause-reads
 returns-in-Err-clause-reads g c = reads_then _ _ _ _ tt (Err c.stopped.result) (rw c.as_str.ensures.value at c.in_ok-fill.ensures.reads) (reads_err _ _ _ c.stopped.result (rw c.as_str-in-Err.ensures.value at c.stopped.ensures.reads))
+
+pub returns-in-Ok-clause-reads : goal.returns-in-Ok-clause-reads
+returns-in-Ok-clause-reads g c = rw c.as_str.ensures.value at c.in_ok-fill.ensures.reads
+
+pub returns-in-Err-clause-memory : goal.returns-in-Err-clause-memory
+returns-in-Err-clause-memory g c = λ is.
+    c.in-Err.ensures.room (ap (λ s. Err s) (c.stopped.ensures.memory (fault_is c.stopped.result faults.Memory is)))

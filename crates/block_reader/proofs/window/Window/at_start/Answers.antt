@@ -1,4 +1,5 @@
-use Rattle.std.proofs.Common.{◌∙◌, [], sym, arith}
+use Rattle.std.proofs.Common.{◌≡◌, ◌∙◌, [], length, sym, ap, arith, inl, inr}
+use Rattle.block_reader.specs.declared.window.State.TheVariants.{Open, Failed}
 use Rattle.block_reader.proofs.Going.{at_new, in_new, at_raised, in_raised, not_long}
 use Rattle.block_reader.proofs.window.Window.at_start.Goals as goal
 
@@ -28,3 +29,18 @@ returns-clause-within g c = λ is.
     let new = c.in_ok-window.ensures in
     let stands = c.fill.ensures.stands [] (at_new _ c.in_ok-window.window new.ready new.fetched new.state) in
     not_long _ c.fill.new.self stands (omega (arith, new.room, new.limit, c.fill.ensures.room, c.fill.ensures.limit, c.allowed.ensures, c.requires.least)) (sym c.raise.ensures.state ∙ is)
+
+pub returns-clause-failed : goal.returns-clause-failed
+returns-clause-failed g c = λ is.
+    elim (c.fill.ensures.failed (sym c.raise.ensures.state ∙ is)) [
+      | inl was ↦ let no : Open ≡ Failed = sym c.in_ok-window.ensures.state ∙ was in absurd cc
+      | inr rose ↦ rose
+    ]
+
+pub returns-clause-steady : goal.returns-clause-steady
+returns-clause-steady g c = λ is. c.fill.ensures.steady (inl (λ failed. is (c.raise.ensures.state ∙ failed)))
+
+pub returns-clause-enough : goal.returns-clause-enough
+returns-clause-enough g c = λ is.
+    let enough = c.fill.ensures.enough (sym c.raise.ensures.state ∙ is) in
+    omega (arith, enough, ap length c.raise.ensures.ready)

@@ -1,9 +1,10 @@
-use Rattle.std.proofs.Common.{◌≡◌, ◌≤◌, length, take, refl, ap, arith, ◌∙◌}
+use Rattle.std.proofs.Common.{◌≡◌, ◌≤◌, ◌+◌, length, take, refl, ap, arith, ◌∙◌, length-append, length-take-le}
 use Rattle.std.proofs.lemmas.Result.{IfOk-weaker}
 use Rattle.te_ports.specs.Record.{IsPiece}
 use Rattle.block_reader.specs.declared.window.State.TheVariants.{TooLong}
+use Rattle.block_reader.specs.Standing.{ready}
 use Rattle.block_reader.proofs.Bytes.{behind}
-use Rattle.block_reader.proofs.Fetching.{count_fits, at_answer, in_answer}
+use Rattle.block_reader.proofs.Fetching.{count_fits, at_answer, in_answer, failed_by, steady_by, fewer_by, within_by, past_by}
 use Rattle.block_reader.proofs.window.Window.fetch.Goals as goal
 
 pub returns-clause-behind : goal.returns-clause-behind
@@ -44,3 +45,43 @@ returns-clause-told g c = λ told is passed s.
     (returns-clause-behind g c).1
     refl c.state_after-self.ensures
     (IfOk-weaker c.fetch-answer.result _ (λ n. IsPiece told w.fetched (take n buf)) (λ n gave. known (take n buf) (gave (omega arith))) c.fetch-answer.ensures.gave) s
+
+pub returns-clause-count : goal.returns-clause-count
+unfolding returns-clause-behind
+returns-clause-count g c =
+    let w = c.args.self.now in
+    let buf = c.fetch-answer.new.buf in
+    let count = c.unwrap_or-count.result in
+    let room : count ≤ length buf = count_fits c.fetch-answer.result count (length buf) c.unwrap_or-count.ensures c.fetch-answer.ensures.room in
+    omega (arith, ap length (returns-clause-behind g c).1, length-append (ready w) (take count buf), length-take-le count buf room)
+
+pub returns-clause-fewer : goal.returns-clause-fewer
+returns-clause-fewer g c =
+    let w = c.args.self.now in
+    let within : w.fetched ≤ w.limit = w.within (λ (is : w.state ≡ TooLong). let now = c.requires.is_open in cc) in
+    fewer_by w.limit w.fetched c.unwrap_or-count.result _ within (omega arith) c.fetch-answer.result w.state c.requires.is_open c.state_after-self.ensures c.unwrap_or-count.ensures
+
+pub returns-clause-failed : goal.returns-clause-failed
+returns-clause-failed g c = failed_by c.fetch-answer.result _ _ _ c.state_after-self.ensures c.fetch-answer.ensures.failed
+
+pub returns-clause-steady : goal.returns-clause-steady
+returns-clause-steady g c = steady_by c.fetch-answer.result _ _ _ c.state_after-self.ensures c.fetch-answer.ensures.steady
+
+pub invariant_of-self : goal.invariant_of-self
+invariant_of-self g c =
+    let w = c.args.self.now in
+    let buf = c.fetch-answer.new.buf in
+    let count = c.unwrap_or-count.result in
+    let room : count ≤ length buf = count_fits c.fetch-answer.result count (length buf) c.unwrap_or-count.ensures c.fetch-answer.ensures.room in
+    let within : w.fetched ≤ w.limit = w.within (λ (is : w.state ≡ TooLong). let now = c.requires.is_open in cc) in
+    let below : w.fetched + count ≤ w.limit + 1 = omega arith in
+    record {
+      some = w.some;
+      ordered = omega (arith, w.ordered);
+      inside = omega (arith, room);
+      counted = omega (arith, w.counted);
+      small = w.small;
+      below = below;
+      within = within_by w.limit w.fetched count _ within below c.fetch-answer.result c.state_after-self.ensures c.unwrap_or-count.ensures;
+      past = past_by w.limit w.fetched count _ within below c.fetch-answer.result c.state_after-self.ensures;
+    }

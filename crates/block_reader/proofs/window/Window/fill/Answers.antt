@@ -1,8 +1,50 @@
-use Rattle.std.proofs.Common.{◌≡◌, ◌≢◌, ◌∙◌, ◌++◌, ap, subst, arith, rules, append_assoc}
+use Rattle.std.proofs.Common.{◌≡◌, ◌≢◌, ◌∙◌, ◌+◌, ◌≤◌, ◌++◌, ℕ, List, [], length, refl, sym, ap, subst, arith, rules, append_assoc, append-nil}
 use Rattle.te_ports.specs.Ports.{Rose}
 use Rattle.block_reader.specs.declared.window.State.TheVariants.{Open, Failed}
-use Rattle.block_reader.specs.Standing.{ready}
+use Rattle.block_reader.specs.declared.window.Window.{Window}
+use Rattle.block_reader.specs.Standing.{ready, fetched_of, limit_of, state_of, room_of, IsEndOf, IsStateOf, StandsAt, StandsIn}
+use Rattle.block_reader.proofs.Going.{at_still, in_still}
+use Rattle.block_reader.proofs.window.Window.fill.Goals.{then-len-self, else-len-self}
 use Rattle.block_reader.proofs.window.Window.fill.Goals as goal
+
+-- a window with the same bytes ready stands where the other one stands
+module _ (w w' : Window) (passed : List ℕ) (same : ready w' ≡ ready w) (at : fetched_of w' ≡ fetched_of w) (limit : limit_of w' ≡ limit_of w) (state : state_of w' ≡ state_of w) where
+  at_same : (gave : ℕ → List ℕ → Type 0) → StandsAt gave w passed → StandsAt gave w' passed
+  at_same gave s =
+      at_still gave gave w w' passed (λ k piece given. given) same at
+      (subst (λ k. IsEndOf gave k w'.fetched w'.state) (sym limit) (subst (λ k. IsEndOf gave w.limit k w'.state) (sym at) (subst (IsEndOf gave w.limit w.fetched) (sym state) s.ends))) s
+
+  in_same : (content : List ℕ) → StandsIn content w passed → StandsIn content w' passed
+  in_same content s =
+      in_still content w w' passed same at
+      (subst (λ k. IsStateOf content k w'.fetched w'.state) (sym limit) (subst (λ k. IsStateOf content w.limit k w'.state) (sym at) (subst (IsStateOf content w.limit w.fetched) (sym state) s.ends))) s
+
+pub pieces-init : goal.pieces-init
+pieces-init g c =
+    let w = c.args.self.now in
+    let w' = c.if-len-self.self in
+    let is_open : w.state ≡ Open = search rules in
+    let moved : (ready w' ≡ ready w) × (fetched_of w' ≡ fetched_of w) × (limit_of w' ≡ limit_of w) × (state_of w' ≡ state_of w) × (room_of w' ≡ room_of w) × (w'.start + c.args.wanted ≤ room_of w') =
+    elim c.if-len-self.branch [
+      | then-len-self b ↦
+          let e = b.compact.ensures in
+          rw b.self-is (e.ready, e.fetched, e.limit, e.state, e.room, omega (arith, e.front, e.room, c.requires))
+      | else-len-self b ↦ rw b.self-is (refl, refl, refl, refl, refl, omega (arith, b.if-len-self.false, c.len.ensures, w.ordered, w.inside))
+    ]
+    in (
+      refl,
+      (λ passed s. at_same w w' passed moved.0 moved.1 moved.2 moved.3 _ s),
+      (λ told is passed s. in_same w w' passed moved.0 moved.1 moved.2 moved.3 told s),
+      ([], moved.0 ∙ sym (append-nil (ready w))),
+      moved.4,
+      moved.2,
+      moved.5,
+      (λ (is : state_of w' ≡ Failed). let no : Open ≡ Failed = sym is_open ∙ sym moved.3 ∙ is in absurd cc),
+      (λ is. refl),
+      (λ other. omega arith),
+      (λ other at bytes given. given),
+      omega (arith, moved.1, ap length moved.0),
+    )
 
 pub pieces-preserved : goal.pieces-preserved
 pieces-preserved g c =
