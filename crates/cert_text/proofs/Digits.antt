@@ -1,10 +1,13 @@
 -- Reading a number digit by digit.
 use Rattle.std.specs.List.{list_all}
-use Rattle.std.proofs.Common.{◌&&◌, ◌++◌, length-append, ◌≡◌, ℕ, ◌+◌, ◌-◌, ◌*◌, ◌^◌, ◌<◌, ◌≤◌, Bool, true, false, cond, List, [], ◌∷◌, length, drop, Some, None, Result, Ok, Err, refl, sym, ap, arith, eqb, ltb}
+use Rattle.std.proofs.Common.{◌==◌, if◌then◌else◌, ◌&&◌, ◌++◌, length-append, ◌≡◌, ◌≢◌, ℕ, ◌+◌, ◌-◌, ◌*◌, ◌^◌, ◌<◌, ◌≤◌, Bool, true, false, cond, List, [], ◌∷◌, length, drop, Some, None, Result, Ok, Err, refl, sym, ap, arith, eqb, ltb}
 use Rattle.std.specs.Prelude.{slice_get}
 use Rattle.te_model.specs.Network.{is_name_byte}
 use Rattle.std.specs.Char.{is_ascii_digit}
+use Rattle.std.proofs.Math.Utf8.{encode}
 use Rattle.std.proofs.lemmas.Bool.{le-ltb}
+use Rattle.std.proofs.lemmas.Bool.Decides.{nat_tests}
+use Rattle.std.proofs.lemmas.Str.{encode_ascii}
 use Rattle.cert_text.specs.Place.{Place, place}
 use Rattle.cert_text.specs.Reading.{read_digits, name_from}
 
@@ -16,6 +19,10 @@ first_is (x ∷ xs) b e = let same : b ≡ x = cc in ap (λ y. y ∷ xs) (sym sa
 none_is : (bs : List ℕ) → None ≡ slice_get bs 0 → bs ≡ []
 none_is [] e = refl
 none_is (x ∷ xs) e = absurd cc
+
+-- no byte is left
+pub nothing_left : (k : ℕ) (bs : List ℕ) → None ≡ slice_get bs 0 → ◌≡◌ {A = Result Place ℕ} (if length bs == 0 then Ok (place k bs) else Err k) (Ok (place k bs))
+nothing_left k bs none = rw (none_is bs none) refl
 
 pub digits_zero : (k v : ℕ) (bs : List ℕ) (b : ℕ) → Some b ≡ slice_get bs 0 → is_ascii_digit b ≡ true → v ≡ 0 → read_digits k v bs ≡ Err k
 digits_zero k v bs b first digit nothing = rw (first_is bs b first, digit, nothing) refl
@@ -37,6 +44,16 @@ digits_end k v bs none = rw (none_is bs none) refl
 
 pub name_long : (k : ℕ) (front bs : List ℕ) (b : ℕ) → Some b ≡ slice_get bs 0 → is_name_byte b ≡ true → length front ≡ 32 → name_from k front bs ≡ Err k
 name_long k front bs b first letter full = rw (first_is bs b first, letter, full) refl
+
+-- a letter more
+pub name_more : (k : ℕ) (front bs : List ℕ) (b : ℕ) → Some b ≡ slice_get bs 0 → is_name_byte b ≡ true → length front ≢ 32 → name_from k front bs ≡ name_from k (front ++ b ∷ []) (drop 1 bs)
+name_more k front bs b first letter other =
+    let room : eqb (length front) 32 ≡ false = grind (arith, nat_tests) in
+    rw (first_is bs b first, letter, room) refl
+
+-- a byte of a name is its own encoding
+pub name_encoded : (b : ℕ) → is_name_byte b ≡ true → encode b ≡ b ∷ []
+name_encoded b letter = encode_ascii b (grind (arith, nat_tests))
 
 pub name_stop : (k : ℕ) (front bs : List ℕ) (b : ℕ) → Some b ≡ slice_get bs 0 → is_name_byte b ≡ false → name_from k front bs ≡ Ok (front, place k bs)
 name_stop k front bs b first other = rw (first_is bs b first, other) refl

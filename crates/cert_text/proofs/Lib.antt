@@ -1,6 +1,7 @@
 pub mod Digits
 pub mod Loop
 pub mod Taking
+pub mod Steps
 pub mod Decimals
 pub mod Tokens
 pub mod Productions

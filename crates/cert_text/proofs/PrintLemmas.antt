@@ -1,5 +1,5 @@
 -- The texts of lines, as they are printed.
-use Rattle.std.proofs.Common.{◌≡◌, ℕ, List, [], ◌∷◌, ◌++◌, length, map, ap, ◌∙◌, append_assoc}
+use Rattle.std.proofs.Common.{◌≡◌, ℕ, ◌+◌, ◌<◌, List, [], ◌∷◌, ◌++◌, length, take, get_or, map, sym, ap, ◌∙◌, append_assoc}
 use Rattle.std.specs.Prelude.{codes}
 use Rattle.std.specs.Fmt.{decimal}
 use Rattle.std.specs.List.{flat_map}
@@ -8,6 +8,7 @@ use Rattle.te_model.specs.declared.route.PairRoutes.{PairRoutes}
 use Rattle.te_model.specs.declared.network.Network.{Network}
 use Rattle.te_model.specs.declared.certificate.Row.{Row}
 use Rattle.te_model.specs.Text.{numbers, link_line, path_line, words}
+use Rattle.std.proofs.lemmas.List.{take_more, flat_map_more}
 use Rattle.std.proofs.lemmas.List.Concat.{flat_map-append}
 use Rattle.cert_text.specs.Pieces.{with_space, with_line_end, counted_text, link_text, path_text, pair_text, network_text, row_text, number_line}
 use Rattle.cert_text.proofs.Productions.{joined, flat_map_map}
@@ -47,3 +48,10 @@ network_is n =
     let after : flat_map with_line_end (n.names ++ (count ∷ map link_line n.links)) ≡ flat_map with_line_end n.names ++ (with_line_end count ++ flat_map link_text n.links) =
     flat_map-append with_line_end n.names (count ∷ map link_line n.links) ∙ ap (λ (y : List ℕ). flat_map with_line_end n.names ++ (with_line_end count ++ y)) links in
     ap (λ (y : List ℕ). with_line_end (words (codes "nodes") (length n.names ∷ [])) ++ y) after
+
+-- the text of one item more, as a loop puts it at the end
+pub one_more : {X : Type 0} (f : X → List ℕ) (old now more : List ℕ) (xs : List X) (i : ℕ) (x : X) → i < length xs → x ≡ get_or xs i x
+    → now ≡ old ++ flat_map f (take i xs) → more ≡ now ++ f x → more ≡ old ++ flat_map f (take (i + 1) xs)
+one_more {X} f old now more xs i x lt is was put =
+    put ∙ ap (λ (o : List ℕ). o ++ f x) was ∙ flat_map_more f old (take i xs) x
+    ∙ ap (λ (ys : List X). old ++ flat_map f ys) (ap (λ (y : X). take i xs ++ y ∷ []) is ∙ sym (take_more xs i x lt))

@@ -17,3 +17,11 @@ returns-clause-takes g c = rw c.new.ensures (all_taken c.loop.invariant c.loop-t
 
 pub returns-clause-fits : goal.returns-clause-fits
 returns-clause-fits g c = rw c.new.ensures (listed_all (g.T.Item.Fits c.args.item.now) c.loop.items.items c.loop.counter c.args.count c.loop.invariant.fits (omega arith))
+
+pub returns-in_err-push-clause-takes : goal.returns-in_err-push-clause-takes
+returns-in_err-push-clause-takes g c =
+    let p = err_from_is_err_and c.from_residual-in_err-push.result c.from_residual-in_err-push.ensures.1 in
+    rw (p.1, p.2) (record {
+      told = λ t. c.loop.invariant.takes.told (c.in_ok-next.ensures.takes.told t);
+      reads = λ t. tt;
+    })

@@ -37,3 +37,11 @@ returns-clause-count g c = omega arith
 
 pub returns-clause-words : goal.returns-clause-words
 returns-clause-words g c = c.loop.invariant.1
+
+pub returns-in_err-push-clause-takes : goal.returns-in_err-push-clause-takes
+returns-in_err-push-clause-takes g c =
+    let p = err_from_is_err_and c.from_residual-in_err-push.result c.from_residual-in_err-push.ensures.1 in
+    rw (p.1, p.2) (record {
+      told = λ t. c.loop.invariant.2.told (c.in_ok-number.ensures.takes.told t);
+      reads = λ t. tt;
+    })
