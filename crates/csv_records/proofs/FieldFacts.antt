@@ -1,5 +1,5 @@
 -- The fields of a record.
-use Rattle.std.proofs.Common.{ℕ, ◌<◌, ◌≡◌, ◌≢◌, List, [], ◌∷◌, length, Option, Some, None, IfNone, arith, Bool, true, false, refl}
+use Rattle.std.proofs.Common.{ℕ, ◌<◌, ◌≡◌, ◌≢◌, List, [], ◌∷◌, length, Option, Some, None, IfNone, IfSome, arith, Bool, true, false, refl}
 use Rattle.std.specs.Prelude.{◌&&◌, ◌≤◌, nat_le, if◌then◌else◌}
 use Rattle.std.proofs.lemmas.Bool.{and_parts, leb-true}
 use Rattle.csv.specs.Records.{field_at}
@@ -9,6 +9,10 @@ use Rattle.csv_records.specs.Field.{digits_from, is_number, is_number_within}
 pub none-of : {T : Type 0} (r : Option T) (P : Type 0) → P → IfNone r P
 none-of None P p = p
 none-of (Some x) P p = tt
+
+pub nothing : {T : Type 0} (r : Option T) (P : T → Type 0) → r ≡ None → IfSome r P
+nothing None P e = tt
+nothing (Some x) P e = absurd (cc e)
 
 -- a record with no field at a place below n has not n fields
 pub absent : (xs : List (List ℕ)) (i n : ℕ) → i < n → field_at xs i ≡ None → length xs ≢ n
