@@ -1,10 +1,10 @@
-use Rattle.std.proofs.Common.{◌≡◌, ℕ, ◌+◌, ◌<◌, List, length, get_or, set, slice_index, replicate, arith, ap, sym, ◌∙◌, subst, rules}
+use Rattle.std.proofs.Common.{◌≡◌, ℕ, ◌+◌, ◌<◌, List, length, get_or, set, slice_index, replicate, arith, ap, sym, ◌∙◌, subst, rules, ◌∷◌, []}
 use Rattle.te_model.specs.declared.network.Link.{Link}
 use Rattle.te_model.specs.declared.units.TheConstants.{SHARE_UNIT}
 use Rattle.te_model.specs.Network.{no_link, tail_of, head_of}
 use Rattle.te_model.proofs.SoundLinks.{costs_small}
 use Rattle.te_model.proofs.WellFormed.{links_join}
-use Rattle.std.proofs.lemmas.List.{get_or_read, nil_from_length}
+use Rattle.std.proofs.lemmas.List.{get_or_read, nil_from_length, length-append}
 use Rattle.ecmp_split.specs.Equal.{next_count, equal_part}
 use Rattle.ecmp_split.specs.declared.next.NextLink.{NextLink}
 use Rattle.ecmp_split.proofs.Collecting.{not_some}
@@ -133,3 +133,12 @@ returns c =
       parts = sharing_end c.args.net.now c.args.hops.now.costs c.args.src c.loop-next.waiting.items c.loop-next.flow.items c.loop-next.arrived.items c.loop-next.invariant
           (nil_from_length c.loop-next.waiting.items (omega (arith, empty, c.loop-next.waiting.ok.0)));
     }
+
+pub bounds-links-next : goal.bounds-links-next
+bounds-links-next c =
+    let at = (goal.at.bounds-links-next c).In-Some in
+    omega (arith, (last at).in_flow, c.loop-next.invariant.flow_size, ap (λ (l : List Link). length l) c.as_slice-links.ensures)
+
+pub loop-next-smaller : goal.loop-next-smaller
+loop-next-smaller c =
+    omega (arith, ap (λ (l : List NextLink). length l) c.in-Some.ensures.items, length-append c.pop.new.self.items (c.in-Some.next ∷ []))
