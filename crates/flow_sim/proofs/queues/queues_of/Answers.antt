@@ -1,4 +1,6 @@
-use Rattle.std.proofs.Common.{◌+◌, ◌<◌, List, length, arith, ap, sym, subst, ◌∙◌}
+use Rattle.std.proofs.Common.{◌≡◌, ℕ, ◌+◌, ◌<◌, All, List, [], length, arith, refl, ap, sym, subst, ◌∙◌, inl, inr}
+use Rattle.std.proofs.lemmas.Bool.{cases_lt}
+use Rattle.std.proofs.lemmas.List.{get_or_past}
 use Rattle.std.specs.Prelude.{slice_index_or}
 use Rattle.te_model.specs.declared.route.PairRoutes.{PairRoutes}
 use Rattle.flow_sim.specs.Queues.{HasRoom, AreAdded, AreQueues}
@@ -6,6 +8,23 @@ use Rattle.flow_sim.specs.Traffic.{concat_below, paths_of}
 use Rattle.flow_sim.proofs.QueueLaws.{concat_next, flows_next, flows_within, paths_read, room_for, queues_more}
 use Rattle.flow_sim.proofs.TableLaws.{written}
 use Rattle.flow_sim.proofs.queues.queues_of.Goals as goal
+
+-- no flow stands in empty queues
+queues_none : (links : ℕ) (rounds : List (List (List ℕ))) → All (λ r. (length r ≡ links) × All (λ q. q ≡ []) r) rounds → AreQueues [] links rounds
+queues_none links rounds all = record {
+  queues = λ r below. (all r [] below).0;
+  asking = λ r e inside. elim (cases_lt r (length rounds)) [
+    | inl lt ↦ (all r [] lt).1 e [] inside
+    | inr ge ↦ absurd (omega (arith, inside, ap length (get_or_past rounds r [] ge)))
+  ];
+}
+
+pub loop-p-init : goal.loop-p-init
+loop-p-init c = record {
+  first = refl;
+  rounds = omega (arith, c.in_ok-list.ensures.0, c.in_ok-list.list.ok.0);
+  queues = queues_none c.args.links c.in_ok-list.list.items c.in_ok-list.ensures.1;
+}
 
 pub add_paths-requires-clause-room : goal.add_paths-requires-clause-room
 add_paths-requires-clause-room c = λ k d below.

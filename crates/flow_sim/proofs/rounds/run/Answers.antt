@@ -1,9 +1,10 @@
-use Rattle.std.proofs.Common.{◌≡◌, ◌*◌, ◌<◌, ◌≤◌, ◌^◌, ℕ, Bool, List, [], length, slice_index, arith, refl, ap, sym, subst, ◌∙◌}
+use Rattle.std.proofs.Common.{◌≡◌, ◌*◌, ◌<◌, ◌≤◌, ◌^◌, ℕ, All, Bool, List, [], length, slice_index, arith, refl, ap, sym, subst, ◌∙◌}
 use Rattle.std.specs.Prelude.{slice_index_or}
 use Rattle.std.proofs.lemmas.List.{get_or_default}
 use Rattle.te_model.specs.declared.limits.TheConstants.{FORMAT_2}
 use Rattle.te_model.specs.declared.network.Network.{Network}
 use Rattle.te_model.specs.declared.route.PairRoutes.{PairRoutes}
+use Rattle.te_model.specs.declared.route.PathShare.{PathShare}
 use Rattle.te_model.specs.Network.{link_count}
 use Rattle.te_model.specs.Counting.{sum_below}
 use Rattle.te_model.proofs.ApportionLaws.{sum_is_below}
@@ -48,6 +49,19 @@ shape_next s r links before after same known has = record {
   lost_failed = has.lost_failed ∙ known.flows;
   left = has.left ∙ same;
 }
+
+pub queues_of-requires-clause-few : goal.queues_of-requires-clause-few
+queues_of-requires-clause-few c = λ p below. (c.requires.paths p below).0
+
+pub queues_of-requires-clause-links : goal.queues_of-requires-clause-links
+queues_of-requires-clause-links c = λ p below.
+    subst (λ n. All (λ (s : PathShare). All (λ e. e < n) s.links) (paths_of c.args.rates.now p)) (sym c.requires.marks) (c.requires.links p below)
+
+pub begin-requires-clause-demands : goal.begin-requires-clause-demands
+begin-requires-clause-demands c = c.requires.demands
+
+pub begin-requires-clause-paths : goal.begin-requires-clause-paths
+begin-requires-clause-paths c = c.requires.paths
 
 pub loop-number-init : goal.loop-number-init
 loop-number-init c =

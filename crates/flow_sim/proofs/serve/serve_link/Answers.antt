@@ -60,3 +60,9 @@ returns-clause-served c =
         ap sum (c.as_slice-3.ensures.value ∙ shares),
       );
     }
+
+pub book-requires-clause-room : goal.book-requires-clause-room
+book-requires-clause-room c = c.requires.room
+
+pub returns-clause-others : goal.returns-clause-others
+returns-clause-others c = c.book.ensures.others
