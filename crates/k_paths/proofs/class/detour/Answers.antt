@@ -1,7 +1,7 @@
-use Rattle.std.proofs.Common.{◌≡◌, ◌++◌, Option, Some, None, length, take, sym, subst, rules}
+use Rattle.std.proofs.Common.{◌≡◌, ◌++◌, Option, Some, None, length, take, sym, subst, rules, ◌≤◌, ◌∙◌, ℕ, Bool, List, All, ap}
 use Rattle.te_model.specs.declared.route.Path.{Path}
 use Rattle.te_model.proofs.Chains.{walk_links}
-use Rattle.shortest_path.specs.Least.{IsLeastWalk, links_of}
+use Rattle.shortest_path.specs.Least.{IsLeastWalk, links_of, AreLeastSums}
 use Rattle.k_paths.specs.Classes.{IsLeastOfClass}
 use Rattle.k_paths.proofs.Prefixes.{deviation_none, deviation_some}
 use Rattle.k_paths.proofs.class.detour.Goals as goal
@@ -38,3 +38,23 @@ returns c =
     let found : c.extend_from_slice.new.self.items ≡ prefix ++ r = search rules in
     subst (λ l. IsLeastOfClass net c.args.src ways.dst l (length prefix) c.args.excluded.now × (take (length prefix) l ≡ prefix)) (sym found)
     (deviation_some net marks c.args.src ways.dst node ways.costs prefix c.args.excluded.now r c.requires.ways.costs c.requires.prefix c.in_ok-marks.ensures.marks least)
+
+pub least_sums-requires-clause-sound : goal.least_sums-requires-clause-sound
+least_sums-requires-clause-sound c = c.requires.sound
+
+pub follow-requires-clause-sound : goal.follow-requires-clause-sound
+follow-requires-clause-sound c = c.requires.sound
+
+pub follow-requires-clause-lengths : goal.follow-requires-clause-lengths
+follow-requires-clause-lengths c = ap (λ (l : List ℕ). length l) c.as_slice-costs.ensures ∙ c.requires.ways.costs.count
+
+pub follow-requires-clause-positive : goal.follow-requires-clause-positive
+follow-requires-clause-positive c = subst (λ (l : List ℕ). All (λ x. 1 ≤ x) l) (sym c.as_slice-costs.ensures) c.requires.ways.costs.positive
+
+pub follow-requires-clause-distances : goal.follow-requires-clause-distances
+follow-requires-clause-distances c =
+    let net = c.args.net.now in
+    let costs = c.as_slice-costs.result.now in
+    let dst = c.args.ways.now.dst in
+    subst (λ (m : List Bool). AreLeastSums net costs m dst c.deref-3.result.now) (c.deref.ensures.value ∙ sym c.deref-2.ensures.value)
+    (subst (AreLeastSums net costs c.deref.result.now dst) (sym c.deref-3.ensures.value) c.in_ok-sums.ensures)

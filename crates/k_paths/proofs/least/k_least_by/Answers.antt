@@ -10,7 +10,7 @@ use Rattle.k_paths.specs.declared.candidate.Candidate.{Candidate}
 use Rattle.te_model.specs.declared.network.Network.{Network}
 use Rattle.shortest_path.specs.Costs.{HasCosts}
 use Rattle.k_paths.specs.Search.{AreFirst, IsPathSearch, candidate_links, no_candidate}
-use Rattle.k_paths.proofs.Rounds.{FoundSoFar, links_inside, are_first, found_more, found_end}
+use Rattle.k_paths.proofs.Rounds.{FoundSoFar, links_inside, are_first, found_more, found_end, found_none}
 use Rattle.k_paths.proofs.least.k_least_by.Goals as goal
 use Rattle.k_paths.proofs.least.k_least_by.Goals.{then-len-k+in_ok-candidates-2, else-len-k, then-loop-candidates-test+else-not-is_empty, else-loop-candidates-test}
 
@@ -116,3 +116,13 @@ first_of-best-requires-clause-costs c =
     let costs = c.args.ways.now.costs in
     subst (All (λ x. x ≤ 2 ^ 28)) (sym c.as_slice.ensures)
     (All-weaker (λ x. x ≤ 65535) (λ x. x ≤ 2 ^ 28) (λ x le. omega (arith, le)) costs c.requires.ways.costs.small)
+
+pub loop-candidates-init : goal.loop-candidates-init
+loop-candidates-init c =
+    let cs = c.in_ok-candidates.candidates.items in
+    subst (λ (l : List Path). FoundSoFar c.args.net.now c.args.src c.args.ways.now.dst c.args.k (map (λ (p : Path). p.links) l) cs) (sym c.new-found.ensures.items)
+    (found_none c.args.net.now c.args.src c.args.ways.now.dst c.args.k cs c.in_ok-candidates.ensures)
+
+pub loop-candidates-smaller : goal.loop-candidates-smaller
+loop-candidates-smaller c =
+    omega (arith, c.in_ok-push.ensures.len, c.len.ensures, c.loop-candidates-test.true, c.loop-candidates.found.ok.0, c.push.new.self.ok.0)

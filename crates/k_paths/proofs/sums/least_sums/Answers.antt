@@ -45,3 +45,9 @@ returns-then-not-lower c =
     c.deref_mut.ensures.value c.loop-round.sums.ok.0 c.loop-round.invariant c.lower.ensures.sums
     in
     rw left.0 (least_of_taut net c.args.costs.now c.args.open.now c.args.dst (n + 67107840) c.lower.new.sums left.1 (c.lower.ensures.taut c.if-not-lower.true))
+
+pub lower-requires-clause-sound : goal.lower-requires-clause-sound
+lower-requires-clause-sound c = c.requires.sound
+
+pub toward-requires-clause-sound : goal.toward-requires-clause-sound
+toward-requires-clause-sound c = c.requires.sound

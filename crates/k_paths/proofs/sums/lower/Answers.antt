@@ -1,10 +1,11 @@
-use Rattle.std.proofs.Common.{◌≡◌, ◌+◌, ◌^◌, ◌<◌, ◌≤◌, ℕ, true, List, Some, length, get_or, set, slice_index, arith, ap, sym, subst}
+use Rattle.std.proofs.Common.{◌≡◌, ◌+◌, ◌^◌, ◌<◌, ◌≤◌, ℕ, true, List, Some, length, get_or, set, slice_index, arith, ap, sym, subst, ◌*◌, refl}
 use Rattle.std.proofs.lemmas.List.Elements.{All-get_or}
 use Rattle.te_model.specs.declared.network.Link.{Link}
 use Rattle.te_model.specs.Network.{link_at, link_count, no_link, head_of, tail_of}
 use Rattle.shortest_path.specs.Graph.{AtMost, distance_at}
-use Rattle.k_paths.specs.Sums.{IsTaut}
+use Rattle.k_paths.specs.Sums.{IsTaut, AreWalkSums}
 use Rattle.k_paths.proofs.WalkSums.{LoweredSoFar, lowered_more, lowered_skip, lowered_sums, none_case}
+use Rattle.shortest_path.proofs.ReadLinks.{read_place, read_tail}
 use Rattle.k_paths.proofs.sums.lower.Goals as goal
 use Rattle.k_paths.proofs.sums.lower.Goals.{then-open-h+in-Some, then-open-h+in_default, else-open-h}
 
@@ -54,3 +55,28 @@ pub returns-clause-sums : goal.returns-clause-sums
 returns-clause-sums c = λ n were.
     lowered_sums c.args.net.now c.args.costs.now c.args.open.now c.args.dst c.loop-h.h c.loop-h.fell c.args.sums.now c.loop-h.sums c.loop-h.invariant
     (omega (arith, c.loop-h.auto.h-end, ap (λ (l : List Link). length l) c.as_slice-links.ensures, c.requires.sound.few_links)) n were
+
+pub loop-h-init : goal.loop-h-init
+loop-h-init c = record {
+  are = λ n were. let e : n ≡ n + 65535 * 0 = omega arith in
+      subst (λ m. AreWalkSums c.args.net.now c.args.costs.now c.args.open.now c.args.dst m c.args.sums.now) e were;
+  same = λ fell. refl;
+  taut = λ fell k below. absurd (omega (arith, below));
+}
+
+pub bounds-costs-h : goal.bounds-costs-h
+bounds-costs-h c = omega (arith, read_place c.args.net.now c.as_slice-links.result.now c.loop-h.h c.as_slice-links.ensures c.loop-h-test.true, c.requires.costs)
+
+pub bounds-sums-tail : goal.bounds-sums-tail
+bounds-sums-tail c =
+    omega (
+      arith,
+      read_tail c.args.net.now c.as_slice-links.result.now c.loop-h.h c.requires.sound c.as_slice-links.ensures c.loop-h-test.true,
+      c.requires.sums.count,
+      c.loop-h.auto.sums,
+    )
+
+pub lesser_sum-requires-clause-cost : goal.lesser_sum-requires-clause-cost
+lesser_sum-requires-clause-cost c =
+    let inside = read_place c.args.net.now c.as_slice-links.result.now c.loop-h.h c.as_slice-links.ensures c.loop-h-test.true in
+    All-get_or (λ x. x ≤ 65535) c.args.costs.now c.loop-h.h 0 (omega (arith, inside, c.requires.costs)) c.requires.limit
