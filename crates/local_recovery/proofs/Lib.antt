@@ -6,3 +6,4 @@ pub mod Left
 pub mod Spreading
 pub mod SpreadRates
 pub mod Existence
+pub mod Making

@@ -1,11 +1,11 @@
-use Rattle.std.proofs.Common.{◌≡◌, ℕ, true, Option, Some, None, List, [], ◌∷◌, ◌++◌, map, refl, sym, ap, subst, ◌∙◌}
+use Rattle.std.proofs.Common.{◌≡◌, ℕ, ◌≤◌, true, Option, Some, None, List, [], ◌∷◌, ◌++◌, length, map, arith, refl, sym, ap, subst, ◌∙◌}
 use Rattle.std.specs.Prelude.{option_map}
-use Rattle.std.proofs.lemmas.List.{append-nil}
+use Rattle.std.proofs.lemmas.List.{append-nil, take_all}
 use Rattle.te_model.specs.declared.route.PathShare.{PathShare}
 use Rattle.shortest_path.specs.Least.{links_of}
 use Rattle.routing.specs.Loops.{end_of, IsCut}
 use Rattle.te_model.specs.Path.{chains}
-use Rattle.local_recovery.specs.Recovery.{walk_over, IsBypassPart}
+use Rattle.local_recovery.specs.Recovery.{walk_over, AreParts, IsBypassPart}
 use Rattle.local_recovery.proofs.BypassWalks.{IsPathOf, item_has, links_stand, walk_ready, parts_next}
 use Rattle.local_recovery.proofs.bypass.parts.Goals as goal
 use Rattle.local_recovery.proofs.bypass.parts.Goals.{in-Some+in_ok-links+in_ok-push, in_default}
@@ -62,3 +62,12 @@ loop-path-preserved c =
           (subst (λ o. IsBypassPart net pair.src x.weight o []) (sym is) refl)
           (ap (λ v. v.items) w.list-is ∙ sym (append-nil c.loop-path.list.items))
     ]
+
+pub returns : goal.returns
+returns c =
+    let paths = c.args.routes.now.paths in
+    let whole : length paths ≤ c.loop-path.path-index =
+    omega (arith, c.loop-path-test.false, ap (λ (ps : List PathShare). length ps) c.as_slice-path-items.ensures)
+    in
+    subst (λ (ps : List PathShare). AreParts c.args.net.now (map links_of c.args.bypass_paths.now) c.args.routes.now.pair.src ps c.loop-path.list.items)
+    (take_all c.loop-path.path-index paths whole) c.loop-path.invariant

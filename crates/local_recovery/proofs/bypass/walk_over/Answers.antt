@@ -1,6 +1,6 @@
-use Rattle.std.proofs.Common.{Some, ◌++◌, map, take, sym, ap, ◌∙◌}
+use Rattle.std.proofs.Common.{Some, ◌++◌, map, take, arith, sym, ap, ◌∙◌}
 use Rattle.std.specs.Prelude.{slice_index_or}
-use Rattle.std.proofs.lemmas.List.{take_more}
+use Rattle.std.proofs.lemmas.List.{take_all, take_more}
 use Rattle.shortest_path.specs.Least.{links_of}
 use Rattle.local_recovery.specs.Recovery.{walk_over}
 use Rattle.local_recovery.proofs.BypassWalks.{walk_over_more, walk_over_none, stand_read}
@@ -21,3 +21,8 @@ loop-link-preserved c =
     ap (walk_over bypass_paths) (take_more c.args.links.now i 0 c.loop-link-test.true)
     ∙ (walk_over_more bypass_paths (take i c.args.links.now) (slice_index_or c.args.links.now i 0) c.loop-link.walk.items c.in-Some.path.links c.loop-link.invariant here
     ∙ ap Some (sym (c.in_ok-extend_from_slice-in-Some.ensures.items ∙ ap (λ xs. c.loop-link.walk.items ++ xs) c.as_slice.ensures)))
+
+pub returns : goal.returns
+returns c =
+    sym c.loop-link.invariant
+    ∙ ap (walk_over (map links_of c.args.bypass_paths.now)) (take_all c.loop-link.link-index c.args.links.now (omega (arith, c.loop-link-test.false)))

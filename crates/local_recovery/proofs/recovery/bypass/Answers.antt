@@ -1,20 +1,31 @@
-use Rattle.std.proofs.Common.{◌≡◌, ℕ, ◌+◌, ◌<◌, ◌++◌, ◌∷◌, [], Option, List, length, map, arith, sym, ap, subst, ◌∙◌, inl, inr, length-append}
+use Rattle.std.proofs.Common.{◌≡◌, ℕ, ◌+◌, ◌<◌, ◌≤◌, ◌++◌, ◌∷◌, [], Option, List, length, map, arith, refl, sym, ap, subst, ◌∙◌, inl, inr, length-append}
 use Rattle.std.specs.Prelude.{slice_index_or}
 use Rattle.std.proofs.lemmas.Bool.{cases_lt}
 use Rattle.std.proofs.lemmas.List.{get_or_default, get_or_append_left}
 use Rattle.std.proofs.Math.Seq.{get_or-append_seam}
 use Rattle.te_model.specs.declared.network.Network.{Network}
 use Rattle.te_model.specs.declared.route.PairRoutes.{PairRoutes}
+use Rattle.te_model.specs.PathRouting.{IsPathSplit}
 use Rattle.te_model.specs.Path.{routes_at, no_routes}
 use Rattle.shortest_path.specs.Least.{links_of}
 use Rattle.local_recovery.specs.Recovery.{IsBypassed, JoinEnds}
-use Rattle.local_recovery.proofs.BypassWalks.{bypass_paths_lead}
+use Rattle.local_recovery.proofs.BypassWalks.{bypass_paths_lead, item_has}
 use Rattle.local_recovery.proofs.recovery.bypass.Goals as goal
 
 pub bypass_pair-requires-clause-bypass_paths : goal.bypass_pair-requires-clause-bypass_paths
 bypass_pair-requires-clause-bypass_paths c =
     subst (λ os. JoinEnds c.args.net.now (map links_of os)) (sym c.as_slice.ensures.value)
     (bypass_paths_lead c.args.net.now c.args.failed.now (map links_of c.in_ok-bypass_paths.bypass_paths.items) c.in_ok-bypass_paths.ensures)
+
+pub bypass_pair-requires-clause-few : goal.bypass_pair-requires-clause-few
+bypass_pair-requires-clause-few c =
+    item_has (λ (r : PairRoutes). length r.paths ≤ 4096) c.args.routes.now c.args.routes.now c.loop-pair.pair-index c.pair-item.result refl
+    c.loop-pair-test.true c.pair-item.is c.requires.few
+
+pub bypass_pair-requires-clause-split : goal.bypass_pair-requires-clause-split
+bypass_pair-requires-clause-split c =
+    item_has (IsPathSplit c.args.net.now) c.args.routes.now c.args.routes.now c.loop-pair.pair-index c.pair-item.result refl
+    c.loop-pair-test.true c.pair-item.is c.requires.routing
 
 -- one pair more
 next : (net : Network) (bypass_paths : List (Option (List ℕ))) (before old new : List PairRoutes) (i : ℕ) (item left : PairRoutes) →
