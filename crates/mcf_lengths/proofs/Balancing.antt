@@ -1,5 +1,5 @@
 -- What the routing of the rounds and the candidates have together, and where the pairs of a routing end.
-use Rattle.std.proofs.Common.{inl, inr, ℕ, suc, ◌+◌, ◌<◌, List, [], ◌∷◌, ◌++◌, length, get_or, arith, ap, sym, ◌∙◌, subst}
+use Rattle.std.proofs.Common.{inl, inr, ℕ, suc, ◌+◌, ◌≤◌, ◌<◌, List, [], ◌∷◌, ◌++◌, length, get_or, arith, ap, sym, ◌∙◌, subst}
 use Rattle.std.proofs.lemmas.List.{get_or-map, length-append}
 use Rattle.te_model.specs.declared.network.Network.{Network}
 use Rattle.te_model.specs.declared.route.Pair.{Pair}
@@ -29,6 +29,10 @@ candidates_few : (k : ℕ) (net : Network) (pairs : List Pair) (routes : List Pa
 candidates_few k net pairs routes by = λ p d below.
     let (order, least, mix) = by.by_rule p d below in
     omega (arith, even_few order _ mix, least.few)
+
+-- no more paths than a limit are no more than a greater one
+pub few_more : (few many : ℕ) (routes : List PairRoutes) → few ≤ many → HasFewPaths few routes → HasFewPaths many routes
+few_more few many routes within is = λ p d below. omega (arith, within, is p d below)
 
 -- the paths of two routings of the same pairs are no more than both limits together
 pub few_together : (net : Network) (pairs : List Pair) (first k : ℕ) (start candidates : List PairRoutes) →

@@ -21,7 +21,7 @@ use Rattle.mcf_lengths.specs.declared.round.FlowRound.{FlowRound}
 use Rattle.mcf_lengths.specs.declared.round.TheConstants.{ROUNDS}
 use Rattle.mcf_lengths.specs.Laws.{BalancedRoutingsExist, FlowPlansExist}
 use Rattle.mcf_lengths.specs.Rounds.{AreLeastPaths, IsRoundsRouting, IsRoundsSplit, paths_of_round, round_paths_of_pair}
-use Rattle.mcf_lengths.proofs.Balancing.{few_together, pairs_join_nodes}
+use Rattle.mcf_lengths.proofs.Balancing.{few_more, few_together, pairs_join_nodes}
 use Rattle.mcf_lengths.proofs.Lengthening.{round_paths}
 use Rattle.mcf_lengths.proofs.RoundsMade.{rounds_exist}
 use Rattle.mcf_lengths.proofs.Splitting.{pair_paths, rounds_split, sound_paths}
@@ -73,7 +73,7 @@ rounds_routing net pairs demand formed ends reached =
     let (rounds, are) = rounds_exist net pairs demand formed ends reached in
     let (routes, far) = splits_to net pairs rounds are.count (round_paths net pairs demand rounds are) (length pairs) (omega arith) in
     let by = routes_done (IsRoundsSplit rounds) ROUNDS net pairs (length pairs) routes far refl in
-    record { routes = routes; is = (rounds, are, by); routing = by.routing; few = by.few }
+    record { routes = routes; is = (rounds, are, by); routing = by.routing; few = few_more ROUNDS 28 routes (omega arith) by.few }
 
 pub balanced_routings_exist : BalancedRoutingsExist
 balanced_routings_exist net pairs plan demand formed is demands =

@@ -1,5 +1,5 @@
 -- Destinations are marked pair by pair, and the least ways to them are made node by node.
-use Rattle.std.proofs.Common.{◌≡◌, inl, inr, ℕ, ◌+◌, ◌<◌, Bool, true, false, List, [], ◌∷◌, ◌++◌, length, set, get_or, arith, refl, ap, sym, ◌∙◌, subst}
+use Rattle.std.proofs.Common.{◌≡◌, inl, inr, ℕ, ◌+◌, ◌<◌, Bool, true, false, List, [], ◌∷◌, ◌++◌, length, set, get_or, arith, ap, sym, ◌∙◌, subst}
 use Rattle.std.proofs.lemmas.Bool.{cases_eq, cases_lt}
 use Rattle.std.proofs.lemmas.List.{get_or-set_other, get_or-set_same, get_or_read, length-set}
 use Rattle.te_model.specs.declared.network.Network.{Network}
@@ -7,7 +7,7 @@ use Rattle.te_model.specs.declared.route.Pair.{Pair}
 use Rattle.te_model.specs.Marks.{is_marked}
 use Rattle.te_model.specs.Network.{node_count}
 use Rattle.te_model.proofs.Choices.{pushed_count, pushed_each}
-use Rattle.scheme.specs.Reach.{ArePairsOf, no_pair, pair_at}
+use Rattle.scheme.specs.Reach.{ArePairsOf, IsPairOf, no_pair, pair_at}
 use Rattle.mcf_lengths.specs.declared.paths.LeastWays.{LeastWays}
 use Rattle.mcf_lengths.specs.Ways.{AreLeastWays, AreWaysToward, MarksDestinations, no_ways}
 
@@ -15,6 +15,28 @@ use Rattle.mcf_lengths.specs.Ways.{AreLeastWays, AreWaysToward, MarksDestination
 pub record MarkedSoFar (net : Network) (pairs : List Pair) (p : ℕ) (marks : List Bool) : Type 0 where
   pub count : length marks ≡ node_count net
   pub each : (q : ℕ) → q < p → is_marked marks (pair_at pairs q).dst ≡ true
+
+-- the destination of the next pair is marked
+pub marked_more : (net : Network) (pairs : List Pair) (p : ℕ) (marks : List Bool) (pair : Pair) → MarkedSoFar net pairs p marks → pair ≡ pair_at pairs p →
+    IsPairOf net (pair_at pairs p) → MarkedSoFar net pairs (p + 1) (set marks pair.dst true)
+marked_more net pairs p marks pair far at is =
+    let inside : pair.dst < length marks = omega (arith, ap (λ (x : Pair). x.dst) at, is.dst_inside, far.count) in
+    record {
+      count = length-set marks pair.dst true ∙ far.count;
+      each = λ q below.
+          let v = (pair_at pairs q).dst in
+          elim (cases_eq v pair.dst) [
+            | inl same ↦ subst (λ u. is_marked (set marks pair.dst true) u ≡ true) (sym same) (get_or-set_same marks pair.dst true false inside)
+            | inr other ↦
+                get_or-set_other marks pair.dst v true false other
+                ∙ elim (cases_lt q p) [
+                  | inl lt ↦ far.each q lt
+                  | inr ge ↦
+                      let last : q ≡ p = omega (arith, ge, below) in
+                      absurd (other (ap (λ k. (pair_at pairs k).dst) last ∙ ap (λ (x : Pair). x.dst) (sym at)))
+                ]
+          ];
+    }
 
 -- the least ways to the first v nodes
 pub record WaysSoFar (net : Network) (lengths : List ℕ) (marks : List Bool) (v : ℕ) (ways : List LeastWays) : Type 0 where

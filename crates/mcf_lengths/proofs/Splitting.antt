@@ -1,10 +1,11 @@
 -- The demand of each pair in even parts over its paths of the rounds.
-use Rattle.std.proofs.Common.{◌≡◌, ℕ, ◌<◌, List, [], Some, All, length, get_or, arith, sym, subst}
+use Rattle.std.proofs.Common.{◌≡◌, ℕ, ◌<◌, List, [], Some, All, length, map, get_or, arith, ap, sym, ◌∙◌, subst}
 use Rattle.std.specs.Prelude.{IsTrue}
 use Rattle.std.proofs.lemmas.List.{get_or-map, length-map}
-use Rattle.std.proofs.lemmas.List.Elements.{All-from_get_or, All-get_or, All-weaker}
+use Rattle.std.proofs.lemmas.List.Elements.{All-from_get_or, All-get_or}
 use Rattle.te_model.specs.declared.network.Network.{Network}
 use Rattle.te_model.specs.declared.route.Pair.{Pair}
+use Rattle.te_model.specs.declared.route.Path.{Path}
 use Rattle.te_model.specs.declared.route.PathShare.{PathShare}
 use Rattle.te_model.specs.Path.{is_path}
 use Rattle.shortest_path.specs.Paths.{IsLeastPath}
@@ -16,6 +17,11 @@ use Rattle.mcf_lengths.specs.declared.round.FlowRound.{FlowRound}
 use Rattle.mcf_lengths.specs.declared.round.TheConstants.{ROUNDS}
 use Rattle.rate_sweeps.specs.Sweeps.{links_in}
 use Rattle.mcf_lengths.specs.Rounds.{AreLeastPaths, AreRoundPaths, IsRoundsSplit, no_flow_round, paths_of_round, round_paths_of_pair, flow_round_at}
+
+-- a pair has as many paths as there are rounds
+pub paths_count : (rounds : List FlowRound) (p : ℕ) (paths : List Path) → map links_in paths ≡ round_paths_of_pair rounds p → length paths ≡ length rounds
+paths_count rounds p paths are =
+    sym (length-map paths links_in) ∙ (ap (λ (l : List (List ℕ)). length l) are ∙ length-map rounds (λ (r : FlowRound). get_or (paths_of_round r) p []))
 
 -- the paths of pair p are its least paths in the rounds
 pub pair_paths : (net : Network) (pairs : List Pair) (rounds : List FlowRound) (p : ℕ) → All (λ r. AreLeastPaths net r.lengths pairs (paths_of_round r)) rounds → p < length pairs →

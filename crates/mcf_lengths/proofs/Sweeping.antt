@@ -1,8 +1,8 @@
 -- Sweeps over least paths, one after the other, are sweeps over paths of each pair.
-use Rattle.std.proofs.Common.{◌≡◌, ◌⊎◌, inl, inr, ℕ, ◌+◌, ◌<◌, List, [], ◌∷◌, ◌++◌, length, get_or, arith, ap, refl, sym, ◌∙◌, subst, All}
+use Rattle.std.proofs.Common.{◌≡◌, ◌⊎◌, inl, inr, ℕ, ◌+◌, ◌<◌, List, [], ◌∷◌, ◌++◌, length, get_or, arith, ap, sym, ◌∙◌, subst, All}
 use Rattle.std.specs.Prelude.{IsTrue, slice_index_or}
 use Rattle.std.proofs.lemmas.List.{get_or-map, length-append}
-use Rattle.std.proofs.lemmas.List.Elements.{All-from_get_or, All-nil, All-push, All-weaker}
+use Rattle.std.proofs.lemmas.List.Elements.{All-from_get_or, All-push, All-weaker}
 use Rattle.te_model.specs.declared.network.Network.{Network}
 use Rattle.te_model.specs.declared.route.Pair.{Pair}
 use Rattle.te_model.specs.declared.route.PairRoutes.{PairRoutes}
@@ -12,9 +12,11 @@ use Rattle.te_model.proofs.SimplePaths.{path_links}
 use Rattle.routing.specs.Routes.{IsRoutingOf}
 use Rattle.routing.proofs.InOrder.{routes_count}
 use Rattle.scheme.specs.Reach.{pair_at}
+use Rattle.centred_steps.proofs.Weights.{weights_positive, weights_small}
 use Rattle.rate_sweeps.specs.declared.mix.Sweep.{Sweep}
-use Rattle.rate_sweeps.specs.Sweeps.{paths_in, AreOnLinks, ArePathsOfPairs, IsWeight}
-use Rattle.mcf_lengths.specs.Rounds.{AreLeastPaths}
+use Rattle.rate_sweeps.specs.declared.rates.Rates.{Rates}
+use Rattle.rate_sweeps.specs.Sweeps.{paths_in, AreOnLinks, ArePathsOfPairs, AreRates, IsWeight}
+use Rattle.mcf_lengths.specs.Rounds.{AreLeastPaths, AreLengths}
 use Rattle.mcf_lengths.specs.Sweeps.{AreLeastSweeps, IsLeastSweep}
 
 -- one sweep more
@@ -53,3 +55,11 @@ sweeps_ways net pairs routes sweeps is least =
 -- what holds of two routings holds of the one that is taken
 pub taken_keeps : (P : List PairRoutes → Type 0) (first second taken : List PairRoutes) → (taken ≡ first) ⊎ (taken ≡ second) → P first → P second → P taken
 taken_keeps P first second taken either of_first of_second = elim either [ inl is ↦ subst P (sym is) of_first | inr is ↦ subst P (sym is) of_second ]
+
+-- the lengths that sweeps have kept
+pub offered_lengths : (net : Network) (rates : Rates) → AreRates net rates → AreLengths net rates.lengths.items
+offered_lengths net rates are = record {
+  count = are.lengths_count;
+  some = weights_positive rates.lengths.items are.lengths;
+  limit = weights_small rates.lengths.items are.lengths;
+}

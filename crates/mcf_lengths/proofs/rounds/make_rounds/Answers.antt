@@ -1,5 +1,7 @@
 use Rattle.std.proofs.Common.{◌≡◌, ℕ, ◌+◌, ◌*◌, ◌<◌, ◌≤◌, ◌^◌, List, [], ◌∷◌, ◌++◌, All, true, length, map, max, slice_index, arith, ap, sym, ◌∙◌, subst, rules}
+use Rattle.std.proofs.lemmas.List.{length-map}
 use Rattle.te_model.specs.declared.route.Path.{Path}
+use Rattle.te_model.specs.Pairs.{AreDemands}
 use Rattle.te_model.specs.Network.{link_count}
 use Rattle.te_model.specs.Path.{is_distinct}
 use Rattle.multiplicative_lengths.specs.Growth.{greatest_usage, grown_multipliers}
@@ -9,9 +11,31 @@ use Rattle.multiplicative_lengths.proofs.Multiplying.{grown_small}
 use Rattle.mcf_lengths.specs.declared.round.FlowRound.{FlowRound}
 use Rattle.rate_sweeps.specs.Sweeps.{links_in}
 use Rattle.mcf_lengths.specs.Rounds.{IsFlowRound, loads_in}
+use Rattle.mcf_lengths.specs.Ways.{MarksDestinations}
 use Rattle.mcf_lengths.proofs.LeastPaths.{least_distinct, least_links}
 use Rattle.mcf_lengths.proofs.Lengthening.{FlowSoFar, flow_done, flow_more, flow_none}
 use Rattle.mcf_lengths.proofs.rounds.make_rounds.Goals as goal
+
+pub make_round-requires-clause-wanted : goal.make_round-requires-clause-wanted
+make_round-requires-clause-wanted c = subst (MarksDestinations c.args.net.now c.args.pairs.now.list) (sym c.deref.ensures.value) c.in_ok-wanted.ensures
+
+pub make_round-requires-clause-count : goal.make_round-requires-clause-count
+make_round-requires-clause-count c = ap (λ (l : List ℕ). length l) c.deref-in-loop-round.ensures.value ∙ c.loop-round.invariant.far.grown.count
+
+pub make_round-requires-clause-some : goal.make_round-requires-clause-some
+make_round-requires-clause-some c = subst (All (λ (m : ℕ). 1 ≤ m)) (sym c.deref-in-loop-round.ensures.value) c.loop-round.invariant.far.grown.some
+
+pub loads_of-requires-clause-few : goal.loads_of-requires-clause-few
+loads_of-requires-clause-few c =
+    let paths = c.in_ok-round.round.paths in
+    let count = ap (λ (l : List Path). length l) c.as_slice.ensures ∙ (sym (length-map paths links_in) ∙ c.in_ok-round.ensures.paths.count) in
+    omega (arith, count, c.requires.pairs.few)
+
+pub loads_of-requires-clause-demands : goal.loads_of-requires-clause-demands
+loads_of-requires-clause-demands c =
+    let paths = c.in_ok-round.round.paths in
+    let count = ap (λ (l : List Path). length l) c.as_slice.ensures ∙ (sym (length-map paths links_in) ∙ c.in_ok-round.ensures.paths.count) in
+    subst (λ n. AreDemands n c.args.matrix.now.demand) (sym count) c.requires.demands
 
 pub loads_of-requires-clause-links : goal.loads_of-requires-clause-links
 loads_of-requires-clause-links c =
@@ -35,6 +59,19 @@ pub grow-requires-clause-loads : goal.grow-requires-clause-loads
 grow-requires-clause-loads c =
     ap (λ (l : List ℕ). length l) (c.deref-in-loop-round-3.ensures.value ∙ c.in_ok-loads.ensures)
     ∙ length-loads_of c.args.net.now (slice_index c.args.matrix.now.demand) (map links_in c.as_slice.result.now)
+
+pub grow-requires-clause-divisor : goal.grow-requires-clause-divisor
+grow-requires-clause-divisor c =
+    let net = c.args.net.now in
+    let usage : c.greatest_usage.result ≡ greatest_usage net c.deref-in-loop-round-3.result.now =
+    c.greatest_usage.ensures.usage
+    ∙ ap (λ (l : List ℕ). greatest_usage net l) (c.deref-in-loop-round-2.ensures.value ∙ sym c.deref-in-loop-round-3.ensures.value)
+    in
+    let within : c.greatest_usage.result ≤ c.max-most.result = grind (arith, c.max-most.ensures) in
+    omega (arith, usage, within)
+
+pub grow-requires-clause-count : goal.grow-requires-clause-count
+grow-requires-clause-count c = ap (λ (l : List ℕ). length l) c.deref-in-loop-round-4.ensures.value ∙ c.loop-round.invariant.far.grown.count
 
 pub grow-requires-clause-moderate : goal.grow-requires-clause-moderate
 grow-requires-clause-moderate c =

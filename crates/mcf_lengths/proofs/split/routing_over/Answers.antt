@@ -1,4 +1,6 @@
 use Rattle.std.proofs.Common.{◌≡◌, ◌+◌, ◌<◌, List, ℕ, [], ◌∷◌, ◌++◌, true, length, get_or, arith, ap, sym, subst, rules}
+use Rattle.std.proofs.lemmas.List.{length-map}
+use Rattle.std.proofs.lemmas.List.Elements.{All-weaker}
 use Rattle.te_model.specs.declared.route.Pair.{Pair}
 use Rattle.te_model.specs.declared.route.PairRoutes.{PairRoutes}
 use Rattle.te_model.specs.declared.route.PathShare.{PathShare}
@@ -8,10 +10,27 @@ use Rattle.scheme.specs.Fixed.{IsRoutingBy, IsSplitBy}
 use Rattle.scheme.specs.Reach.{no_pair, pair_at}
 use Rattle.scheme.proofs.Plans.{RoutesSoFar, routes_done, routes_more}
 use Rattle.routing.specs.Even.{IsEvenMix}
+use Rattle.rate_sweeps.specs.Sweeps.{links_in}
+use Rattle.mcf_lengths.specs.declared.round.FlowRound.{FlowRound}
 use Rattle.mcf_lengths.specs.declared.round.TheConstants.{ROUNDS}
-use Rattle.mcf_lengths.specs.Rounds.{IsRoundsSplit}
-use Rattle.mcf_lengths.proofs.Splitting.{rounds_split}
+use Rattle.mcf_lengths.specs.Rounds.{AreLeastPaths, IsRoundsSplit, paths_of_round}
+use Rattle.mcf_lengths.proofs.Splitting.{paths_count, rounds_split}
 use Rattle.mcf_lengths.proofs.split.routing_over.Goals as goal
+
+pub paths_of_pair-requires : goal.paths_of_pair-requires
+paths_of_pair-requires c =
+    let net = c.args.net.now in
+    let pairs = c.args.pairs.now.list in
+    let p = c.loop-p.p in
+    let inside : p < length pairs = omega (arith, c.loop-p-test.true, ap (λ (l : List Pair). length l) c.as_slice-list.ensures) in
+    All-weaker (λ (r : FlowRound). AreLeastPaths net r.lengths pairs (paths_of_round r)) (λ (r : FlowRound). p < length r.paths)
+    (λ r least. omega (arith, inside, least.count, length-map r.paths links_in)) c.args.rounds.now c.requires.paths
+
+pub even_mix-requires-clause-some : goal.even_mix-requires-clause-some
+even_mix-requires-clause-some c = omega (arith, paths_count c.args.rounds.now c.loop-p.p c.in_ok-paths.paths.items c.in_ok-paths.ensures, c.requires.count)
+
+pub even_mix-requires-clause-few : goal.even_mix-requires-clause-few
+even_mix-requires-clause-few c = omega (arith, paths_count c.args.rounds.now c.loop-p.p c.in_ok-paths.paths.items c.in_ok-paths.ensures, c.requires.count)
 
 pub loop-p-preserved : goal.loop-p-preserved
 loop-p-preserved c =

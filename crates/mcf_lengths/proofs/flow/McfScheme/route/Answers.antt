@@ -1,11 +1,21 @@
-use Rattle.std.proofs.Common.{List, arith, sym, subst}
+use Rattle.std.proofs.Common.{List, length, arith, sym, subst}
 use Rattle.te_model.specs.declared.route.Pair.{Pair}
 use Rattle.routing.specs.Routes.{AreDemands, IsRoutingOf}
 use Rattle.routing.proofs.InOrder.{routes_count}
 use Rattle.scheme.specs.Reach.{AllReached, ArePairsOf}
+use Rattle.mcf_lengths.specs.declared.round.TheConstants.{ROUNDS}
 use Rattle.mcf_lengths.specs.Rounds.{IsRoundsRouting}
-use Rattle.mcf_lengths.proofs.Balancing.{few_together, pairs_join_nodes}
+use Rattle.mcf_lengths.proofs.Balancing.{few_more, few_together, pairs_join_nodes}
 use Rattle.mcf_lengths.proofs.flow.McfScheme.route.Goals as goal
+
+pub rounds_routing-requires-clause-pairs : goal.rounds_routing-requires-clause-pairs
+rounds_routing-requires-clause-pairs c =
+    let is = c.requires.plan.1 in
+    subst (λ (l : List Pair). ArePairsOf c.args.net.now l) (sym is.own) is.ends
+
+pub rounds_routing-requires-clause-demands : goal.rounds_routing-requires-clause-demands
+rounds_routing-requires-clause-demands c =
+    subst (λ (l : List Pair). AreDemands (length l) c.args.matrix.now.demand) (sym c.requires.plan.1.own) c.requires.plan.2
 
 pub rounds_routing-requires-clause-reached : goal.rounds_routing-requires-clause-reached
 rounds_routing-requires-clause-reached c =
@@ -21,6 +31,13 @@ pub sweep-requires-clause-reached : goal.sweep-requires-clause-reached
 sweep-requires-clause-reached c =
     let is = c.requires.plan.1 in
     subst (λ (l : List Pair). AllReached c.args.net.now l) (sym is.own) is.reached
+
+pub sweep-requires-clause-demands : goal.sweep-requires-clause-demands
+sweep-requires-clause-demands c =
+    subst (λ (l : List Pair). AreDemands (length l) c.args.matrix.now.demand) (sym c.requires.plan.1.own) c.requires.plan.2
+
+pub sweep-requires-clause-few : goal.sweep-requires-clause-few
+sweep-requires-clause-few c = few_more ROUNDS 28 c.in_ok-rounds.rounds.routes (omega arith) c.in_ok-rounds.ensures.few
 
 pub bracket-requires-clause-nodes : goal.bracket-requires-clause-nodes
 bracket-requires-clause-nodes c =

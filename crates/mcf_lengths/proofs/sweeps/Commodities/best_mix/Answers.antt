@@ -1,10 +1,23 @@
 use Rattle.std.proofs.Common.{List, All, arith, sym, ◌∙◌, subst}
+use Rattle.te_model.specs.Pairs.{AreDemands}
 use Rattle.routing.specs.Routes.{HasFewPaths, IsRoutingOf}
 use Rattle.routing.proofs.InOrder.{routes_count}
 use Rattle.rate_sweeps.specs.declared.mix.Sweep.{Sweep}
-use Rattle.rate_sweeps.specs.Sweeps.{ArePathsOfPairs, paths_in}
+use Rattle.rate_sweeps.specs.Sweeps.{ArePathsOfPairs, IsWeight, paths_in}
 use Rattle.mcf_lengths.proofs.Sweeping.{sweeps_ways, taken_keeps}
 use Rattle.mcf_lengths.proofs.sweeps.Commodities.best_mix.Goals as goal
+
+pub loop-init : goal.loop-init
+loop-init c = (
+  record { routing = c.requires.start.routing; few = c.requires.start.few; no_greater = omega arith },
+  c.requires.rates,
+  omega arith,
+  omega arith,
+)
+
+pub routing_by-requires-clause-weights : goal.routing_by-requires-clause-weights
+routing_by-requires-clause-weights c =
+    subst (λ (l : List Sweep). All (λ (s : Sweep). IsWeight s.weight) l) (sym c.deref.ensures.value) c.in_ok-sweeps.ensures.sweeps.weights
 
 pub routing_by-requires-clause-paths : goal.routing_by-requires-clause-paths
 routing_by-requires-clause-paths c =
@@ -12,6 +25,16 @@ routing_by-requires-clause-paths c =
     let best = c.loop.best.routes in
     subst (λ (l : List Sweep). All (λ (s : Sweep). ArePathsOfPairs net best (paths_in s)) l) (sym c.deref.ensures.value)
     (sweeps_ways net c.args.self.now.pairs.now.list best c.in_ok-sweeps.sweeps.items c.loop.invariant.0.routing c.in_ok-sweeps.ensures.sweeps.least)
+
+pub lesser-requires-clause-pairs : goal.lesser-requires-clause-pairs
+lesser-requires-clause-pairs c =
+    let count = routes_count c.args.self.now.pairs.now.list c.loop.best.routes c.loop.invariant.0.routing.in_order in
+    omega (arith, count, c.requires.commodities.ends.few)
+
+pub lesser-requires-clause-demands : goal.lesser-requires-clause-demands
+lesser-requires-clause-demands c =
+    let count = routes_count c.args.self.now.pairs.now.list c.loop.best.routes c.loop.invariant.0.routing.in_order in
+    subst (λ n. AreDemands n c.args.self.now.matrix.now.demand) (sym count) c.requires.commodities.demands
 
 pub lesser-requires-clause-count : goal.lesser-requires-clause-count
 lesser-requires-clause-count c =

@@ -1,11 +1,31 @@
-use Rattle.std.proofs.Common.{inl, inr, ◌≡◌, ℕ, ◌+◌, ◌-◌, List, map, arith, sym, subst}
+use Rattle.std.proofs.Common.{inl, inr, ◌≡◌, ℕ, ◌+◌, ◌-◌, ◌≤◌, ◌^◌, List, All, length, map, arith, ap, sym, ◌∙◌, subst}
+use Rattle.std.proofs.lemmas.List.{length-map}
 use Rattle.std.proofs.lemmas.Bool.{cases_lt}
 use Rattle.te_model.specs.declared.route.Path.{Path}
+use Rattle.te_model.specs.Pairs.{AreDemands}
+use Rattle.centred_steps.proofs.Weights.{weights_positive, weights_small}
 use Rattle.rate_sweeps.specs.declared.mix.Sweep.{Sweep}
 use Rattle.rate_sweeps.specs.Sweeps.{AreOnLinks, links_in}
 use Rattle.mcf_lengths.specs.Sweeps.{AreLeastSweeps}
 use Rattle.mcf_lengths.proofs.Sweeping.{least_on_links, sweeps_more}
 use Rattle.mcf_lengths.proofs.sweeps.Commodities.stage.Goals as goal
+
+pub least_paths-requires-clause-lengths : goal.least_paths-requires-clause-lengths
+least_paths-requires-clause-lengths c = ap (λ (l : List ℕ). length l) c.deref.ensures.value ∙ c.loop-i.invariant.0.count
+
+pub least_paths-requires-clause-limit : goal.least_paths-requires-clause-limit
+least_paths-requires-clause-limit c =
+    subst (All (λ (l : ℕ). l ≤ 2 ^ 28)) (sym c.deref.ensures.value) (weights_small _ c.loop-i.invariant.0.weights)
+
+pub least_paths-requires-clause-positive : goal.least_paths-requires-clause-positive
+least_paths-requires-clause-positive c =
+    subst (All (λ (l : ℕ). 1 ≤ l)) (sym c.deref.ensures.value) (weights_positive _ c.loop-i.invariant.0.weights)
+
+pub take_sweep-requires-clause-demands : goal.take_sweep-requires-clause-demands
+take_sweep-requires-clause-demands c =
+    let paths = c.in_ok-paths.paths.items in
+    let count = sym c.in_ok-paths.ensures.count ∙ (length-map paths links_in ∙ ap (λ (l : List Path). length l) (sym c.deref-in-loop-i.ensures.value)) in
+    subst (λ n. AreDemands n c.args.self.now.matrix.now.demand) count c.requires.commodities.demands
 
 pub take_sweep-requires-clause-paths : goal.take_sweep-requires-clause-paths
 take_sweep-requires-clause-paths c =
@@ -32,3 +52,8 @@ loop-i-preserved c =
             (sweeps_more (i - 10) (i + 1 - 10) net pairs sweeps s far (omega (arith, ge)) c.in_ok-weight.ensures.weight (lengths, c.in_ok-paths.ensures))
       ],
     )
+
+pub returns-clause-sweeps : goal.returns-clause-sweeps
+returns-clause-sweeps c =
+    let done : c.loop-i.i - 10 ≡ 30 = omega (arith, c.loop-i-test.false, c.loop-i.auto.i-end) in
+    subst (λ (n : ℕ). AreLeastSweeps n c.args.self.now.net.now c.args.self.now.pairs.now.list c.loop-i.sweeps.items) done c.loop-i.invariant.1
