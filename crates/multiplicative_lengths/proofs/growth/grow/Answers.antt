@@ -1,4 +1,6 @@
-use Rattle.std.proofs.Common.{◌≡◌, ◌+◌, ◌*◌, ◌/◌, ◌<◌, ◌≤◌, List, length, get_or, arith, ap, sym, ◌∙◌, subst}
+use Rattle.std.proofs.Common.{◌≡◌, ℕ, ◌+◌, ◌*◌, ◌/◌, ◌<◌, ◌≤◌, ◌^◌, List, length, get_or, map, arith, ap, sym, ◌∙◌, subst}
+use Rattle.std.proofs.lemmas.List.Elements.{All-get_or}
+use Rattle.std.specs.List.{range_with_len}
 use Rattle.te_model.specs.declared.network.Link.{Link}
 use Rattle.te_model.specs.declared.units.TheConstants.{RATIO_UNIT}
 use Rattle.te_model.specs.Network.{link_count, no_link}
@@ -15,6 +17,13 @@ usage_of-usage-requires c =
     let h = c.loop-h.h in
     let inside : h < link_count net = omega (arith, c.loop-h-test.true, ap (λ (ls : List Link). length ls) c.as_slice-links.ensures) in
     subst (λ (ls : List Link). 1 ≤ (get_or ls h no_link).capacity) (sym c.as_slice-links.ensures) (capacities_positive net c.requires.network h inside)
+
+pub grown_multiplier-requires-clause-multiplier : goal.grown_multiplier-requires-clause-multiplier
+grown_multiplier-requires-clause-multiplier c =
+    let inside : c.loop-h.h < length c.args.multipliers.now =
+    omega (arith, c.loop-h-test.true, ap (λ (ls : List Link). length ls) c.as_slice-links.ensures, c.requires.count)
+    in
+    All-get_or (λ (m : ℕ). m ≤ 2 ^ 38) c.args.multipliers.now c.loop-h.h 0 inside c.requires.moderate
 
 pub grown_multiplier-requires-clause-usage : goal.grown_multiplier-requires-clause-usage
 grown_multiplier-requires-clause-usage c =
@@ -41,3 +50,9 @@ loop-h-preserved c =
     c.grown_multiplier.ensures ∙ ap (λ x. get_or ms h 0 + quotient_up (get_or ms h 0 * x) divisor) usage
     in
     made_more (grown_multiplier net loads divisor ms) h c.grown_multiplier.result c.loop-h.next.items c.push.new.self.items c.loop-h.invariant c.in_ok-push.ensures.items made
+
+pub returns : goal.returns
+returns c =
+    let net = c.args.net.now in
+    let every : c.loop-h.h ≡ link_count net = omega (arith, c.loop-h-test.false, c.loop-h.auto.h-end, ap (λ (ls : List Link). length ls) c.as_slice-links.ensures) in
+    c.loop-h.invariant ∙ ap (λ n. map (grown_multiplier net c.args.loads.now c.args.divisor c.args.multipliers.now) (range_with_len 0 n)) every

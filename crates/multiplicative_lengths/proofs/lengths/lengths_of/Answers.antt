@@ -1,4 +1,5 @@
-use Rattle.std.proofs.Common.{◌≡◌, ◌*◌, ◌<◌, ◌≤◌, ◌^◌, List, length, get_or, min, arith, ap, sym, ◌∙◌, subst}
+use Rattle.std.proofs.Common.{◌≡◌, ◌*◌, ◌<◌, ◌≤◌, ◌^◌, List, length, get_or, map, min, arith, ap, sym, ◌∙◌, subst}
+use Rattle.std.specs.List.{range_with_len}
 use Rattle.te_model.specs.declared.network.Link.{Link}
 use Rattle.te_model.specs.Network.{link_count, no_link}
 use Rattle.te_model.specs.Division.{quotient_up}
@@ -25,3 +26,9 @@ loop-h-preserved c =
     ∙ ap (λ (ls : List Link). min (2 ^ 28) (quotient_up (get_or ms h 0 * greatest_capacity net) (get_or ls h no_link).capacity)) c.as_slice-links.ensures)
     in
     made_more (length_of net ms) h c.length_of.result c.loop-h.lengths.items c.push.new.self.items c.loop-h.invariant c.in_ok-push.ensures.items made
+
+pub returns : goal.returns
+returns c =
+    let net = c.args.net.now in
+    let every : c.loop-h.h ≡ link_count net = omega (arith, c.loop-h-test.false, c.loop-h.auto.h-end, ap (λ (ls : List Link). length ls) c.as_slice-links.ensures) in
+    c.loop-h.invariant ∙ ap (λ n. map (length_of net c.args.multipliers.now) (range_with_len 0 n)) every

@@ -1,5 +1,7 @@
-use Rattle.std.proofs.Common.{◌<◌, slice_index, length, arith}
+use Rattle.std.proofs.Common.{◌<◌, ◌+◌, ℕ, List, slice_index, length, arith, ap, ◌∙◌}
+use Rattle.std.proofs.lemmas.List.{take_all}
 use Rattle.std.proofs.lemmas.List.Elements.{All-get_or}
+use Rattle.te_model.specs.Path.{amount_on}
 use Rattle.te_model.proofs.Amounts.{amount_on-next, amount_step}
 use Rattle.multiplicative_lengths.proofs.loads.add_along.Goals as goal
 
@@ -17,3 +19,9 @@ loop-h-preserved c e =
     let inside = All-get_or (λ h. h < length c.args.loads.now) path i 0 c.loop-h-test.true c.requires.links in
     amount_step c.args.loads.now c.loop-h.loads path c.args.amount i e (c.loop-h.invariant e) c.requires.distinct c.loop-h-test.true
     (omega (arith, inside, c.loop-h.auto.loads))
+
+pub returns : goal.returns
+returns c e =
+    let path = c.args.links.now in
+    let all = take_all c.loop-h.h-index path (omega (arith, c.loop-h-test.false)) in
+    c.loop-h.invariant e ∙ ap (λ (l : List ℕ). slice_index c.args.loads.now e + amount_on l c.args.amount e) all
