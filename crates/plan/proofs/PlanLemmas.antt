@@ -1,11 +1,11 @@
 -- The text of a plan, and the lists in it.
-use Rattle.std.proofs.Common.{ℕ, suc, ◌≤◌, ◌<◌, ◌≡◌, ◌≢◌, ◌⊎◌, ◌∙◌, refl, sym, ap, inl, inr, List, [], ◌∷◌, length, Bool, true, false, ◌||◌, ◌==◌, nat_lt, Option, Some, None, option_and_then, get_or, drop, drop-cons, Result, Ok, Err, IsUtf8, arith, if◌then◌else◌}
+use Rattle.std.proofs.Common.{ℕ, suc, ◌+◌, ◌≤◌, ◌<◌, ◌≡◌, ◌≢◌, ◌⊎◌, ◌∙◌, refl, sym, ap, inl, inr, List, [], ◌∷◌, ◌++◌, length, Bool, true, false, ◌||◌, ◌==◌, nat_lt, Option, Some, None, option_and_then, get_or, drop, drop-cons, add-one, Result, Ok, Err, IsUtf8, arith, if◌then◌else◌}
 use Rattle.std.specs.Str.Lossy.{utf8_valid_len}
 use Rattle.std.proofs.lemmas.List.{drop_all}
 use Rattle.std.proofs.lemmas.Str.{utf8_valid_len-IsUtf8}
 use Rattle.std.proofs.lemmas.Bool.Decides.{nat_tests}
 use Rattle.serde_json.specs.Data.{Data}
-use Rattle.serde_json.specs.Find.{as_array, as_str}
+use Rattle.serde_json.specs.Find.{as_array, as_str, get}
 use Rattle.serde_json.specs.Read.{read}
 use Rattle.serde_json.specs.View.{view, items_view}
 use Rattle.serde_json.specs.declared.value.Value.{Value}
@@ -15,7 +15,7 @@ use Rattle.plan.specs.declared.fault.PlanFault.{PlanFault}
 use Rattle.plan.specs.declared.fault.PlanFault.TheVariants as fault
 use Rattle.plan.specs.Values.{given_or, fraction_of, margin_of, are_texts, count_of, names_after, named_schemes, schemes_of}
 use Rattle.plan.specs.Words.{scheme_named}
-use Rattle.plan.specs.Plan.{json_of}
+use Rattle.plan.specs.Plan.{json_of, optional}
 
 same-length : (n m : ℕ) → n ≡ m → (n == m) ≡ true
 same-length n m e = grind (arith, nat_tests)
@@ -71,6 +71,19 @@ pub next-unnamed : (names : List SchemeName) (xs : List Value) (i : ℕ) (x : Va
     → names_after names (items_view (drop i xs)) ≡ None
 next-unnamed names xs i x low is bad = rw (drop-cons xs i x, ← is, bad) refl
 
+-- the next value names a scheme
+pub next-named : (names : List SchemeName) (xs : List Value) (i : ℕ) (x : Value) (s : SchemeName) → i < length xs → x ≡ get_or xs i x → option_and_then scheme_named (as_str (view x)) ≡ Some s
+    → names_after names (items_view (drop i xs)) ≡ names_after (names ++ s ∷ []) (items_view (drop (i + 1) xs))
+next-named names xs i x s low is good = rw (add-one, drop-cons xs i x, ← is, good) refl
+
 -- no value is left
 pub all-named : (names : List SchemeName) (xs : List Value) (i : ℕ) → length xs ≤ i → names_after names (items_view (drop i xs)) ≡ Some names
 all-named names xs i past = rw (drop_all i xs past) refl
+
+-- what the value of a key says, where there is one
+pub there : {A : Type 0} (default : A) (reading : Data → Result A PlanFault) (word word' : List ℕ) (d v : Data) (x : A) → word ≡ word' → Some v ≡ get word d → reading v ≡ Ok x → optional default reading (get word' d) ≡ Ok x
+there default reading word word' d v x same found is = sym (ap (optional default reading) (found ∙ ap (λ (w : List ℕ). get w d) same)) ∙ is
+
+-- and the default, where there is none
+pub absent : {A : Type 0} (default : A) (reading : Data → Result A PlanFault) (word word' : List ℕ) (d : Data) → word ≡ word' → None ≡ get word d → optional default reading (get word' d) ≡ Ok default
+absent default reading word word' d same none = sym (ap (optional default reading) (none ∙ ap (λ (w : List ℕ). get w d) same))

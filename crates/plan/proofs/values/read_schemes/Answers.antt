@@ -2,7 +2,7 @@ use Rattle.std.proofs.Common.{◌≡◌, ◌∙◌, ◌⊎◌, ◌<◌, inl, inr
 use Rattle.std.proofs.lemmas.Bool.Decides.{nat_tests}
 use Rattle.serde_json.specs.View.{view, items_view}
 use Rattle.plan.specs.Values.{are_texts}
-use Rattle.plan.proofs.PlanLemmas.{wrong-count, right-count, next-unnamed, all-named}
+use Rattle.plan.proofs.PlanLemmas.{wrong-count, right-count, next-named, next-unnamed, all-named}
 use Rattle.plan.proofs.values.read_schemes.Goals as goal
 use Rattle.plan.proofs.values.read_schemes.Goals.{then-is_empty-via-then-is_empty, then-is_empty-via-else-is_empty+then-list-gt16}
 
@@ -37,3 +37,13 @@ returns-clause-schemes c =
     rw c.new.ensures
     (right-count (view c.args.value.now) list (Some c.loop-item.schemes.items) array (sym c.if-not-are_texts.ensures) (grind (arith, nat_tests)) c.if-list-gt16.false
     (c.loop-item.invariant.names ∙ all-named c.loop-item.schemes.items list c.loop-item.item-index c.loop-item-test.false))
+
+pub loop-item-preserved : goal.loop-item-preserved
+loop-item-preserved c =
+    let so_far = c.loop-item.invariant in
+    record {
+      names = rw c.in_ok-push.ensures.items
+          (so_far.names
+          ∙ next-named c.loop-item.schemes.items c.as_slice-list.result.now c.loop-item.item-index c.item-item.result c.in-Some-named_scheme.scheme c.loop-item-test.true c.item-item.is (sym c.in-Some-named_scheme.ensures));
+      count = let len = c.in_ok-push.ensures.len in omega arith;
+    }
