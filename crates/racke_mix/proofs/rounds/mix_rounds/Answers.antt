@@ -1,4 +1,4 @@
-use Rattle.std.proofs.Common.{◌≡◌, ℕ, ◌+◌, ◌++◌, ◌∷◌, [], List, arith, ap, sym, ◌∙◌, subst, rules}
+use Rattle.std.proofs.Common.{◌≡◌, ℕ, ◌+◌, ◌≤◌, ◌++◌, ◌∷◌, [], List, All, arith, ap, sym, ◌∙◌, subst}
 use Rattle.multiplicative_lengths.specs.Growth.{greatest_usage, grown_multipliers}
 use Rattle.racke_mix.specs.declared.round.Round.{Round}
 use Rattle.racke_mix.specs.Mix.{IsTreeRound}
@@ -19,7 +19,7 @@ loop-tree-preserved c =
     grows ∙ ap (λ (m : List ℕ). grown_multipliers net loads (greatest_usage net loads) m) c.deref-in-loop-tree.ensures.value
     in
     let is = subst (λ (m : List ℕ). IsTreeRound net c.loop-tree.rng m round) c.deref.ensures.value c.in_ok-round.ensures.round in
-    let pushed : c.push.new.self.items ≡ rounds ++ round ∷ [] = search rules in
+    let pushed : c.push.new.self.items ≡ rounds ++ round ∷ [] = c.in_ok-push.ensures.items in
     subst (λ (rs : List Round). MixSoFar net seed (j + 1) c.draw_round.new.rng next rs) (sym pushed)
     (mix_more net seed j c.loop-tree.rng c.draw_round.new.rng multipliers loads next rounds round c.loop-tree.invariant is c.in_ok-round.ensures.state put grows)
 
@@ -32,3 +32,6 @@ pub returns : goal.returns
 returns c =
     mix_done c.args.net.now c.args.seed c.loop-tree._tree c.args.trees c.loop-tree.rng c.loop-tree.multipliers.items c.loop-tree.rounds.items c.loop-tree.invariant
     (omega (arith, c.loop-tree-test.false, c.loop-tree.auto._tree-end))
+
+pub draw_round-requires-clause-some : goal.draw_round-requires-clause-some
+draw_round-requires-clause-some c = subst (All (λ (m : ℕ). 1 ≤ m)) (sym c.deref.ensures.value) c.loop-tree.invariant.far.grown.some
