@@ -1,8 +1,8 @@
 -- Lists that grow by one: the links with a share, their best rounds, and the blocks that are made of them.
-use Rattle.std.proofs.Common.{◌≡◌, ℕ, suc, ◌+◌, ◌*◌, ◌^◌, ◌<◌, ◌≤◌, List, [], ◌∷◌, ◌++◌, length, arith, refl, ap, subst, ◌∙◌, inl, inr}
+use Rattle.std.proofs.Common.{◌≡◌, ℕ, suc, ◌+◌, ◌*◌, ◌^◌, ◌<◌, ◌≤◌, List, [], ◌∷◌, ◌++◌, length, get_or, arith, refl, ap, sym, subst, ◌∙◌, inl, inr}
 use Rattle.std.specs.Prelude.{All}
 use Rattle.std.proofs.lemmas.Bool.{cases_lt}
-use Rattle.std.proofs.lemmas.List.{get_or_append_left, get_or_push, length-append}
+use Rattle.std.proofs.lemmas.List.{get_or_append_left, get_or_push, get_or_read, length-append}
 use Rattle.std.proofs.lemmas.List.Elements.{All-nil, All-get_or, All-push, All-weaker}
 use Rattle.te_model.specs.declared.network.Network.{Network}
 use Rattle.te_model.specs.declared.route.PairRoutes.{PairRoutes}
@@ -13,9 +13,11 @@ use Rattle.te_model.proofs.Choices.{pushed_count, pushed_each}
 use Rattle.best_blocks.specs.declared.sharing.SharedLink.{SharedLink}
 use Rattle.best_blocks.specs.Best.{IsBestBlock}
 use Rattle.best_blocks.specs.Sharing.{HasShare, IsSharedLink}
+use Rattle.ratio_certificate.specs.declared.problem.Problem.{Problem}
 use Rattle.ratio_certificate.specs.declared.weighting.Weighting.{Weighting}
 use Rattle.ratio_certificate.specs.Making.{AreBlocksOf, AreSharedLinks}
 use Rattle.ratio_certificate.specs.Places.{no_shared, no_weighting, shared_at, weighting_at}
+use Rattle.ratio_certificate.specs.Problems.{AreLinksOf, AreWeightingsOf}
 use Rattle.ratio_certificate.specs.Rising.{AreBestRounds, NeedsNoMore}
 use Rattle.ratio_certificate.specs.Steps.{AreWeightings}
 use Rattle.ratio_certificate.specs.Weighting.{IsWeighting}
@@ -126,3 +128,17 @@ block_added n net routes set list blocks b are best = record {
   each = pushed_each (λ k (x : Block). IsBestBlock net routes set (weighting_at list k).link (weighting_at list k).weights x) blocks b (empty_block 0) n
       are.count are.each best;
 }
+
+-- a link that was read from a list of links with a share
+pub shared_read : (p : Problem) (links : List SharedLink) (k : ℕ) (l : SharedLink) → k < length links → l ≡ get_or links k l → AreLinksOf p links →
+    IsSharedLink p.net.now p.routing.now.routes p.set.now l
+shared_read p links k l inside is are = subst (IsSharedLink p.net.now p.routing.now.routes p.set.now) (sym is) (All-get_or (IsSharedLink p.net.now p.routing.now.routes p.set.now) links k l inside are.each)
+
+-- the weights that were read at the same place are of that link
+pub link_read : (p : Problem) (links : List SharedLink) (start list : List Weighting) (k : ℕ) (l : SharedLink) (w : Weighting) → k < length list → l ≡ get_or links k l →
+    w ≡ get_or list k w → AreWeightingsOf p links start list → w.link ≡ l.link
+link_read p links start list k l w inside is_l is_w are =
+    let within : k < length links = omega (arith, inside, are.count) in
+    let at : w ≡ weighting_at list k = get_or_read list k w inside is_w no_weighting in
+    let there : l ≡ shared_at links k = get_or_read links k l within is_l no_shared in
+    ap (λ (x : Weighting). x.link) at ∙ are.links_are k within ∙ sym (ap (λ (x : SharedLink). x.link) there)

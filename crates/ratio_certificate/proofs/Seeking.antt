@@ -1,12 +1,15 @@
 -- Where a search for weights of a link stands at its start and after a sweep.
-use Rattle.std.proofs.Common.{◌≡◌, ℕ, ◌^◌, ◌≤◌, true, List, length, arith}
+use Rattle.std.proofs.Common.{◌≡◌, ℕ, ◌^◌, ◌≤◌, true, List, length, replicate, slice_index, arith, sym, subst, ◌∙◌}
+use Rattle.std.proofs.lemmas.List.{get_or-replicate, length-replicate}
 use Rattle.te_model.specs.declared.network.Network.{Network}
 use Rattle.te_model.specs.declared.route.PairRoutes.{PairRoutes}
 use Rattle.te_model.specs.declared.demand.DemandSet.{DemandSet}
 use Rattle.te_model.specs.Network.{is_well_formed, link_count}
+use Rattle.shortest_path.proofs.Values.{listed_small}
 use Rattle.best_blocks.specs.declared.metric.Metric.{Metric}
 use Rattle.best_blocks.specs.declared.sharing.SharedLink.{SharedLink}
 use Rattle.best_blocks.specs.Conditions.{IsRoutingWithin}
+use Rattle.centred_steps.specs.Loads.{AreLoadsWithin}
 use Rattle.centred_steps.specs.Weights.{AreWeightsUpTo}
 use Rattle.ratio_certificate.specs.declared.weighting.Weighting.{Weighting}
 use Rattle.ratio_certificate.specs.Rising.{IsRoundMetric}
@@ -34,3 +37,12 @@ pub small_scale : (net : Network) (routes : List PairRoutes) (wanted : DemandSet
 small_scale net routes wanted w formed within is =
     let bounds = scale_within net routes wanted w.link 1 w.a w.b w.weights formed within (omega arith) is.weights_are is.weights_are.some is.scale_is in
     (omega (arith, bounds.a_small), bounds.b_small)
+
+-- no loads yet
+pub no_loads : (net : Network) (n : ℕ) (loads : List ℕ) → loads ≡ replicate n 0 → n ≡ link_count net → AreLoadsWithin net loads
+no_loads net n loads is count = subst (AreLoadsWithin net) (sym is) (record {
+  count = length-replicate n 0 ∙ count;
+  small = listed_small (2 ^ 66) (replicate n 0) (λ h below.
+      let none : slice_index (replicate n 0) h ≡ 0 = get_or-replicate n h 0 0 (omega (arith, below, length-replicate {A = ℕ} n 0)) in
+      omega (arith, none));
+})

@@ -3,7 +3,7 @@ use Rattle.std.proofs.lemmas.List.{get_or_read}
 use Rattle.best_blocks.specs.declared.sharing.SharedLink.{SharedLink}
 use Rattle.ratio_certificate.specs.Places.{no_shared, shared_at}
 use Rattle.ratio_certificate.specs.Rising.{AreBestRounds, NeedsNoMore}
-use Rattle.ratio_certificate.proofs.LinkLists.{round_added}
+use Rattle.ratio_certificate.proofs.LinkLists.{round_added, shared_read}
 use Rattle.ratio_certificate.proofs.making.best_rounds.Goals as goal
 
 pub loop-shared-preserved : goal.loop-shared-preserved
@@ -26,3 +26,9 @@ pub returns : goal.returns
 returns c =
     let all : c.loop-shared.shared-index ≡ length c.args.links.now = omega arith in
     subst (λ n. AreBestRounds n c.args.problem.now.net.now c.args.problem.now.routing.now.routes c.args.problem.now.set.now c.args.links.now c.loop-shared.list.items) all c.loop-shared.invariant
+
+pub best_round-requires-clause-shared : goal.best_round-requires-clause-shared
+best_round-requires-clause-shared c =
+    let links = c.args.links.now in
+    let n = c.loop-shared.shared-index in
+    shared_read c.args.problem.now links n c.shared-item.result c.loop-shared-test.true c.shared-item.is c.requires.links

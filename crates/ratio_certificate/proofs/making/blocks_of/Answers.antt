@@ -5,7 +5,7 @@ use Rattle.ratio_certificate.specs.declared.weighting.Weighting.{Weighting}
 use Rattle.ratio_certificate.specs.Making.{AreBlocksOf}
 use Rattle.ratio_certificate.specs.Places.{no_weighting, weighting_at}
 use Rattle.ratio_certificate.specs.Weighting.{IsWeighting}
-use Rattle.ratio_certificate.proofs.LinkLists.{block_added}
+use Rattle.ratio_certificate.proofs.LinkLists.{block_added, link_read, shared_read}
 use Rattle.ratio_certificate.proofs.making.blocks_of.Goals as goal
 
 pub block_of-requires-clause-weighting : goal.block_of-requires-clause-weighting
@@ -29,3 +29,13 @@ loop-k-preserved c =
     let best = subst (λ (w : Weighting). IsBestBlock net routes wanted w.link w.weights block) at c.in_ok-block.ensures in
     subst (AreBlocksOf (k + 1) net routes wanted list) (sym c.in_ok-push.ensures.items)
     (block_added k net routes wanted list c.loop-k.blocks.items block c.loop-k.invariant best)
+
+pub block_of-requires-clause-link : goal.block_of-requires-clause-link
+block_of-requires-clause-link c =
+    let list = c.args.list.now in
+    link_read c.args.problem.now c.args.links.now list list c.loop-k.k c.index-links-k.result c.index-list-k.result c.loop-k-test.true c.index-links-k.is c.index-list-k.is
+    c.requires.list
+
+pub block_of-requires-clause-shared : goal.block_of-requires-clause-shared
+block_of-requires-clause-shared c =
+    shared_read c.args.problem.now c.args.links.now c.loop-k.k c.index-links-k.result (omega (arith, c.loop-k-test.true, c.requires.list.count)) c.index-links-k.is c.requires.links

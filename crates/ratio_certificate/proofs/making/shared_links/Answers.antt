@@ -4,7 +4,7 @@ use Rattle.te_model.specs.Network.{link_count}
 use Rattle.routing.specs.Shares.{AreSharesOn}
 use Rattle.best_blocks.proofs.SharesListed.{listed_some}
 use Rattle.ratio_certificate.specs.Making.{AreSharedLinks}
-use Rattle.ratio_certificate.proofs.LinkLists.{link_added, link_left_out}
+use Rattle.ratio_certificate.proofs.LinkLists.{link_added, link_left_out, no_links}
 use Rattle.ratio_certificate.proofs.making.shared_links.Goals as goal
 use Rattle.ratio_certificate.proofs.making.shared_links.Goals.{then-list-gt0+in_ok-link+in_ok-push, else-list-gt0}
 
@@ -33,3 +33,9 @@ loop-e-preserved c =
           (link_left_out e net routes wanted links so_far
           (λ share. let some = listed_some routes e c.on-list.result.now listed share in let none : length c.on-list.result.now ≤ 0 = w.if-list-gt0.false in omega (arith, some, none)))
     ]
+
+pub shared_link-requires-clause-nodes : goal.shared_link-requires-clause-nodes
+shared_link-requires-clause-nodes c = c.requires.problem.routing.nodes
+
+pub loop-e-init : goal.loop-e-init
+loop-e-init c = rw c.new-links.ensures.items (no_links c.args.problem.now.net.now c.args.problem.now.routing.now.routes c.args.problem.now.set.now)

@@ -6,6 +6,7 @@ use Rattle.ratio_certificate.specs.Places.{no_weighting, weighting_at}
 use Rattle.ratio_certificate.specs.Polished.{IsFine}
 use Rattle.ratio_certificate.specs.Steps.{IsSettledAt}
 use Rattle.ratio_certificate.specs.Weighting.{IsWeighting}
+use Rattle.ratio_certificate.proofs.LinkLists.{link_read, shared_read}
 use Rattle.ratio_certificate.proofs.Stepping.{done_at}
 use Rattle.ratio_certificate.proofs.Trying.{none_gives_both}
 use Rattle.ratio_certificate.proofs.polish.next_step.Goals as goal
@@ -33,3 +34,14 @@ returns-in-Some-clause-none c =
     (subst (λ (x : Weighting). IsFine x.weights x.b) at fine)
     (subst (λ (x : Weighting). (h : ℕ) → h < link_count net → IsSettledAt net routes wanted x.link x.need x.weights h) at settled))
     c.step_at.ensures.fine c.step_at.ensures.none
+
+pub step_at-requires-clause-shared : goal.step_at-requires-clause-shared
+step_at-requires-clause-shared c =
+    shared_read c.args.problem.now c.args.links.now c.in-Some.k c.index-links-k.result (omega (arith, c.in-Some.ensures.some.within, c.requires.list.count)) c.index-links-k.is
+    c.requires.links
+
+pub step_at-requires-clause-link : goal.step_at-requires-clause-link
+step_at-requires-clause-link c =
+    let list = c.args.list.now in
+    link_read c.args.problem.now c.args.links.now list list c.in-Some.k c.index-links-k.result c.index-list-k.result c.in-Some.ensures.some.within c.index-links-k.is
+    c.index-list-k.is c.requires.list

@@ -1,4 +1,6 @@
-use Rattle.std.proofs.Common.{Some, None, ◌∙◌}
+use Rattle.std.proofs.Common.{Some, None, sym, subst, ◌∙◌}
+use Rattle.best_blocks.proofs.Scaled.{some_share}
+use Rattle.ratio_certificate.specs.Weighting.{AreWeights}
 use Rattle.ratio_certificate.proofs.NextRounds.{dearest_path, links_read, no_round_after, raised_read, round_after, shared_far}
 use Rattle.ratio_certificate.proofs.raising.next_round.Goals as goal
 
@@ -50,3 +52,10 @@ returns-in_ok-same-in-None c =
     in
     no_round_after net routes c.args.problem.now.set.now l m c.new-in-None.result c.new-in-None-3.result d c.requires.problem.routing c.requires.shared c.requires.metric is
     (c.new-in-None.ensures ∙ c.in_ok-same-in-None.ensures.items ∙ c.as_slice-weights.ensures) (c.new-in-None-3.ensures ∙ c.new-in-None-2.ensures.items)
+
+pub dearest_pair-dearest-requires-clause-some : goal.dearest_pair-dearest-requires-clause-some
+dearest_pair-dearest-requires-clause-some c =
+    rw c.as_slice.ensures (some_share c.args.problem.now.net.now c.args.problem.now.routing.now.routes c.args.problem.now.set.now c.args.shared.now c.requires.shared)
+
+pub raise-requires-clause-weights : goal.raise-requires-clause-weights
+raise-requires-clause-weights c = subst (AreWeights c.args.problem.now.net.now) (sym c.as_slice-weights.ensures) c.requires.weights

@@ -1,6 +1,6 @@
-use Rattle.std.proofs.Common.{◌≡◌, ◌*◌, ◌^◌}
+use Rattle.std.proofs.Common.{◌≡◌, ◌+◌, ◌*◌, ◌^◌, arith}
 use Rattle.ratio_certificate.specs.Weighting.{IsWeighting}
-use Rattle.ratio_certificate.proofs.RoundMetrics.{lesser_is, lesser_small, next_least}
+use Rattle.ratio_certificate.proofs.RoundMetrics.{lesser_is, lesser_small, next_least, round_weights}
 use Rattle.ratio_certificate.proofs.rounds.advance.Goals as goal
 
 pub returns : goal.returns
@@ -23,3 +23,7 @@ returns c =
           c.in_ok-found.ensures.link c.in_ok-found.ensures.weights keeps takes c.requires.rounds.least;
       small = lesser_small (1000000 * 2 ^ 42) best found lesser keeps takes c.requires.rounds.small;
     }
+
+pub weighting_of-requires-clause-weights : goal.weighting_of-requires-clause-weights
+weighting_of-requires-clause-weights c =
+    round_weights c.args.problem.now.net.now c.args.problem.now.routing.now.routes c.args.shared.now (c.args.round + 1) c.in_ok-metric.metric (omega arith) c.in_ok-metric.ensures

@@ -1,4 +1,8 @@
-use Rattle.std.proofs.Common.{◌≡◌, ◌^◌, replicate, rules}
+use Rattle.std.proofs.Common.{◌≡◌, ◌^◌, ◌≤◌, ℕ, List, length, replicate, arith, ap, sym, subst, ◌∙◌}
+use Rattle.std.specs.Prelude.{All}
+use Rattle.std.proofs.lemmas.List.{length-replicate}
+use Rattle.std.proofs.lemmas.List.Elements.{All-replicate}
+use Rattle.te_model.specs.declared.network.Link.{Link}
 use Rattle.te_model.specs.Network.{link_count}
 use Rattle.ratio_certificate.proofs.RoundMetrics.{first_made}
 use Rattle.ratio_certificate.proofs.rounds.first_metric.Goals as goal
@@ -7,6 +11,18 @@ pub returns : goal.returns
 returns c =
     let net = c.args.problem.now.net.now in
     let weights = c.in_ok-weights.weights.items in
-    let are : weights ≡ replicate (link_count net) (2 ^ 20) = search rules in
+    let are : weights ≡ replicate (link_count net) (2 ^ 20) =
+    c.in_ok-weights.ensures.items_if_clones_equal (λ y same. same) ∙ ap (λ (ls : List Link). replicate (length ls) (2 ^ 20)) c.as_slice.ensures
+    in
     first_made net c.args.problem.now.routing.now.routes c.args.shared.now c.as_slice-2.result.now weights c.metric_of.result c.as_slice-2.ensures are c.metric_of.ensures.metric
     c.metric_of.ensures.weights
+
+pub metric_of-requires-clause-small : goal.metric_of-requires-clause-small
+metric_of-requires-clause-small c =
+    let are = c.in_ok-weights.ensures.items_if_clones_equal (λ y same. same) in
+    subst (λ (ws : List ℕ). All (λ w. w ≤ 2 ^ 28) ws) (sym are) (All-replicate (λ w. w ≤ 2 ^ 28) (length c.as_slice.result.now) (2 ^ 20) (omega arith))
+
+pub metric_of-requires-clause-weights : goal.metric_of-requires-clause-weights
+metric_of-requires-clause-weights c =
+    let are = c.in_ok-weights.ensures.items_if_clones_equal (λ y same. same) in
+    ap (λ (ws : List ℕ). length ws) are ∙ length-replicate (length c.as_slice.result.now) (2 ^ 20) ∙ ap (λ (ls : List Link). length ls) c.as_slice.ensures

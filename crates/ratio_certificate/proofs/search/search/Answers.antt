@@ -1,8 +1,9 @@
-use Rattle.std.proofs.Common.{◌≡◌, ◌<◌, true, List, length, arith, ap, sym, subst, ◌∙◌}
-use Rattle.std.proofs.lemmas.List.{get_or_read, length-set}
+use Rattle.std.proofs.Common.{◌≡◌, ◌<◌, Bool, true, false, List, length, arith, ap, sym, subst, ◌∙◌}
+use Rattle.std.proofs.lemmas.List.{get_or_read, length-replicate, length-set}
 use Rattle.best_blocks.specs.declared.sharing.SharedLink.{SharedLink}
 use Rattle.ratio_certificate.specs.declared.weighting.Weighting.{Weighting}
 use Rattle.ratio_certificate.specs.Places.{no_shared, shared_at}
+use Rattle.ratio_certificate.proofs.LinkLists.{shared_read}
 use Rattle.ratio_certificate.proofs.Searched.{lesser_taken}
 use Rattle.ratio_certificate.proofs.search.search.Goals as goal
 
@@ -21,3 +22,15 @@ loop-preserved c =
           c.in_ok-found-in-Some.ensures.weighting c.take_lesser.ensures.lesser c.take_lesser.ensures.same,
       length-set c.loop.searched.items k true ∙ c.loop.invariant.1,
     )
+
+pub loop-init : goal.loop-init
+loop-init c = (
+  c.requires.start,
+  ap (λ (xs : List Bool). length xs) (c.in_ok-searched.ensures.items_if_clones_equal (λ y same. same)) ∙ length-replicate (length c.args.links.now) false,
+)
+
+pub seek-requires-clause-shared : goal.seek-requires-clause-shared
+seek-requires-clause-shared c =
+    let k = c.in-Some.k in
+    let inside : k < length c.loop.list.items = subst (λ (xs : List Weighting). k < length xs) c.deref.ensures.value c.in-Some.ensures.some.within in
+    shared_read c.args.problem.now c.args.links.now k c.index-links-k.result (omega (arith, inside, c.loop.invariant.0.count)) c.index-links-k.is c.requires.links

@@ -18,3 +18,6 @@ returns-clause-weighting c =
     in
     weighting_is net c.args.problem.now.routing.now.routes c.args.problem.now.set.now e scale.a scale.b c.need_by-need.result weights c.new.result
     (c.new.ensures ∙ c.in_ok-weights.ensures.items ∙ c.as_slice-2.ensures) c.requires.weights c.scale_of-scale.ensures.scale need
+
+pub returns-clause-weights : goal.returns-clause-weights
+returns-clause-weights c = c.new.ensures ∙ c.in_ok-weights.ensures.items ∙ c.as_slice-2.ensures

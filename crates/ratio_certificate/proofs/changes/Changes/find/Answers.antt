@@ -13,3 +13,12 @@ returns-in-None-clause-none c =
       | inr ge ↦ later h ge (omega (arith, below, ap (λ (ls : List Link). length ls) c.as_slice-links.ensures))
     ])
     c.try_links-in-None.ensures.none
+
+pub try_links-requires-clause-last : goal.try_links-requires-clause-last
+try_links-requires-clause-last c = omega (arith, ap (λ (ls : List Link). length ls) c.as_slice-links.ensures)
+
+pub returns-in-None-clause-link : goal.returns-in-None-clause-link
+returns-in-None-clause-link c = c.try_links-in-None.ensures.link
+
+pub returns-in-None-clause-some : goal.returns-in-None-clause-some
+returns-in-None-clause-some c = c.try_links-in-None.ensures.some

@@ -1,4 +1,4 @@
-use Rattle.std.proofs.Common.{◌≡◌, Bool, ℕ, List, length, subst, ap, ◌∙◌}
+use Rattle.std.proofs.Common.{◌≡◌, Bool, ℕ, List, length, sym, subst, ap, ◌∙◌}
 use Rattle.std.proofs.lemmas.List.{length-set}
 use Rattle.std.specs.Prelude.{IfOk}
 use Rattle.best_blocks.specs.Metric.{IsMetric}
@@ -26,3 +26,11 @@ returns-clause-metric c =
 pub returns-clause-weights : goal.returns-clause-weights
 returns-clause-weights c =
     subst (λ (ws : List ℕ). IfOk c.metric_after.result (λ m. m.weights ≡ ws)) c.in_ok-weights.ensures c.metric_after.ensures.weights
+
+pub metric_after-requires-clause-marks : goal.metric_after-requires-clause-marks
+metric_after-requires-clause-marks c = ap (λ (xs : List Bool). length xs) c.as_slice.ensures ∙ c.requires.changes.shared.marks_are.count
+
+pub metric_after-requires-clause-metric : goal.metric_after-requires-clause-metric
+metric_after-requires-clause-metric c =
+    let it = c.args.self.now in
+    subst (λ (marks : List Bool). IsMetric it.problem.net.now it.problem.routing.now.routes marks it.metric.now) (sym c.as_slice.ensures) c.requires.changes.metric

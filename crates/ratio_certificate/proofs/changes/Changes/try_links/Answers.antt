@@ -15,3 +15,6 @@ loop-h-preserved c = λ h first below.
 
 pub returns-clause-none : goal.returns-clause-none
 returns-clause-none c = λ h first below. c.loop-h.invariant h first (omega arith)
+
+pub returns-in-Some-clause-some : goal.returns-in-Some-clause-some
+returns-in-Some-clause-some c = rw c.in-Some.is at c.in_ok-weighting.ensures.some

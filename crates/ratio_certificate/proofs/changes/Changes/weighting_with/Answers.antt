@@ -12,3 +12,9 @@ weighting_of-requires-clause-weights c =
 pub returns-clause-weights : goal.returns-clause-weights
 returns-clause-weights c =
     subst (λ (ws : List ℕ). IfOk c.weighting_of.result (λ w. w.weights ≡ ws)) c.in_ok-metric.ensures.weights c.weighting_of.ensures.weights
+
+pub returns-clause-weighting : goal.returns-clause-weighting
+returns-clause-weighting c = c.weighting_of.ensures.weighting
+
+pub returns-clause-link : goal.returns-clause-link
+returns-clause-link c = c.weighting_of.ensures.link

@@ -3,6 +3,7 @@ use Rattle.best_blocks.proofs.Scaled.{metric_scalable}
 use Rattle.ratio_certificate.proofs.Responses.{most_fits, worth_fits}
 use Rattle.ratio_certificate.proofs.Responding.{entry_share}
 use Rattle.ratio_certificate.proofs.response.Pricing.add_dearest.Goals as goal
+use Rattle.ratio_certificate.proofs.response.Pricing.add_dearest.Goals.{then-above-gt0, else-above-gt0}
 
 pub overflow_mul-worth : goal.overflow_mul-worth
 overflow_mul-worth c =
@@ -35,3 +36,10 @@ nearness-above-requires-clause-most c =
     let read = ap (λ (xs : List ℕ). slice_index xs p) c.as_slice-distances.ensures in
     most_fits c.from-in-loop-entry-2.result c.from-in-loop-entry-3.result (omega (arith, c.requires.pricing.scale.0))
     (omega (arith, c.from-in-loop-entry-3.ensures, read, near))
+
+pub loop-entry-preserved : goal.loop-entry-preserved
+loop-entry-preserved c =
+    elim c.if-above-gt0.branch [
+      | then-above-gt0 w ↦ rw (w.ways-is, w.loads-is) (w.turn.ensures, w.add_load_along.ensures.small)
+      | else-above-gt0 w ↦ rw (w.ways-is, w.loads-is) c.loop-entry.invariant
+    ]
