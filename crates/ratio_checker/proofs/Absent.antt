@@ -1,5 +1,5 @@
 -- A link without a block: all is read as zero but B, which is 1.
-use Rattle.std.proofs.Common.{◌≡◌, ◌==◌, zero, suc, Some, ap, sym, ◌∙◌, ℕ, ◌*◌, ◌<◌, true, false, None, List, length, refl, arith, ◌+◌, ◌≤◌, nat_le}
+use Rattle.std.proofs.Common.{◌≡◌, ◌==◌, zero, suc, Some, ap, sym, ◌∙◌, ℕ, ◌*◌, ◌<◌, true, false, None, List, [], ◌∷◌, length, refl, arith, ◌+◌, ◌≤◌, nat_le}
 use Rattle.std.proofs.Math.Nat.{mul-le-mul_left}
 use Rattle.std.specs.Prelude.{unwrap_or}
 use Rattle.std.specs.List.{slice_get}
@@ -19,7 +19,7 @@ use Rattle.te_model.specs.Inequalities.{covers_share, keeps_bounds, pays_weights
 use Rattle.te_model.proofs.Searches.{first_below_none, or_else-none}
 use Rattle.te_model.proofs.Sums.{sum_below-zero}
 use Rattle.ratio_checker.specs.Ascending.{AscendsFrom}
-use Rattle.ratio_checker.proofs.Ascending.{find_other}
+use Rattle.ratio_checker.proofs.Ascending.{find_here, find_other}
 use Rattle.ratio_checker.proofs.RowFailures.{no_row_none}
 
 potentials_hold : (net : Network) (e : ℕ) → potentials_failure net (empty_block e) ≡ None
@@ -54,6 +54,13 @@ covers_nothing s b a m d p none less =
   where
     more : (m d p : ℕ) → m ≤ p → m ≤ d + p
     more m d p less = omega arith
+
+-- the first block is that of its link
+pub first_block : (blocks : List Block) (link : ℕ) (x : Block) → Some x ≡ slice_get blocks 0 → x.link ≡ link → block_of blocks link ≡ x
+first_block [] link x first own = absurd cc
+first_block (b ∷ bs) link x first own =
+    let same : b ≡ x = cc in
+    ap (λ o. unwrap_or o (empty_block link)) (find_here (λ b. b.link) link b bs (ap (λ b. b.link) same ∙ own)) ∙ same
 
 -- blocks that begin after the link have none of it
 pub no_block : (blocks : List Block) (link : ℕ) → AscendsFrom (λ b. b.link) link blocks → ((x : Block) → slice_get blocks 0 ≡ Some x → x.link ≡ link → ⊥) →

@@ -1,5 +1,6 @@
 use Rattle.std.proofs.Common.{◌≡◌, ◌∙◌, sym, ap, Some, None}
-use Rattle.ratio_checker.proofs.Absent.{no_block, only_shares_fail}
+use Rattle.te_model.specs.Inequalities.{block_failure}
+use Rattle.ratio_checker.proofs.Absent.{first_block, no_block, only_shares_fail}
 use Rattle.ratio_checker.proofs.finding.link_failure.Goals as goal
 
 pub returns-in_default : goal.returns-in_default
@@ -16,3 +17,8 @@ returns-in_default-2 c =
     let is : None ≡ Some x = (rw c.in_default.is at c.first.ensures.value) ∙ first in
     cc) in
     c.requires.shares ∙ only_shares_fail c.args.head.now c.args.blocks.now c.args.link absent
+
+pub returns-in-Some : goal.returns-in-Some
+returns-in-Some c =
+    c.block_failure.ensures
+    ∙ ap (block_failure c.args.head.now) (sym (first_block c.args.blocks.now c.args.link c.in-Some.block.now c.in-Some.ensures.value c.if-block-link.true))
