@@ -55,7 +55,7 @@ added_exists xs y asc =
     at_place i place inside (inr (inr after)) =
         (insert xs i y, added_new xs i y asc place (λ _ at. list_below-irrefl y.links (subst (λ l. list_below y.links l ≡ true) at after)))
 
-merge_none : IsMerge [] []
+pub merge_none : IsMerge [] []
 merge_none = record {
   ascending = refl;
   kept = λ links has. has;

@@ -122,6 +122,13 @@ link_more old table links row p more i once below so sums =
     (λ e. subst (λ k. amount_on (take k links) more e ≡ amount_on (take i links) more e + (if h == e then more else 0)) (sym (add-one i))
     (amount_on-more links more e i once.0 below))
 
+-- one path more of a pair
+pub path_added : (old table new : List (List PairShare)) (p : ℕ) (paths : List PathShare) (i : ℕ) → i < length paths → IsAddition old table p (weight_on (take i paths)) →
+    IsAddition table new p (amount_on (get_or paths i no_path).links (get_or paths i no_path).weight) → IsAddition old new p (weight_on (take (i + 1) paths))
+path_added old table new p paths i below so last =
+    addition_more old table new p (weight_on (take i paths)) (amount_on (get_or paths i no_path).links (get_or paths i no_path).weight) (weight_on (take (i + 1) paths)) so last
+    (λ e. sum_by_more (λ (s : PathShare). if has_number s.links e then s.weight else 0) paths i no_path below)
+
 -- no link stands in a path twice
 pub paths_once : (net : Network) (routes : List PairRoutes) (p : ℕ) → IsPathRouting net routes → p < length routes →
     All (λ s. AreLinksOnce (link_count net) s.links) (routes_at routes p).paths

@@ -1,8 +1,8 @@
-use Rattle.std.proofs.Common.{◌≡◌, ◌<◌, ◌^◌, ◌+◌, ◌*◌, ℕ, List, length, get_or, arith, ap, ◌∙◌}
-use Rattle.std.proofs.lemmas.List.{get_or_read}
+use Rattle.std.proofs.Common.{◌≡◌, ◌<◌, ◌^◌, ◌+◌, ◌*◌, ℕ, List, length, get_or, arith, ap, ◌∙◌, slice_index}
+use Rattle.std.proofs.lemmas.List.{get_or_read, take_all}
 use Rattle.std.proofs.lemmas.List.Elements.{All-from_get_or, All-get_or}
 use Rattle.te_model.specs.declared.route.PathShare.{PathShare}
-use Rattle.te_model.specs.Path.{amount_on}
+use Rattle.te_model.specs.Path.{amount_on, weight_on}
 use Rattle.routing.specs.Merge.{no_path}
 use Rattle.routing.proofs.Loading.{path_fits, path_more}
 use Rattle.routing.proofs.loads.add_demand.Goals as goal
@@ -50,3 +50,8 @@ loop-path-preserved c = record {
       );
   marks = c.unmark.ensures;
 }
+
+pub returns-clause-loads : goal.returns-clause-loads
+returns-clause-loads c = λ e below.
+    c.loop-path.invariant.loads e below
+    ∙ ap (λ (ps : List PathShare). slice_index c.args.loads.now e + c.args.demand * weight_on ps e) (take_all c.loop-path.path-index c.args.paths.now c.loop-path-test.false)

@@ -1,6 +1,6 @@
 use Rattle.std.proofs.Common.{◌≡◌, ◌<◌, ◌≤◌, ◌*◌, ◌+◌, ◌^◌, ℕ, Bool, List, false, length, get_or, replicate, arith, ap, sym, ◌∙◌, refl, subst, rules, All, slice_index}
 use Rattle.std.proofs.lemmas.List.{get_or-replicate, get_or_read, length-replicate}
-use Rattle.std.proofs.lemmas.List.Elements.{All-from_get_or, All-get_or, All-replicate}
+use Rattle.std.proofs.lemmas.List.Elements.{All-from_get_or, All-get_or, All-replicate, All-weaker}
 use Rattle.te_model.specs.declared.network.Link.{Link}
 use Rattle.te_model.specs.declared.route.PathShare.{PathShare}
 use Rattle.te_model.specs.declared.route.PairRoutes.{PairRoutes}
@@ -84,3 +84,26 @@ loop-p-preserved c =
           omega (arith, added e inside, before, pair_fits routes (slice_index demand p) e p c.requires.splits c.loop-p-test.true small));
       marks = c.add_demand.ensures.marks;
     })
+
+pub bounds-demands-p : goal.bounds-demands-p
+bounds-demands-p c = omega (arith, c.loop-p-test.true, c.requires.demands.count, ap (λ (l : List ℕ). length l) c.as_slice-demands.ensures)
+
+pub add_demand-requires-clause-count : goal.add_demand-requires-clause-count
+add_demand-requires-clause-count c =
+    ap (λ (l : List Bool). length l) c.deref_mut-in-loop-p.ensures.value
+    ∙ (c.loop-p.invariant.marks_count ∙ sym (ap (λ (l : List ℕ). length l) c.deref_mut.ensures.value ∙ c.loop-p.invariant.count))
+
+pub add_demand-requires-clause-unmarked : goal.add_demand-requires-clause-unmarked
+add_demand-requires-clause-unmarked c =
+    subst (λ (l : List Bool). All (λ m. m ≡ false) l) (sym c.deref_mut-in-loop-p.ensures.value) c.loop-p.invariant.marks
+
+pub add_demand-requires-clause-room : goal.add_demand-requires-clause-room
+add_demand-requires-clause-room c =
+    subst (λ (l : List ℕ). All (λ x. x < 2 ^ 84) l) (sym c.deref_mut.ensures.value)
+    (All-weaker (λ x. x ≤ c.loop-p.p * (4294967296 * 1000000)) (λ x. x < 2 ^ 84) (λ x le. omega (arith, le, c.loop-p-test.true, c.requires.pairs))
+    c.loop-p.loads.items c.loop-p.invariant.small)
+
+pub returns-clause-fit : goal.returns-clause-fit
+returns-clause-fit c =
+    All-weaker (λ x. x ≤ c.loop-p.p * (4294967296 * 1000000)) (λ x. x < 2 ^ 84) (λ x le. omega (arith, le, c.loop-p.auto.p-end, c.requires.pairs))
+    c.loop-p.loads.items c.loop-p.invariant.small

@@ -1,10 +1,11 @@
-use Rattle.std.proofs.Common.{◌≡◌, ℕ, List, [], ◌∷◌, ◌++◌, length, get_or, arith, ap, sym, ◌∙◌, subst, rules}
+use Rattle.std.proofs.Common.{◌≡◌, ℕ, List, [], ◌∷◌, ◌++◌, length, get_or, arith, ap, sym, ◌∙◌, subst, rules, ◌<◌, All}
 use Rattle.std.proofs.lemmas.Grind.{common_steps}
 use Rattle.te_model.specs.declared.network.Link.{Link}
-use Rattle.te_model.specs.Network.{head_of, no_link}
+use Rattle.te_model.specs.Network.{head_of, no_link, link_count}
 use Rattle.routing.specs.Loops.{after_last, end_of}
 use Rattle.te_model.proofs.Chains.{walk_links}
 use Rattle.routing.proofs.Cutting.{CutSoFar, cut_begin, cut_more, cut_end, after-le, cut_is_path}
+use Rattle.std.proofs.lemmas.List.Elements.{All-head, All-rest}
 use Rattle.routing.proofs.loops.cut_loops.Goals as goal
 
 pub after_last-rest-requires : goal.after_last-rest-requires
@@ -53,3 +54,14 @@ returns-clause-cut c =
 pub returns-clause-path : goal.returns-clause-path
 returns-clause-path c =
     cut_is_path c.args.net.now c.args.src (end_of c.args.net.now c.args.src c.args.walk.now) c.args.walk.now c.loop-h.cut.items c.requires (returns-clause-cut c)
+
+pub after_last-rest-requires-in-Some : goal.after_last-rest-requires-in-Some
+after_last-rest-requires-in-Some c =
+    All-rest (λ h. h < link_count c.args.net.now) c.in-Some.h.now c.in-Some.tail.now c.loop-h.rest.now c.in-Some.ensures.cases.0 c.loop-h.invariant.links
+
+pub bounds-as_slice-h : goal.bounds-as_slice-h
+bounds-as_slice-h c =
+    let inside = All-head (λ h. h < link_count c.args.net.now) c.in-Some.h.now c.in-Some.tail.now
+    (subst (All (λ h. h < link_count c.args.net.now)) c.in-Some.ensures.cases.0 c.loop-h.invariant.links)
+    in
+    omega (arith, inside, ap (λ (ls : List Link). length ls) c.as_slice.ensures)

@@ -6,6 +6,7 @@ use Rattle.std.proofs.lemmas.Slice.Eq.{slice_eq-Decides}
 use Rattle.te_model.specs.declared.route.PathShare.{PathShare}
 use Rattle.routing.specs.Merge.{IsAdded, links_at, no_path}
 use Rattle.routing.proofs.Adding.{IsPlace, added_new, added_to}
+use Rattle.std.proofs.lemmas.List.Sums.{get_or-le-sum_by}
 use Rattle.routing.proofs.merging.add.Goals as goal
 use Rattle.routing.proofs.merging.add.Goals.{else-place-len-via-then-place-len+else-eq, else-place-len-via-else-place-len}
 
@@ -43,3 +44,11 @@ returns-in_ok-insert c =
     ]
     in
     subst (IsAdded xs y) (sym c.in_ok-insert.ensures.items) (added_new xs i y c.requires.ascending place apart)
+
+pub overflow_add-index_mut : goal.overflow_add-index_mut
+overflow_add-index_mut c =
+    let xs = c.args.merged.now.items in
+    let i = c.place_of-place.result in
+    let inside : i < length xs = omega (arith, c.if-place-len.true, c.len.ensures, c.args.merged.now.ok.0) in
+    let read = ap (λ (s : PathShare). s.weight) (get_or_read xs i c.index_mut.result.now inside c.index_mut.ensures.value no_path) in
+    omega (arith, read, get_or-le-sum_by (λ (s : PathShare). s.weight) xs i no_path inside, c.requires.fits)

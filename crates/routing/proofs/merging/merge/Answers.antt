@@ -1,11 +1,13 @@
-use Rattle.std.proofs.Common.{◌≡◌, length, take, arith, ap, sym, ◌∙◌, rules}
+use Rattle.std.proofs.Common.{◌≡◌, [], length, take, arith, ap, sym, ◌∙◌, rules, subst}
 use Rattle.std.proofs.lemmas.List.{map-id}
 use Rattle.std.proofs.lemmas.List.Sums.{sum_by_more_le}
 use Rattle.std.proofs.lemmas.Iterator.Adapters.{YieldsList-from_vec}
 use Rattle.std.proofs.lemmas.Iterator.Consumers.{YieldsList-so_far, YieldsList-turn}
 use Rattle.te_model.specs.declared.route.PathShare.{PathShare}
+use Rattle.routing.specs.Merge.{IsMerge}
 use Rattle.routing.specs.Split.{total_weight}
 use Rattle.routing.proofs.Adding.{merge_more, merge_total}
+use Rattle.routing.proofs.MergesMade.{merge_none}
 use Rattle.routing.proofs.merging.merge.Goals as goal
 
 pub add-requires-clause-fits : goal.add-requires-clause-fits
@@ -20,6 +22,9 @@ add-requires-clause-fits c =
     ap total_weight (sym (map-id c.loop-part.yielded) ∙ so_far)
     in
     omega (arith, le, weight, sums, merge_total c.loop-part.yielded c.loop-part.merged.items c.loop-part.invariant, c.requires)
+
+pub loop-part-init : goal.loop-part-init
+loop-part-init c = subst (IsMerge []) (sym c.new-merged.ensures.items) merge_none
 
 pub loop-part-preserved : goal.loop-part-preserved
 loop-part-preserved c =

@@ -1,5 +1,5 @@
 use Rattle.std.proofs.Common.{◌≡◌, ◌+◌, ◌<◌, [], ◌∷◌, ◌++◌, length, take, get_or, slice_index, arith, ap, sym, ◌∙◌, rules}
-use Rattle.std.proofs.lemmas.List.{get_or_read, length-map, length-take, map_push, take_more}
+use Rattle.std.proofs.lemmas.List.{get_or_read, length-map, length-take, map_push, take_more, take_all}
 use Rattle.te_model.specs.declared.route.PathShare.{PathShare}
 use Rattle.routing.specs.Merge.{no_path, links_at}
 use Rattle.routing.specs.Normal.{weighted_paths}
@@ -29,3 +29,10 @@ loop-i-preserved c =
     ∙ (sym (weighted_push (all_links (take i parts)) (take i weights) (links_at parts i) (slice_index weights i) lengths)
     ∙ (ap (λ ps. weighted_paths ps (take i weights ++ slice_index weights i ∷ [])) (sym more_links)
     ∙ ap (λ ws. weighted_paths (all_links (take (i + 1) parts)) ws) (sym (take_more weights i 0 inside))))))
+
+pub returns : goal.returns
+returns c =
+    let i = c.loop-i.i in
+    c.loop-i.invariant
+    ∙ (ap (λ ps. weighted_paths (all_links ps) (take i c.args.weights.now)) (take_all i c.args.parts.now c.loop-i-test.false)
+    ∙ ap (weighted_paths (all_links c.args.parts.now)) (take_all i c.args.weights.now (omega (arith, c.loop-i-test.false, c.requires))))

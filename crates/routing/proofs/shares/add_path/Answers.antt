@@ -1,9 +1,9 @@
-use Rattle.std.proofs.Common.{◌≡◌, ◌+◌, ◌<◌, List, [], arith, ap, refl, sym, ◌∙◌, get_or, slice_index, length}
-use Rattle.std.proofs.lemmas.List.{get_or_read}
+use Rattle.std.proofs.Common.{◌≡◌, ◌+◌, ◌<◌, List, [], arith, ap, refl, sym, ◌∙◌, get_or, slice_index, length, ℕ, subst}
+use Rattle.std.proofs.lemmas.List.{get_or_read, take_all}
 use Rattle.std.proofs.lemmas.List.Elements.{All-get_or, All-set}
 use Rattle.routing.specs.declared.shares.PairShare.{PairShare}
 use Rattle.te_model.specs.Path.{amount_on}
-use Rattle.routing.specs.Shares.{share_in, shares_on, IsShareList}
+use Rattle.routing.specs.Shares.{share_in, shares_on, IsShareList, IsAddition}
 use Rattle.routing.proofs.Sharing.{link_more, no_addition, not_added}
 use Rattle.routing.proofs.shares.add_path.Goals as goal
 
@@ -55,3 +55,8 @@ loop-link-preserved c =
           c.loop-link-test.true c.loop-link.invariant.sums
           (λ q. omega (arith, c.in_ok-add.ensures.sums q, ap (λ (l : List PairShare). share_in l q) here));
     }
+
+pub returns-clause-sums : goal.returns-clause-sums
+returns-clause-sums c =
+    subst (λ (l : List ℕ). IsAddition c.args.table.now c.loop-link.table c.args.pair (amount_on l c.args.share))
+    (take_all c.loop-link.link-index c.args.links.now c.loop-link-test.false) c.loop-link.invariant.sums

@@ -1,15 +1,16 @@
-use Rattle.std.proofs.Common.{◌≡◌, ◌+◌, ◌<◌, ℕ, List, [], length, get_or, ap, arith, sym, subst, ◌∙◌, All}
-use Rattle.std.proofs.lemmas.List.{get_or_read, take_all}
+use Rattle.std.proofs.Common.{◌≡◌, ◌+◌, ◌<◌, ℕ, List, [], length, get_or, ap, arith, sym, subst, ◌∙◌, All, take}
+use Rattle.std.proofs.lemmas.List.{get_or_read, take_all, length-take}
 use Rattle.std.proofs.lemmas.List.Elements.{All-get_or, All-weaker}
 use Rattle.te_model.specs.declared.route.PathShare.{PathShare}
 use Rattle.te_model.specs.declared.route.PairRoutes.{PairRoutes}
 use Rattle.te_model.specs.Network.{link_count}
 use Rattle.te_model.specs.Path.{no_routes, routes_at, share, weight_on}
 use Rattle.routing.specs.declared.shares.PairShare.{PairShare}
-use Rattle.routing.specs.Shares.{shares_on, AreLinksOnce, IsAddition, IsShareList}
+use Rattle.routing.specs.Shares.{shares_on, AreLinksOnce, IsAddition, IsShareList, share_in}
 use Rattle.te_model.proofs.Lists.{written_whole}
 use Rattle.routing.proofs.Shared.{shares_done}
 use Rattle.routing.proofs.Sharing.{order_weaker, paths_once, share_more}
+use Rattle.te_model.proofs.Tests.{get_or_past}
 use Rattle.routing.proofs.shares.Shares.new.Goals as goal
 
 -- the paths that are lent are those of pair p
@@ -75,3 +76,12 @@ returns c =
           (All-get_or (IsShareList p) c.loop-p.table.items e [] (omega (arith, below, c.loop-p.invariant.count)) c.loop-p.invariant.order))
           (λ q. c.loop-p.invariant.sums e q below ∙ ap (λ (rs : List PairRoutes). share rs q e) (take_all p routes (omega (arith, all))));
     }
+
+pub add_pair-requires-clause-none : goal.add_pair-requires-clause-none
+add_pair-requires-clause-none c = λ e below.
+    let p = c.loop-p.p in
+    let before = take p c.args.routing.now.routes in
+    let inside : e < link_count c.args.net.now = omega (arith, below, ap length c.deref_mut.ensures.value, c.loop-p.invariant.count) in
+    ap (λ (t : List (List PairShare)). share_in (shares_on t e) p) c.deref_mut.ensures.value
+    ∙ (c.loop-p.invariant.sums e p inside
+    ∙ ap (λ (r : PairRoutes). weight_on r.paths e) (get_or_past before p no_routes (omega (arith, length-take p c.args.routing.now.routes))))
