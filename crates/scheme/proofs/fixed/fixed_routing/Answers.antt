@@ -1,4 +1,4 @@
-use Rattle.std.proofs.Common.{◌≡◌, ◌+◌, ◌<◌, List, [], ◌∷◌, ◌++◌, true, length, get_or, arith, ap, sym, subst, rules, Option, None, slice_index_or}
+use Rattle.std.proofs.Common.{◌≡◌, ◌+◌, ◌<◌, List, true, length, get_or, arith, ap, sym, subst, Option, None, slice_index_or}
 use Rattle.std.specs.Prelude.{IfSome, IfNone, IsSomeAnd}
 use Rattle.std.proofs.lemmas.List.Elements.{All-get_or}
 use Rattle.te_model.specs.declared.route.Pair.{Pair}
@@ -7,9 +7,9 @@ use Rattle.te_model.specs.Network.{node_count}
 use Rattle.shortest_path.specs.Paths.{HasPath}
 use Rattle.routing.specs.Split.{are_splits}
 use Rattle.routing.proofs.Splits.{splits_of}
-use Rattle.scheme.specs.Fixed.{IsSplitBy}
+use Rattle.scheme.specs.Fixed.{IsSplitBy, IsRoutingBy}
 use Rattle.scheme.specs.Reach.{no_pair, pair_at, IsPairOf}
-use Rattle.scheme.proofs.Plans.{RoutesSoFar, routes_more, routes_done, reached_at}
+use Rattle.scheme.proofs.Plans.{RoutesSoFar, routes_more, routes_done, reached_at, routes_none}
 use Rattle.scheme.proofs.fixed.fixed_routing.Goals as goal
 use Rattle.scheme.proofs.Towards.{pair_sends}
 
@@ -42,8 +42,7 @@ loop-p-preserved g c =
     subst (λ o. IfSome o (λ paths. IsSplitBy rule limit net (record { pair = pair; paths = paths.items }))) c.in-Some.is c.in_ok-paths.ensures.some
     in
     let split = subst (λ l. IsSplitBy rule limit net (record { pair = pair; paths = l })) (sym c.new-paths.ensures) some in
-    let pushed : c.push.new.self.items ≡ c.loop-p.routes.items ++ (record { pair = pair; paths = c.new-paths.result }) ∷ [] = search rules in
-    subst (RoutesSoFar rule limit net pairs (p + 1)) (sym pushed)
+    subst (RoutesSoFar rule limit net pairs (p + 1)) (sym c.in_ok-push-in-Some.ensures.items)
     (routes_more rule limit net pairs p c.loop-p.routes.items (record { pair = pair; paths = c.new-paths.result }) c.loop-p.invariant inside at split)
 
 pub invariant_of-result : goal.invariant_of-result
@@ -83,3 +82,27 @@ split_toward-requires-clause-prepared g c =
     let below : dst < node_count net = omega (arith, ends.dst_inside, ap (λ (x : Pair). x.dst) at) in
     subst (λ (l : List (Option g.row.S-Toward.Denot)). IsSomeAnd (slice_index_or l dst None) (g.S.PairSplit.is_toward c.args.rule.now net dst)) (sym c.deref.ensures.value)
     (c.in_ok-towards.ensures.each dst below (pair_sends list p c.loop-p-test.true))
+
+pub loop-p-init : goal.loop-p-init
+loop-p-init g c =
+    let rule = g.S.PairSplit.splits c.args.rule.now in
+    let limit = g.S.PairSplit.limit in
+    let pairs = c.args.pairs.now.list in
+    subst (RoutesSoFar rule limit c.args.net.now pairs 0) (sym c.new-routes.ensures.items) (routes_none rule limit c.args.net.now pairs)
+
+pub split_toward-requires-clause-pair : goal.split_toward-requires-clause-pair
+split_toward-requires-clause-pair g c =
+    let pairs = c.args.pairs.now.list in
+    let p = c.loop-p.p in
+    let inside : p < length pairs = omega (arith, c.loop-p-test.true, ap (λ (l : List Pair). length l) c.as_slice-list.ensures) in
+    let at : get_or c.as_slice-list.result.now p no_pair ≡ pair_at pairs p = ap (λ (l : List Pair). get_or l p no_pair) c.as_slice-list.ensures in
+    subst (IsPairOf c.args.net.now) (sym at) (All-get_or (IsPairOf c.args.net.now) pairs p no_pair inside c.requires.pairs.each)
+
+pub returns-clause-routing : goal.returns-clause-routing
+returns-clause-routing g c =
+    let rule = g.S.PairSplit.splits c.args.rule.now in
+    let limit = g.S.PairSplit.limit in
+    let net = c.args.net.now in
+    let pairs = c.args.pairs.now.list in
+    let every : c.loop-p.p ≡ length pairs = omega (arith, c.loop-p-test.false, c.loop-p.auto.p-end, ap (λ (l : List Pair). length l) c.as_slice-list.ensures) in
+    subst (IsRoutingBy rule limit net pairs) (sym c.new.ensures) (routes_done rule limit net pairs c.loop-p.p c.loop-p.routes.items c.loop-p.invariant every)

@@ -1,4 +1,4 @@
-use Rattle.std.proofs.Common.{◌≡◌, ◌+◌, List, [], ◌∷◌, ◌++◌, Some, None, length, arith, ap, sym, ◌∙◌, subst, rules}
+use Rattle.std.proofs.Common.{◌≡◌, ◌+◌, List, Some, None, length, arith, ap, sym, ◌∙◌, subst, refl}
 use Rattle.std.proofs.lemmas.Bool.{false≢true}
 use Rattle.te_model.specs.declared.name.Name.{Name}
 use Rattle.te_model.specs.Network.{node_count}
@@ -22,18 +22,16 @@ loop-node-preserved g c =
     let before = c.loop-node.towards.items in
     let far = c.loop-node.invariant in
     elim c.if-sends_to.branch [
-      | then-sends_to+in_ok-toward+in_ok-push w ↦
-          let pushed : w.push.new.self.items ≡ before ++ Some w.in_ok-toward.toward ∷ [] = search rules in (
-            subst (IsSearchGraph net Backward) (sym (w.searches-is ∙ w.in_ok-toward.ensures.same)) far.0,
-            subst (AreTowards is_toward (node + 1) pairs) (sym (ap (λ v. v.items) w.towards-is ∙ pushed))
-                (towards_more is_toward node pairs before (Some w.in_ok-toward.toward) far.1 (λ sends. w.in_ok-toward.ensures.toward)),
-          )
-      | else-sends_to+in_ok-push-2 w ↦
-          let pushed : w.push-else-sends_to.new.self.items ≡ before ++ None ∷ [] = search rules in (
-            subst (IsSearchGraph net Backward) (sym w.searches-is) far.0,
-            subst (AreTowards is_toward (node + 1) pairs) (sym (ap (λ v. v.items) w.towards-is ∙ pushed))
-                (towards_more is_toward node pairs before None far.1 (λ sends. absurd (false≢true (sym w.if-sends_to.false ∙ (c.sends_to.ensures ∙ sends))))),
-          )
+      | then-sends_to+in_ok-toward+in_ok-push w ↦ (
+        subst (IsSearchGraph net Backward) (sym (w.searches-is ∙ w.in_ok-toward.ensures.same)) far.0,
+        subst (AreTowards is_toward (node + 1) pairs) (sym (ap (λ v. v.items) w.towards-is ∙ w.in_ok-push.ensures.items))
+            (towards_more is_toward node pairs before (Some w.in_ok-toward.toward) far.1 (λ sends. w.in_ok-toward.ensures.toward)),
+      )
+      | else-sends_to+in_ok-push-2 w ↦ (
+        subst (IsSearchGraph net Backward) (sym w.searches-is) far.0,
+        subst (AreTowards is_toward (node + 1) pairs) (sym (ap (λ v. v.items) w.towards-is ∙ w.in_ok-push-2.ensures.items))
+            (towards_more is_toward node pairs before None far.1 (λ sends. absurd (false≢true (sym w.if-sends_to.false ∙ (c.sends_to.ensures ∙ sends))))),
+      )
     ]
 
 pub returns : goal.returns
@@ -43,3 +41,21 @@ returns g c =
     omega (arith, c.loop-node-test.false, c.loop-node.auto.node-end, ap (λ (l : List Name). length l) c.as_slice-node-end.ensures)
     in
     subst (λ n. AreTowards (g.S.PairSplit.is_toward c.args.rule.now net) n c.args.pairs.now c.loop-node.towards.items) every c.loop-node.invariant.1
+
+pub loop-node-init : goal.loop-node-init
+loop-node-init g c = (
+  c.in_ok-searches.ensures,
+  subst (AreTowards (g.S.PairSplit.is_toward c.args.rule.now c.args.net.now) 0 c.args.pairs.now) (sym c.new-towards.ensures.items)
+      (record { count = refl; each = λ v below sends. absurd (omega (arith, below)) }),
+)
+
+pub toward-requires-clause-dst : goal.toward-requires-clause-dst
+toward-requires-clause-dst g c = omega (arith, c.loop-node-test.true, ap (λ (l : List Name). length l) c.as_slice-node-end.ensures)
+
+pub overflow_cast-node : goal.overflow_cast-node
+overflow_cast-node g c =
+    omega (arith, c.loop-node-test.true, ap (λ (l : List Name). length l) c.as_slice-node-end.ensures, (sound c.args.net.now c.requires).few)
+
+pub overflow_cast-node-then-sends_to : goal.overflow_cast-node-then-sends_to
+overflow_cast-node-then-sends_to g c =
+    omega (arith, c.loop-node-test.true, ap (λ (l : List Name). length l) c.as_slice-node-end.ensures, (sound c.args.net.now c.requires).few)
