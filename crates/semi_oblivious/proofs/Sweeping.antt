@@ -53,6 +53,10 @@ ways_keep fixed before routes offered keeps count among only = λ p links has. e
   | inr new ↦ subst (HasLinks (routes_at fixed p).paths) new.1 (among p (omega (arith, new.0, count)))
 ]
 
+-- the fixed routing itself
+pub own_over : (net : Network) (demand : List ℕ) (fixed : List PairRoutes) → IsPathRouting net fixed → IsOverFixed net demand fixed fixed
+own_over net demand fixed is = record { routing = is; pairs = refl; keeps = λ p links has. has; no_greater = omega arith }
+
 -- the one that is taken of a routing over the fixed paths and one that sweeps over them make, where it is no worse than the first
 pub taken_over : (net : Network) (demand : List ℕ) (fixed best mixed taken : List PairRoutes) (sweeps : List Sweep) → IsOverFixed net demand fixed best →
     IsRoutingOf net (map (λ r. r.pair) fixed) mixed → All (λ s. AreAmong fixed (paths_in s)) sweeps → IsOfSweeps sweeps mixed → (taken ≡ best) ⊎ (taken ≡ mixed) →

@@ -1,4 +1,6 @@
-use Rattle.std.proofs.Common.{arith, sym, subst, ◌∙◌}
+use Rattle.std.proofs.Common.{◌≡◌, ℕ, ◌≤◌, ◌^◌, List, All, length, arith, sym, subst, ◌∙◌}
+use Rattle.std.proofs.lemmas.List.Elements.{All-push}
+use Rattle.te_model.specs.Network.{link_count}
 use Rattle.routing.specs.Routes.{AreDemands}
 use Rattle.routing.proofs.InOrder.{routes_count}
 use Rattle.routing.proofs.InOrder.{same_count}
@@ -16,6 +18,18 @@ sweep-requires-clause-pairs g c =
 pub sweep-requires-clause-demands : goal.sweep-requires-clause-demands
 sweep-requires-clause-demands g c =
     let count = routes_count c.requires.plan.0 c.args.plan.now.fixed.routes c.requires.plan.1.1.routing.in_order in
+    subst (λ n. AreDemands n c.args.matrix.now.demand) (sym count) c.requires.plan.2
+
+pub settle-requires-clause-few : goal.settle-requires-clause-few
+settle-requires-clause-few g c =
+    let fixed = c.requires.plan.1.1 in
+    let count = same_count c.in_ok-start.start.routes c.args.plan.now.fixed.routes c.in_ok-start.ensures.routing.pairs in
+    omega (arith, count, routes_count c.requires.plan.0 c.args.plan.now.fixed.routes fixed.routing.in_order, fixed.ends.few)
+
+pub settle-requires-clause-demands : goal.settle-requires-clause-demands
+settle-requires-clause-demands g c =
+    let fixed = c.args.plan.now.fixed.routes in
+    let count = same_count c.in_ok-start.start.routes fixed c.in_ok-start.ensures.routing.pairs ∙ routes_count c.requires.plan.0 fixed c.requires.plan.1.1.routing.in_order in
     subst (λ n. AreDemands n c.args.matrix.now.demand) (sym count) c.requires.plan.2
 
 pub settle-requires-clause-routings : goal.settle-requires-clause-routings
@@ -52,6 +66,30 @@ bracket_on_paths-requires-clause-count g c =
     let start = over_routing net pairs _ c.args.plan.now.fixed.routes c.in_ok-start.start.routes fixed.routing c.in_ok-start.ensures.routing in
     let count = routes_count pairs c.in_ok-routing.routing.routes (c.in_ok-routing.ensures.routing pairs start).in_order in
     count ∙ sym (routes_count pairs c.args.plan.now.fixed.routes fixed.routing.in_order)
+
+pub bracket_on_paths-requires-clause-pairs : goal.bracket_on_paths-requires-clause-pairs
+bracket_on_paths-requires-clause-pairs g c =
+    let fixed = c.requires.plan.1.1 in
+    omega (arith, routes_count c.requires.plan.0 c.args.plan.now.fixed.routes fixed.routing.in_order, fixed.ends.few)
+
+pub bracket_on_paths-requires-clause-demands : goal.bracket_on_paths-requires-clause-demands
+bracket_on_paths-requires-clause-demands g c =
+    let count = routes_count c.requires.plan.0 c.args.plan.now.fixed.routes c.requires.plan.1.1.routing.in_order in
+    subst (λ n. AreDemands n c.args.matrix.now.demand) (sym count) c.requires.plan.2
+
+pub bracket_on_paths-requires-clause-lengths : goal.bracket_on_paths-requires-clause-lengths
+bracket_on_paths-requires-clause-lengths g c =
+    let fits = λ (l : List ℕ). length l ≡ link_count c.args.net.now in
+    subst (All fits) (sym {A = List (List ℕ)} c.deref.ensures.value)
+    (subst (All fits) (sym {A = List (List ℕ)} c.in_ok-push.ensures.items)
+    (All-push fits c.in_ok-lengths.lengths.items c.in_ok-start.swept c.in_ok-lengths.ensures.count c.in_ok-start.ensures.count))
+
+pub bracket_on_paths-requires-clause-limit : goal.bracket_on_paths-requires-clause-limit
+bracket_on_paths-requires-clause-limit g c =
+    let are_small = λ (l : List ℕ). All (λ x. x ≤ 2 ^ 28) l in
+    subst (All are_small) (sym {A = List (List ℕ)} c.deref.ensures.value)
+    (subst (All are_small) (sym {A = List (List ℕ)} c.in_ok-push.ensures.items)
+    (All-push are_small c.in_ok-lengths.lengths.items c.in_ok-start.swept c.in_ok-lengths.ensures.small c.in_ok-start.ensures.small))
 
 pub returns-clause-routing : goal.returns-clause-routing
 returns-clause-routing g c = λ pairs is.

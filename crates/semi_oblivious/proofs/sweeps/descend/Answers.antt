@@ -1,0 +1,43 @@
+use Rattle.std.proofs.Common.{arith, sym, ◌∙◌, subst}
+use Rattle.te_model.specs.Pairs.{AreDemands}
+use Rattle.routing.proofs.InOrder.{same_count}
+use Rattle.semi_oblivious.specs.Semi.{KeepsTo}
+use Rattle.semi_oblivious.proofs.sweeps.descend.Goals as goal
+
+pub first_descent-requires-clause-pairs : goal.first_descent-requires-clause-pairs
+first_descent-requires-clause-pairs c = omega (arith, same_count c.args.start.routes c.args.fixed.now.routes c.requires.start.pairs, c.requires.pairs)
+
+pub first_descent-requires-clause-demands : goal.first_descent-requires-clause-demands
+first_descent-requires-clause-demands c =
+    subst (λ n. AreDemands n c.args.matrix.now.demand) (sym (same_count c.args.start.routes c.args.fixed.now.routes c.requires.start.pairs)) c.requires.demands
+
+pub loop-init : goal.loop-init
+loop-init c =
+    let fixed = c.args.fixed.now.routes in
+    let start = c.requires.start in
+    let is = c.in_ok-descent.ensures.descent in (
+      record {
+        routing = is.routing;
+        routing_pairs = is.routing_pairs ∙ start.pairs;
+        best = is.best;
+        best_pairs = is.best_pairs ∙ start.pairs;
+        least = is.least;
+        no_greater = omega (arith, is.no_greater, start.no_greater);
+        pace = is.pace;
+      },
+      (subst (KeepsTo fixed) (sym c.in_ok-descent.ensures.routing) start.keeps, subst (KeepsTo fixed) (sym c.in_ok-descent.ensures.best) start.keeps),
+      c.requires.rates,
+    )
+
+pub loop-preserved : goal.loop-preserved
+loop-preserved c = (c.in_ok-descent-2.ensures.descent, c.in_ok-descent-2.ensures.keeps, c.turn.ensures.rates)
+
+pub returns-then-is_over-clause-routing : goal.returns-then-is_over-clause-routing
+returns-then-is_over-clause-routing c =
+    let is = c.loop.invariant.0 in
+    record { routing = is.best; pairs = is.best_pairs; keeps = c.loop.invariant.1.1; no_greater = is.no_greater }
+
+pub returns-clause-routing : goal.returns-clause-routing
+returns-clause-routing c =
+    let is = c.loop.invariant.0 in
+    record { routing = is.best; pairs = is.best_pairs; keeps = c.loop.invariant.1.1; no_greater = is.no_greater }
