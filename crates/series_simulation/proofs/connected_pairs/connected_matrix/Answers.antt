@@ -1,5 +1,5 @@
-use Rattle.std.proofs.Common.{◌≡◌, ℕ, ◌<◌, Bool, List, [], ◌∷◌, ◌++◌, length, take, get_or, arith, ap, sym, ◌∙◌}
-use Rattle.std.proofs.lemmas.List.{append-nil}
+use Rattle.std.proofs.Common.{◌≡◌, ℕ, ◌<◌, ◌≤◌, Bool, List, [], ◌∷◌, ◌++◌, length, take, get_or, arith, ap, sym, ◌∙◌}
+use Rattle.std.proofs.lemmas.List.{append-nil, take_all}
 use Rattle.te_model.specs.declared.route.Pair.{Pair}
 use Rattle.te_model.specs.Pairs.{no_pair}
 use Rattle.series_simulation.specs.Connected.{demands_of, connects}
@@ -27,3 +27,13 @@ loop-place-preserved c =
           ∙ (ap (λ (ds : List ℕ). before ++ get_or ds i 0 ∷ []) c.as_slice-demand.ensures ∙ sym (more ∙ ap one (answer ∙ w.if-connects.true)))))
       | else-connects w ↦ rw w.kept-is (c.loop-place.invariant ∙ sym (more ∙ (ap one (answer ∙ w.if-connects.false) ∙ append-nil before)))
     ]
+
+pub returns : goal.returns
+returns c =
+    let test = connects c.args.reach.now in
+    let pairs = c.args.pairs.now.list in
+    let demand = c.args.matrix.now.demand in
+    let i = c.loop-place.place in
+    let whole : length pairs ≤ i = omega (arith, c.loop-place-test.false, ap (λ (ps : List Pair). length ps) c.as_slice-list.ensures) in
+    c.new.ensures ∙ (c.loop-place.invariant
+    ∙ (ap (λ (ps : List Pair). demands_of test ps (take i demand)) (take_all i pairs whole) ∙ ap (demands_of test pairs) (take_all i demand (omega (arith, whole, c.requires)))))

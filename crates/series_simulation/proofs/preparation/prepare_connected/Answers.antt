@@ -20,3 +20,6 @@ plan_for-requires-clause-reached g c =
 pub returns-clause-planned : goal.returns-clause-planned
 returns-clause-planned g c =
     subst (λ (ps : List Pair). g.S.Scheme.is_plan c.args.scheme.now c.args.net.now ps c.in_ok-plan.plan) c.in_ok-reached.ensures c.in_ok-plan.ensures
+
+pub returns-clause-tells : goal.returns-clause-tells
+returns-clause-tells g c = c.in_ok-reach.ensures

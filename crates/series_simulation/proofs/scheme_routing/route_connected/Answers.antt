@@ -53,3 +53,6 @@ returns-clause-routed g c =
       most_is = c.in_ok-parts.ensures ∙ ap (λ (ds : List ℕ). parts net routes ds) c.in_ok-reached.ensures;
       bound_is = c.low-low.ensures;
     }
+
+pub returns-clause-few : goal.returns-clause-few
+returns-clause-few g c = c.in_ok-routing.ensures.few

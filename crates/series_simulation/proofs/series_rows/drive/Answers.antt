@@ -27,6 +27,9 @@ index-requires g c =
       series_count c.args.net.now c.args.failures.now (length c.as_slice-steps.result.now) c.in_ok-marks.marks.items c.in_ok-marks.ensures,
     )
 
+pub row_of-requires-clause-tells : goal.row_of-requires-clause-tells
+row_of-requires-clause-tells g c = c.in_ok-prepared.ensures.tells
+
 pub row_of-requires-clause-marks : goal.row_of-requires-clause-marks
 row_of-requires-clause-marks g c =
     let net = c.args.net.now in

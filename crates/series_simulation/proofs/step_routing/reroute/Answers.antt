@@ -24,6 +24,9 @@ route_connected-requires-clause-pairs g c =
     subst (λ (s : Survivor). ArePairsOf s.network c.args.pairs.now.list) (sym c.in_ok-survivor.ensures.survivor)
     (surviving_pairs c.args.net.now c.args.failed.now c.args.pairs.now.list c.requires.pairs)
 
+pub route_connected-requires-clause-tells : goal.route_connected-requires-clause-tells
+route_connected-requires-clause-tells g c = c.in_ok-prepared.ensures.tells
+
 pub original_routes-requires-clause-ascending : goal.original_routes-requires-clause-ascending
 original_routes-requires-clause-ascending g c =
     let net = c.args.net.now in

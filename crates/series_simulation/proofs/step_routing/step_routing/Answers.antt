@@ -3,6 +3,9 @@ use Rattle.std.specs.Prelude.{MatchBool}
 use Rattle.series_simulation.specs.Rows.{IsReroutedOn, IsRouted, is_rerouted}
 use Rattle.series_simulation.proofs.step_routing.step_routing.Goals as goal
 
+pub route_connected-requires-clause-tells : goal.route_connected-requires-clause-tells
+route_connected-requires-clause-tells g c = c.requires.tells
+
 pub returns-in_ok-anew-clause-routed : goal.returns-in_ok-anew-clause-routed
 returns-in_ok-anew-clause-routed g c =
     let is : is_rerouted c.args.recovery c.args.failed.now ≡ true = sym c.is_rerouted.ensures ∙ c.if-is_rerouted.true in

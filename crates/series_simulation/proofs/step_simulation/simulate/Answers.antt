@@ -21,6 +21,9 @@ step-requires-clause-demands c =
     c.requires.demands.count ∙ (sym (ap (λ (ps : List Pair). length ps) c.in_ok-rates.ensures.pairs_are)
     ∙ length-map c.in_ok-rates.rates.routes (λ (r : PairRoutes). r.pair))
 
+pub step-requires-clause-small : goal.step-requires-clause-small
+step-requires-clause-small c = λ p below. c.requires.demands.small p 0 below
+
 pub returns-clause-simulated : goal.returns-clause-simulated
 returns-clause-simulated c = record {
   left = c.in_ok-left.left.routes;
