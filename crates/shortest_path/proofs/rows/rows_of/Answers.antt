@@ -1,12 +1,14 @@
-use Rattle.std.proofs.Common.{◌≡◌, ◌<◌, ℕ, List, ◌∷◌, [], ◌++◌, length, get_or, arith, subst, ap, ◌∙◌}
+use Rattle.std.proofs.Common.{◌≡◌, ◌<◌, ℕ, List, ◌∷◌, [], ◌++◌, length, get_or, arith, subst, ap, ◌∙◌, sym, inl, inr, All}
 use Rattle.std.proofs.Math.ListN.{set}
-use Rattle.std.proofs.lemmas.List.{length-set}
+use Rattle.std.proofs.lemmas.List.{length-set, get_or_past}
 use Rattle.te_model.specs.declared.network.Link.{Link}
 use Rattle.te_model.specs.Network.{link_at, link_count, no_link}
 use Rattle.te_model.proofs.Lists.{written_whole}
 use Rattle.shortest_path.specs.Links.{ends_of, arc_start}
 use Rattle.shortest_path.specs.Rows.{AreArcRows, arc_row}
 use Rattle.shortest_path.proofs.Building.{rows_more, start_inside}
+use Rattle.std.proofs.lemmas.Bool.{cases_lt}
+use Rattle.std.proofs.lemmas.List.Elements.{All-get_or, All-nil}
 use Rattle.shortest_path.proofs.rows.rows_of.Goals as goal
 
 pub loop-h-preserved : goal.loop-h-preserved
@@ -34,3 +36,18 @@ returns c =
     let count : length c.as_slice-links.result.now ≡ link_count net = ap (λ (ls : List Link). length ls) c.as_slice-links.ensures in
     let every : c.loop-h.h ≡ link_count net = omega (arith, count) in
     subst (λ m. AreArcRows net c.args.direction m c.loop-h.rows.items) every c.loop-h.invariant
+
+no_row : (rows : List (List ℕ)) (u : ℕ) → All (λ r. r ≡ []) rows → arc_row rows u ≡ []
+no_row rows u none = elim (cases_lt u (length rows)) [
+  | inl lt ↦ All-get_or (λ r. r ≡ []) rows u [] lt none
+  | inr ge ↦ get_or_past rows u [] ge
+]
+
+pub loop-h-init : goal.loop-h-init
+loop-h-init c =
+    record {
+      count = omega (arith, c.in_ok-rows.ensures.0, c.in_ok-rows.rows.ok.0, ap (λ (ns : List _). length ns) c.as_slice.ensures);
+      sound = λ u. subst (All (λ h. (h < 0) × (arc_start c.args.direction c.args.net.now h ≡ u))) (sym (no_row c.in_ok-rows.rows.items u c.in_ok-rows.ensures.1))
+          (All-nil (λ h. (h < 0) × (arc_start c.args.direction c.args.net.now h ≡ u)));
+      complete = λ h below. absurd (omega (arith, below));
+    }

@@ -6,6 +6,7 @@ use Rattle.shortest_path.specs.Graph.{distance_at}
 use Rattle.shortest_path.specs.Least.{AreFirstLinks, first_at, is_sum}
 use Rattle.shortest_path.specs.Links.{is_open}
 use Rattle.shortest_path.proofs.FirstLinks.{firsts_skip, firsts_more, none_read, some_read}
+use Rattle.shortest_path.proofs.ReadLinks.{read_place, read_tail, read_head}
 use Rattle.shortest_path.proofs.walk.first_links.Goals as goal
 use Rattle.shortest_path.proofs.walk.first_links.Goals.{then-is_none+then-is_tight, else-is_none, else-is_none-via-then-is_none+else-is_tight, else-is_none-via-else-is_none}
 
@@ -45,3 +46,39 @@ loop-h-preserved c =
             (λ none. absurd (some_read c.index.result.now c.is_none.result c.is_none.ensures w'.if-is_none.false (read ∙ none))))
       ]
     ]
+
+pub index-requires : goal.index-requires
+index-requires c =
+    omega (
+      arith,
+      read_tail c.args.net.now c.as_slice-links.result.now c.loop-h.h c.requires.sound c.as_slice-links.ensures c.loop-h-test.true,
+      c.loop-h.invariant.count,
+      c.loop-h.firsts.ok.0,
+    )
+
+pub bounds-open-h : goal.bounds-open-h
+bounds-open-h c = omega (arith, read_place c.args.net.now c.as_slice-links.result.now c.loop-h.h c.as_slice-links.ensures c.loop-h-test.true, c.requires.marks)
+
+pub bounds-sums-tail : goal.bounds-sums-tail
+bounds-sums-tail c =
+    omega (arith, read_tail c.args.net.now c.as_slice-links.result.now c.loop-h.h c.requires.sound c.as_slice-links.ensures c.loop-h-test.true, c.requires.sums)
+
+pub bounds-sums-head : goal.bounds-sums-head
+bounds-sums-head c =
+    omega (arith, read_head c.args.net.now c.as_slice-links.result.now c.loop-h.h c.requires.sound c.as_slice-links.ensures c.loop-h-test.true, c.requires.sums)
+
+pub bounds-lengths-h : goal.bounds-lengths-h
+bounds-lengths-h c = omega (arith, read_place c.args.net.now c.as_slice-links.result.now c.loop-h.h c.as_slice-links.ensures c.loop-h-test.true, c.requires.lengths)
+
+pub overflow_cast-h : goal.overflow_cast-h
+overflow_cast-h c =
+    omega (arith, read_place c.args.net.now c.as_slice-links.result.now c.loop-h.h c.as_slice-links.ensures c.loop-h-test.true, c.requires.sound.few_links)
+
+pub index_mut-requires : goal.index_mut-requires
+index_mut-requires c =
+    omega (
+      arith,
+      read_tail c.args.net.now c.as_slice-links.result.now c.loop-h.h c.requires.sound c.as_slice-links.ensures c.loop-h-test.true,
+      c.loop-h.invariant.count,
+      c.loop-h.firsts.ok.0,
+    )

@@ -1,4 +1,4 @@
-use Rattle.std.proofs.Common.{◌≡◌, ◌≤◌, ◌++◌, ◌∷◌, [], None, get_or, slice_index, arith, ap, sym, ◌∙◌, subst, rules}
+use Rattle.std.proofs.Common.{◌≡◌, ◌≤◌, ◌++◌, ◌∷◌, [], None, get_or, slice_index, arith, ap, sym, ◌∙◌, subst, rules, length, List}
 use Rattle.std.specs.Prelude.{unwrap_or}
 use Rattle.std.proofs.lemmas.Grind.{common_steps}
 use Rattle.std.proofs.lemmas.List.Elements.{All-get_or}
@@ -6,6 +6,7 @@ use Rattle.te_model.specs.Network.{head_of, link_count, no_link}
 use Rattle.shortest_path.specs.Graph.{distance_at}
 use Rattle.shortest_path.specs.Least.{IsFirstTightBelow}
 use Rattle.shortest_path.proofs.Tight.{GreedySoFar, greedy_step, greedy_end, no_walk, some_tight, tight_parts}
+use Rattle.te_model.specs.declared.network.Link.{Link}
 use Rattle.shortest_path.proofs.walk.walk_along.Goals as goal
 
 pub returns-then-is_none : goal.returns-then-is_none
@@ -64,3 +65,20 @@ loop-node-smaller c =
     let at_tail = ap (λ o. unwrap_or o 0) tight.from in
     let long : 1 ≤ slice_index lengths h = All-get_or (λ l. 1 ≤ l) lengths h 0 (omega (arith, first.0, leads.count)) leads.positive in
     omega (arith, at_head, at_tail, long)
+
+pub bounds-firsts-node : goal.bounds-firsts-node
+bounds-firsts-node c =
+    let leads = c.requires.leads.2 in
+    let far = c.loop-node.invariant c.requires.leads.0 c.requires.leads.1 leads in
+    omega (arith, far.inside, leads.firsts_are.count)
+
+pub bounds-links-h : goal.bounds-links-h
+bounds-links-h c =
+    let net = c.args.net.now in
+    let lengths = c.requires.leads.0 in
+    let marks = c.requires.leads.1 in
+    let leads = c.requires.leads.2 in
+    let v = c.loop-node.node in
+    let far = c.loop-node.invariant lengths marks leads in
+    let first = subst (λ o. IsFirstTightBelow net lengths marks c.args.sums.now (link_count net) v o) c.in-Some.is (leads.firsts_are.each v far.inside) in
+    omega (arith, first.0, ap (λ (l : List Link). length l) c.as_slice-links.ensures)
