@@ -1,15 +1,15 @@
 -- Where the demands of pairs stand in a table.
-use Rattle.std.proofs.Common.{ℕ, ◌+◌, ◌*◌, ◌<◌, ◌≤◌, ◌≡◌, ◌≢◌, ◌∙◌, refl, sym, ap, List, map, length, get_or, set, Bool, true, false, ◌&&◌, ◌||◌, ◌==◌, Option, Some, None, arith, inl, inr, if◌then◌else◌}
+use Rattle.std.proofs.Common.{ℕ, zero, suc, ◌+◌, ◌*◌, ◌<◌, ◌≤◌, ◌≡◌, ◌≢◌, ◌∙◌, refl, sym, ap, List, [], ◌∷◌, ◌++◌, map, vec_len, length, get_or, set, Bool, true, false, ◌&&◌, ◌||◌, ◌==◌, Option, Some, None, arith, inl, inr, if◌then◌else◌}
 use Rattle.std.proofs.lemmas.Bool.{and_from, and_parts, cases_eq, cases_lt}
 use Rattle.std.proofs.lemmas.Bool.Decides.{nat_tests}
-use Rattle.std.proofs.lemmas.List.{get_or-map, get_or-set_other, get_or-set_same, length-map, map-set}
+use Rattle.std.proofs.lemmas.List.{map-append, get_or-map, get_or-set_other, get_or-set_same, length-map, map-set}
 use Rattle.std.proofs.Math.Nat.{mul-le-mul_left}
 use Rattle.te_model.specs.declared.route.Pair.{Pair}
 use Rattle.te_model.specs.Pairs.{IsNodePair}
 use Rattle.traffic_matrix.specs.Pairs.{place_of_pair, same_pair}
 use Rattle.traffic_matrix.specs.declared.step_demands.StepDemands.{StepDemands}
 use Rattle.traffic_matrix.specs.declared.table.Table.{Table}
-use Rattle.traffic_matrix.specs.Table.{declared_at, demand_of_place, IsGrown, IsPut}
+use Rattle.traffic_matrix.specs.Table.{demand_at, declared_at, demand_of_place, IsGrown, IsPut}
 
 -- a number of two digits to the base m
 pub two-digits : (a b k m : ℕ) → a < k → b < m → a * m + b < k * m
@@ -110,3 +110,25 @@ put-grown old mid new count at pair demand g p =
   where
     same : (q : Pair) → declared_at mid q ≡ declared_at old q
     same q = rw (g.nodes, g.declared) refl
+
+-- one more where there is nothing
+past-none : (xs : List (Option ℕ)) (y : Option ℕ) (k : ℕ) → y ≡ None → get_or (xs ++ y ∷ []) k None ≡ get_or xs k None
+past-none [] y zero e = e
+past-none [] y (suc k) e = refl
+past-none (x ∷ xs) y zero e = refl
+past-none (x ∷ xs) y (suc k) e = past-none xs y k e
+
+-- a step without demands more
+pub grown-more : (old mid new : Table) (s : StepDemands) (count : ℕ) → IsGrown old mid count → new.nodes ≡ mid.nodes → new.declared.items ≡ mid.declared.items → new.steps.items ≡ mid.steps.items ++ s ∷ [] → vec_len new.steps ≡ count + 1
+    → ((place : ℕ) → demand_of_place s place ≡ None) → IsGrown old new (count + 1)
+grown-more old mid new s count grown nodes declared steps len none = record {
+  nodes = nodes ∙ grown.nodes;
+  steps = len;
+  demands = λ k p w. one-more k p ∙ grown.demands k p w;
+  declared = declared ∙ grown.declared;
+}
+  where
+    one-more : (k : ℕ) (p : Pair) → demand_at new k p ≡ demand_at mid k p
+    one-more k p =
+        let at = λ (t : StepDemands). demand_of_place t (place_of_pair mid.nodes p) in
+        rw (nodes, steps, map-append at mid.steps.items (s ∷ [])) (past-none (map at mid.steps.items) (at s) k (none (place_of_pair mid.nodes p)))

@@ -31,3 +31,8 @@ pub step-more : (before text more demands : List ℕ) (names names' : List (List
     → text ≡ before ++ flat_map (step_text names' pairs' steps) (range_with_len 0 k) → names ≡ names' → pairs ≡ pairs' → demands ≡ (get_or steps k no_matrix).demand
     → more ≡ before ++ flat_map (step_text names' pairs' steps) (range_with_len 0 (k + 1))
 step-more before text more demands names names' pairs pairs' steps k a b c d e = a ∙ rw (b, c, d, e) (pieces-more before (step_text names' pairs' steps) k)
+
+-- the fields of a row, put at the end one after the other
+pub row-put : (old a b c d : List ℕ) {t u v w x y z more : List ℕ} → t ≡ old ++ a → u ≡ t ++ 44 ∷ [] → v ≡ u ++ b → w ≡ v ++ 44 ∷ [] → x ≡ w ++ c → y ≡ x ++ 44 ∷ [] → z ≡ y ++ d → more ≡ z ++ 10 ∷ []
+    → more ≡ old ++ (a ++ 44 ∷ b ++ 44 ∷ c ++ 44 ∷ d ++ 10 ∷ [])
+row-put old a b c d e f g h i j k l = rw (l, k, j, i, h, g, f, e) (simp append_assoc)

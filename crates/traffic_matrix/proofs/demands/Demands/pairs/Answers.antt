@@ -28,3 +28,6 @@ loop-place-preserved c =
         nodes = i.nodes;
       }
     ]
+
+pub is_declared-requires : goal.is_declared-requires
+is_declared-requires c = rw (← c.nodes-nodes.ensures) (pair-within c.nodes-nodes.result c.loop-place.place c.loop-place-test.true)
