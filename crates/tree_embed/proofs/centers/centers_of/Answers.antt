@@ -8,3 +8,6 @@ pub loop-level-preserved : goal.loop-level-preserved
 loop-level-preserved c =
     made_more (λ level. map (center_of c.args.sums.now c.args.order.now c.args.scale level) (range_with_len 0 (length c.args.sums.now)))
     c.loop-level.level c.in_ok-row.row c.loop-level.rows.items c.push.new.self.items c.loop-level.invariant (search rules) c.in_ok-row.ensures
+
+pub row_of-requires-clause-order : goal.row_of-requires-clause-order
+row_of-requires-clause-order c = c.requires.order

@@ -1,6 +1,8 @@
-use Rattle.std.proofs.Common.{◌≡◌, ◌-◌, ◌++◌, slice_index, subst, rules}
+use Rattle.std.proofs.Common.{◌≡◌, ◌-◌, ◌++◌, slice_index, arith, subst, rules}
+use Rattle.std.proofs.lemmas.List.{take_all}
 use Rattle.shortest_path.specs.Least.{links_of}
 use Rattle.shortest_path.specs.Paths.{IsLeastPath}
+use Rattle.tree_embed.specs.TreePaths.{AreJoined}
 use Rattle.tree_embed.proofs.Joining.{join_step, join_stops}
 use Rattle.tree_embed.proofs.join.join.Goals as goal
 
@@ -20,3 +22,17 @@ loop-i-preserved c =
     c.loop-i.auto.i c.loop-i-test.true c.loop-i.invariant
     (subst (λ o. IsLeastPath c.args.net.now c.args.lengths.now (slice_index chain (i - 1)) (slice_index chain i) (links_of o)) c.in-Some.is c.in_ok-path.ensures)
     extended
+
+pub least-requires-clause-positive : goal.least-requires-clause-positive
+least-requires-clause-positive c = c.requires.positive
+
+pub least-requires-clause-src : goal.least-requires-clause-src
+least-requires-clause-src c = c.requires.chain (c.loop-i.i - 1) 0 (omega (arith, c.loop-i-test.true))
+
+pub least-requires-clause-dst : goal.least-requires-clause-dst
+least-requires-clause-dst c = c.requires.chain c.loop-i.i 0 c.loop-i-test.true
+
+pub returns : goal.returns
+returns c =
+    subst (λ chain. AreJoined c.args.net.now c.args.lengths.now chain c.loop-i.walk.items)
+    (take_all c.loop-i.i c.args.chain.now (omega (arith, c.loop-i-test.false))) c.loop-i.invariant

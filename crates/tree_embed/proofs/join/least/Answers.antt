@@ -17,3 +17,6 @@ returns c =
     let open_all : AllOpen net c.deref.result.now = subst (λ m. AllOpen net m) (sym marks) (all_open net) in
     least_path_of_walk net c.args.lengths.now c.deref.result.now c.args.src c.args.dst (links_of c.in_ok-path.path) open_all
     (λ h below. All-get_or (λ l. 1 ≤ l) c.args.lengths.now h 0 (omega arith) c.requires.positive) c.in_ok-path.ensures
+
+pub follow-requires-clause-positive : goal.follow-requires-clause-positive
+follow-requires-clause-positive c = c.requires.positive

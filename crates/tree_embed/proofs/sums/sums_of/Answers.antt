@@ -1,5 +1,6 @@
-use Rattle.std.proofs.Common.{◌≡◌, ◌+◌, List, [], ◌∷◌, ◌++◌, length, ap, sym, ◌∙◌, subst, rules}
+use Rattle.std.proofs.Common.{◌≡◌, ◌+◌, List, [], ◌∷◌, ◌++◌, length, arith, ap, sym, ◌∙◌, subst, rules}
 use Rattle.te_model.specs.declared.name.Name.{Name}
+use Rattle.te_model.specs.Network.{node_count}
 use Rattle.te_model.proofs.Lists.{written_whole}
 use Rattle.shortest_path.specs.declared.rows.Direction.TheVariants.{Backward}
 use Rattle.shortest_path.specs.Least.{AreLeastSums}
@@ -30,3 +31,17 @@ loop-node-preserved c =
       subst (IsSearchGraph net Backward) (sym c.toward.ensures.same) c.loop-node.invariant.0,
       subst (SumsSoFar net lengths (node + 1)) (sym pushed) (sums_more net lengths node c.loop-node.sums.items row c.loop-node.invariant.1 are),
     )
+
+pub toward-requires-clause-limit : goal.toward-requires-clause-limit
+toward-requires-clause-limit c = c.requires.limit
+
+pub toward-requires-clause-against : goal.toward-requires-clause-against
+toward-requires-clause-against c = c.loop-node.invariant.0
+
+pub returns : goal.returns
+returns c =
+    let so_far = c.loop-node.invariant.1 in
+    let done : c.loop-node.node ≡ node_count c.args.net.now =
+    omega (arith, c.loop-node-test.false, c.loop-node.auto.node-end, ap (λ (l : List Name). length l) c.as_slice-nodes.ensures)
+    in
+    record { count = so_far.count ∙ done; each = λ t below. so_far.each t (omega (arith, done, below)) }

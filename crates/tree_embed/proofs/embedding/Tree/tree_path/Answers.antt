@@ -1,4 +1,4 @@
-use Rattle.std.proofs.Common.{◌≡◌, ◌<◌, true, None, Some, All, ap, sym, ◌∙◌, subst}
+use Rattle.std.proofs.Common.{◌≡◌, ◌<◌, ◌≤◌, true, None, Some, All, ap, sym, ◌∙◌, subst}
 use Rattle.std.proofs.lemmas.Result.{IfOk-weaker}
 use Rattle.te_model.specs.Network.{node_count}
 use Rattle.te_model.specs.Path.{chains, is_path}
@@ -81,3 +81,19 @@ returns-clause-tree c =
     (λ p least. tree_of_least c.args.self.now c.self.inside.sums c.as_slice.result.now net lengths tables c.requires.own same c.args.src c.args.dst chain
     (links_of p) c.in_ok-chain.ensures none least)
     c.least.ensures
+
+pub join-requires-clause-positive : goal.join-requires-clause-positive
+join-requires-clause-positive c =
+    let tables : AreTables c.args.self.now c.self.inside.sums c.as_slice.result.now = subst (AreTables c.args.self.now c.self.inside.sums) (sym c.as_slice.ensures)
+    (subst (λ e. AreTables e c.self.inside.sums c.self.inside.centers) c.self.view_is c.self.invariant)
+    in
+    let same : c.args.self.now.lengths ≡ c.as_slice-lengths.result.now = sym (c.as_slice-lengths.ensures ∙ ap (λ e. e.lengths) c.self.view_is) in
+    subst (All (λ l. 1 ≤ l)) same tables.embedding.positive
+
+pub least-requires-clause-positive : goal.least-requires-clause-positive
+least-requires-clause-positive c =
+    let tables : AreTables c.args.self.now c.self.inside.sums c.as_slice.result.now = subst (AreTables c.args.self.now c.self.inside.sums) (sym c.as_slice.ensures)
+    (subst (λ e. AreTables e c.self.inside.sums c.self.inside.centers) c.self.view_is c.self.invariant)
+    in
+    let same : c.args.self.now.lengths ≡ c.as_slice-lengths.result.now = sym (c.as_slice-lengths.ensures ∙ ap (λ e. e.lengths) c.self.view_is) in
+    subst (All (λ l. 1 ≤ l)) same tables.embedding.positive
