@@ -222,7 +222,10 @@ fn made_certificates_have_nearly_the_least_ratio(rt: HostRuntime) -> Result<(), 
 /// Whether the blocks have the same numbers.
 fn are_same_blocks(blocks: &[Block], others: &[Block]) -> bool {
     blocks.len() == others.len()
-        && blocks.iter().zip(others).all(|(block, other)| is_same_block(block, other))
+        && blocks
+            .iter()
+            .zip(others)
+            .all(|(block, other)| is_same_block(block, other))
 }
 
 /// Whether one is of the first format and has a margin, the other of the second and has a box, and ratio and blocks are the same.
