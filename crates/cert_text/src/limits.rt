@@ -1,7 +1,7 @@
 //! What a head counts.
 
 /// What the lines of a block are counted by.
-#[derive(Clone, Copy, Debug)]
+#[derive(Clone, Copy)]
 pub struct Counts {
     pub nodes: u64,
     pub links: u64,
