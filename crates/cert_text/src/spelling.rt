@@ -57,5 +57,8 @@ pub fn read_and_print(alloc: Global, bytes: &[u8]) -> Result<Vec<u8>, CertFault>
     ensures same { IfOk result (λ file. file.items ≡ bytes.now) }
 {
     let cert = read(alloc, bytes)?;
-    Ok(print(alloc, &cert)?)
+    match print(alloc, &cert) {
+        Ok(file) => Ok(file),
+        Err(_) => Err(CertFault::Memory),
+    }
 }
