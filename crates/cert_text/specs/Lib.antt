@@ -2,6 +2,7 @@ pub mod Place
 pub mod Takes
 pub mod Reading
 pub mod Grammar
+pub mod BlockRest
 pub mod Listed
 pub mod Fits
 pub mod Answer

@@ -4,9 +4,10 @@
 ghost use Rattle.std.specs.Prelude.{◌≡◌, ◌<◌, ◌≤◌, true, false, IfOk};
 ghost use Rattle.cert_text.specs.Place.{Reads, Passes};
 ghost use Rattle.cert_text.specs.Takes.{Takes};
-ghost use Rattle.cert_text.specs.Reading.{narrow_number, read_next_narrow};
+ghost use Rattle.cert_text.specs.Reading.{narrow_number, read_many, read_next_narrow};
 ghost use Rattle.te_model.specs.Shape.{is_count};
 ghost use Rattle.cert_text.specs.Fits.{IsWord, IsNamed, FitsLink, FitsNetwork, FitsPath, FitsPair, FitsRoutes, FitsList, FitsSet, FitsHead, FitsRow, FitsSides, FitsBlock};
+ghost use Rattle.cert_text.specs.BlockRest.{read_block_rest};
 ghost use Rattle.cert_text.specs.Grammar.{read_counted, read_listing, read_name_line, read_link_line, read_network, read_path, read_pair, read_routes, read_all, read_margin, read_set, read_ratio, read_head, read_number_line, read_row, read_sides, read_block, read_closing, read_opening, read_certificate, counts_of, read_box, has_boxes, read_digit, read_format};
 ghost use Rattle.te_model.specs.Formats.{limits_of};
 
@@ -395,21 +396,24 @@ struct BlockLines<'a> {
     ghost some: { 1 ≤ counts.now.links },
 }
 
-impl<'a> Item for BlockLines<'a> {
-    type Value = Block;
-
-    ghost reading = { λ lines. read_block lines.limits.now narrow_number lines.counts.now };
-
-    ghost Fits = { λ lines x. FitsBlock lines.limits.now lines.counts.now x };
-
-    #[tactic(auto, unfolding(crate::specs::Grammar::read_block))]
-    fn read<C: Cursor>(&self, r: &mut Reader<C>, alloc: Global) -> Result<Block, Stop> {
+impl<'a> BlockLines<'a> {
+    // The lines after the first one of a block, whose numbers these are.
+    #[tactic(auto, unfolding(crate::specs::BlockRest::read_block_rest))]
+    fn rest<C: Cursor>(
+        &self,
+        r: &mut Reader<C>,
+        alloc: Global,
+        link: u32,
+        a: u64,
+        b: u64,
+        count: u64,
+    ) -> Result<Block, Stop>
+        requires { is_count 0 self.now.limits.now.nodes count ≡ true }
+        ensures fits { IfOk result (λ x. FitsBlock self.now.limits.now self.now.counts.now x) }
+        ensures takes { Takes r.old r.new (Reads result)
+            (read_block_rest narrow_number self.now.counts.now link a b count) }
+    {
         let counts = self.counts;
-        let link = r.narrow()?;
-        let a = r.next_number()?;
-        let b = r.next_number()?;
-        let count = r.next_count(0, self.limits.nodes)?;
-        r.end_line()?;
         let weights = number_line(r, alloc, counts.links)?;
         let nodes = counts.nodes;
         let rows = many(r, alloc, count, &RowLine { nodes })?;
@@ -423,6 +427,24 @@ impl<'a> Item for BlockLines<'a> {
             plus,
             minus,
         })
+    }
+}
+
+impl<'a> Item for BlockLines<'a> {
+    type Value = Block;
+
+    ghost reading = { λ lines. read_block lines.limits.now narrow_number lines.counts.now };
+
+    ghost Fits = { λ lines x. FitsBlock lines.limits.now lines.counts.now x };
+
+    #[tactic(auto, unfolding(crate::specs::Grammar::read_block))]
+    fn read<C: Cursor>(&self, r: &mut Reader<C>, alloc: Global) -> Result<Block, Stop> {
+        let link = r.narrow()?;
+        let a = r.next_number()?;
+        let b = r.next_number()?;
+        let count = r.next_count(0, self.limits.nodes)?;
+        r.end_line()?;
+        self.rest(r, alloc, link, a, b, count)
     }
 }
 
@@ -492,19 +514,33 @@ pub fn counts_of_head(head: &Head) -> Counts
     }
 }
 
+// So many blocks, whose lines are counted as the head says.
+fn blocks<C: Cursor>(
+    r: &mut Reader<C>,
+    alloc: Global,
+    head: &Head,
+    count: u64,
+) -> Result<Items<Block>, Stop>
+    requires { FitsHead (limits_of head.now.format) head.now }
+    ensures takes { Takes r.old r.new (Reads result)
+        (read_many count (read_block (limits_of head.now.format) narrow_number (counts_of head.now))) }
+{
+    let limits = limits_of(head.format);
+    let counts = counts_of_head(head);
+    let lines = BlockLines {
+        limits: &limits,
+        counts: &counts,
+    };
+    many(r, alloc, count, &lines)
+}
+
 /// A whole certificate of either format, whether or not its rules hold.
 #[tactic(auto, unfolding(crate::specs::Grammar::read_certificate))]
 pub fn certificate<C: Cursor>(r: &mut Reader<C>, alloc: Global) -> Result<Certificate, Stop>
     ensures takes { Takes r.old r.new (Reads result) (read_certificate narrow_number) }
 {
     let (head, count) = opening(r, alloc)?;
-    let limits = limits_of(head.format);
-    let counts = counts_of_head(&head);
-    let lines = BlockLines {
-        limits: &limits,
-        counts: &counts,
-    };
-    let blocks = many(r, alloc, count, &lines)?;
+    let blocks = blocks(r, alloc, &head, count)?;
     closing(r)?;
     Ok(Certificate { head, blocks })
 }

@@ -1,6 +1,7 @@
 use Rattle.std.proofs.lemmas.Result.{err_from_is_err_and}
+use Rattle.cert_text.specs.BlockRest.{read_block_rest}
 use Rattle.cert_text.specs.Grammar.{read_block}
-use Rattle.cert_text.proofs.Steps.{one_passed, one_read, one_stopped, stays}
+use Rattle.cert_text.proofs.Steps.{one_passed, one_read, one_stopped}
 use Rattle.cert_text.proofs.grammar.BlockLinesItem.read.Goals as goal
 
 pub returns-in_err-count-clause-takes : goal.returns-in_err-count-clause-takes
@@ -15,25 +16,7 @@ returns-in_err-end_line-clause-takes g c =
     let p = err_from_is_err_and c.from_residual-in_err-end_line.result c.from_residual-in_err-end_line.ensures.1 in
     rw (p.1, p.2) (one_read _ c.in_ok-link.ensures.takes (one_read _ c.in_ok-a.ensures.takes (one_read _ c.in_ok-b.ensures.takes (one_read _ c.in_ok-count.ensures.takes (one_stopped c.in_err-end_line.field-0.0 _ c.in_err-end_line.ensures.takes)))))
 
-pub returns-in_err-weights-clause-takes : goal.returns-in_err-weights-clause-takes
-unfolding read_block
-returns-in_err-weights-clause-takes g c =
-    let p = err_from_is_err_and c.from_residual-in_err-weights.result c.from_residual-in_err-weights.ensures.1 in
-    rw (p.1, p.2) (one_read _ c.in_ok-link.ensures.takes (one_read _ c.in_ok-a.ensures.takes (one_read _ c.in_ok-b.ensures.takes (one_read _ c.in_ok-count.ensures.takes (one_passed c.in_ok-end_line.ensures.takes (one_stopped c.in_err-weights.field-0.0 _ c.in_err-weights.ensures.takes))))))
-
-pub returns-in_err-rows-clause-takes : goal.returns-in_err-rows-clause-takes
-unfolding read_block
-returns-in_err-rows-clause-takes g c =
-    let p = err_from_is_err_and c.from_residual-in_err-rows.result c.from_residual-in_err-rows.ensures.1 in
-    rw (p.1, p.2) (one_read _ c.in_ok-link.ensures.takes (one_read _ c.in_ok-a.ensures.takes (one_read _ c.in_ok-b.ensures.takes (one_read _ c.in_ok-count.ensures.takes (one_passed c.in_ok-end_line.ensures.takes (one_read _ c.in_ok-weights.ensures.takes (one_stopped c.in_err-rows.field-0.0 _ c.in_err-rows.ensures.takes)))))))
-
-pub returns-in_err-plus-clause-takes : goal.returns-in_err-plus-clause-takes
-unfolding read_block
-returns-in_err-plus-clause-takes g c =
-    let p = err_from_is_err_and c.from_residual-in_err-plus.result c.from_residual-in_err-plus.ensures.1 in
-    rw (p.1, p.2) (one_read _ c.in_ok-link.ensures.takes (one_read _ c.in_ok-a.ensures.takes (one_read _ c.in_ok-b.ensures.takes (one_read _ c.in_ok-count.ensures.takes (one_passed c.in_ok-end_line.ensures.takes (one_read _ c.in_ok-weights.ensures.takes (one_read _ c.in_ok-rows.ensures.takes (one_stopped c.in_err-plus.field-0.0 _ c.in_err-plus.ensures.takes))))))))
-
 pub returns-clause-takes : goal.returns-clause-takes
-unfolding read_block
+unfolding read_block read_block_rest
 returns-clause-takes g c =
-    one_read _ c.in_ok-link.ensures.takes (one_read _ c.in_ok-a.ensures.takes (one_read _ c.in_ok-b.ensures.takes (one_read _ c.in_ok-count.ensures.takes (one_passed c.in_ok-end_line.ensures.takes (one_read _ c.in_ok-weights.ensures.takes (one_read _ c.in_ok-rows.ensures.takes (one_read _ c.in_ok-plus.ensures.takes stays)))))))
+    one_read _ c.in_ok-link.ensures.takes (one_read _ c.in_ok-a.ensures.takes (one_read _ c.in_ok-b.ensures.takes (one_read _ c.in_ok-count.ensures.takes (one_passed c.in_ok-end_line.ensures.takes c.rest.ensures.takes))))
