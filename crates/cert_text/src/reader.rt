@@ -29,7 +29,7 @@ impl<C: Cursor> Reader<C> {
     ghost use Rattle.te_model.specs.Shape.{is_count};
     ghost use Rattle.cert_text.specs.Fits.{AreWords};
     ghost use Rattle.cert_text.specs.Place.{place, Reads, ReadsViewed, Passes, Appends};
-    ghost use Rattle.cert_text.specs.Reading.{read_byte, read_word, read_line_end, read_number, read_count, read_narrow, narrow_number, read_next_number, read_next_narrow, read_next_count, read_many, name_from, read_name};
+    ghost use Rattle.cert_text.specs.Reading.{read_byte, read_word, read_line_end, read_digits, read_number, read_count, read_narrow, narrow_number, read_next_number, read_next_narrow, read_next_count, read_many, name_from, read_name};
     ghost use Rattle.cert_text.specs.Takes.{Takes};
 
     /// Stands at the first line.
@@ -107,17 +107,12 @@ impl<C: Cursor> Reader<C> {
         Ok(())
     }
 
-    /// Takes a number in decimal, without a leading zero and below 2^64.
-    #[tactic(auto, unfolding(crate::specs::Reading::read_number))]
-    pub fn number(&mut self) -> Result<u64, Stop>
+    // Takes the digits that follow those of the value, and gives the whole number.
+    fn digits_after(&mut self, first: u64) -> Result<u64, Stop>
         ensures room { result ≢ Err Stop.Memory }
-        ensures takes { Takes self.old self.new (Reads result) read_number }
+        ensures takes { Takes self.old self.new (Reads result) (λ p. read_digits p.line first p.rest) }
     {
-        let mut value = match self.source.peek() {
-            Some(b) if b.is_ascii_digit() => u64::from(b - b'0'),
-            _ => return Err(self.fault()),
-        };
-        self.source.advance();
+        let mut value = first;
         while let Some(b) = self.source.peek() {
             if !b.is_ascii_digit() {
                 break;
@@ -132,6 +127,21 @@ impl<C: Cursor> Reader<C> {
             self.source.advance();
         }
         Ok(value)
+    }
+
+    /// Takes a number in decimal, without a leading zero and below 2^64.
+    #[tactic(auto, unfolding(crate::specs::Reading::read_number))]
+    pub fn number(&mut self) -> Result<u64, Stop>
+        ensures room { result ≢ Err Stop.Memory }
+        ensures takes { Takes self.old self.new (Reads result) read_number }
+    {
+        match self.source.peek() {
+            Some(b) if b.is_ascii_digit() => {
+                self.source.advance();
+                self.digits_after(u64::from(b - b'0'))
+            }
+            _ => Err(self.fault()),
+        }
     }
 
     /// Takes a number within the range.

@@ -1,9 +1,15 @@
 use Rattle.std.proofs.Common.{sym, ◌∙◌}
-use Rattle.cert_text.proofs.Digits.{nothing_left}
+use Rattle.cert_text.proofs.Digits.{nothing_left, some_left}
 use Rattle.cert_text.proofs.reader.Reader.at_end.Goals as goal
 
 pub returns-in-None-clause-takes : goal.returns-in-None-clause-takes
 returns-in-None-clause-takes g c = record {
   told = c.peek.ensures.told;
   reads = λ t. rw (c.peek.ensures.same t) (nothing_left _ _ (sym c.in-None.is ∙ c.peek.ensures.byte t));
+}
+
+pub returns-in-Some-clause-takes : goal.returns-in-Some-clause-takes
+returns-in-Some-clause-takes g c = record {
+  told = c.peek.ensures.told;
+  reads = λ t. rw c.fault.ensures (some_left _ _ _ (sym c.in-Some.is ∙ c.peek.ensures.byte t));
 }
