@@ -1,11 +1,11 @@
 -- Reading a number digit by digit.
 use Rattle.std.specs.List.{list_all}
-use Rattle.std.proofs.Common.{◌==◌, if◌then◌else◌, ◌&&◌, ◌++◌, length-append, ◌≡◌, ◌≢◌, ℕ, suc, ◌+◌, ◌-◌, ◌*◌, ◌^◌, ◌<◌, ◌≤◌, Bool, true, false, cond, List, [], ◌∷◌, length, drop, Some, None, Result, Ok, Err, refl, sym, ap, arith, eqb, ltb}
+use Rattle.std.proofs.Common.{◌==◌, if◌then◌else◌, ◌&&◌, ◌++◌, length-append, ◌≡◌, ◌≢◌, ℕ, ◌+◌, ◌-◌, ◌*◌, ◌^◌, ◌<◌, ◌≤◌, Bool, true, false, cond, List, [], ◌∷◌, length, drop, Some, None, Result, Ok, Err, refl, sym, ap, arith, eqb, ltb}
 use Rattle.std.specs.Prelude.{slice_get}
 use Rattle.te_model.specs.Network.{is_name_byte}
 use Rattle.std.specs.Char.{is_ascii_digit}
 use Rattle.std.proofs.Math.Utf8.{encode}
-use Rattle.std.proofs.lemmas.Bool.{lt-ltb, le-ltb, ne_eqb}
+use Rattle.std.proofs.lemmas.Bool.{lt-ltb, le-ltb}
 use Rattle.std.proofs.lemmas.Bool.Decides.{nat_tests}
 use Rattle.std.proofs.lemmas.Str.{encode_ascii}
 use Rattle.cert_text.specs.Place.{Place, place}
@@ -78,10 +78,3 @@ letters_more (x ∷ xs) b all here = both (is_name_byte x) (list_all is_name_byt
 
 pub longer : (xs : List ℕ) (b : ℕ) → length xs ≤ 32 → ¬ (length xs ≡ 32) → length (xs ++ b ∷ []) ≤ 32
 longer xs b short other = simp length-append (omega arith)
-
--- a byte is left
-pub some_left : (k b : ℕ) (bs : List ℕ) → Some b ≡ slice_get bs 0 → ◌≡◌ {A = Result Place ℕ} (if length bs == 0 then Ok (place k bs) else Err k) (Err k)
-some_left k b bs first =
-    let long : length bs ≡ suc (length (drop 1 bs)) = ap length (first_is bs b first) in
-    let some : length bs ≢ 0 = omega arith in
-    rw (ne_eqb (length bs) 0 some) refl

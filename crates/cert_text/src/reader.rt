@@ -135,13 +135,12 @@ impl<C: Cursor> Reader<C> {
         ensures room { result ≢ Err Stop.Memory }
         ensures takes { Takes self.old self.new (Reads result) read_number }
     {
-        match self.source.peek() {
-            Some(b) if b.is_ascii_digit() => {
-                self.source.advance();
-                self.digits_after(u64::from(b - b'0'))
-            }
-            _ => Err(self.fault()),
-        }
+        let first = match self.source.peek() {
+            Some(b) if b.is_ascii_digit() => u64::from(b - b'0'),
+            _ => return Err(self.fault()),
+        };
+        self.source.advance();
+        self.digits_after(first)
     }
 
     /// Takes a number within the range.

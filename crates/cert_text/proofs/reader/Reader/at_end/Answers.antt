@@ -1,5 +1,6 @@
-use Rattle.std.proofs.Common.{sym, ◌∙◌}
-use Rattle.cert_text.proofs.Digits.{nothing_left, some_left}
+use Rattle.std.proofs.Common.{sym, ◌∙◌, arith}
+use Rattle.std.proofs.lemmas.Grind.{common_steps}
+use Rattle.cert_text.proofs.Digits.{nothing_left}
 use Rattle.cert_text.proofs.reader.Reader.at_end.Goals as goal
 
 pub returns-in-None-clause-takes : goal.returns-in-None-clause-takes
@@ -9,7 +10,4 @@ returns-in-None-clause-takes g c = record {
 }
 
 pub returns-in-Some-clause-takes : goal.returns-in-Some-clause-takes
-returns-in-Some-clause-takes g c = record {
-  told = c.peek.ensures.told;
-  reads = λ t. rw c.fault.ensures (some_left _ _ _ (sym c.in-Some.is ∙ c.peek.ensures.byte t));
-}
+returns-in-Some-clause-takes g c = grind (arith, common_steps)

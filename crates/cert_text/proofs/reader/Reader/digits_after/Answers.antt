@@ -1,4 +1,4 @@
-use Rattle.std.proofs.Common.{sym, ◌∙◌}
+use Rattle.std.proofs.Common.{◌≢◌, sym, ◌∙◌, arith}
 use Rattle.cert_text.proofs.Digits.{digits_zero, digits_over, digits_more, digits_stop, digits_end}
 use Rattle.cert_text.proofs.reader.Reader.digits_after.Goals as goal
 
@@ -43,6 +43,7 @@ pub loop-b-preserved : goal.loop-b-preserved
 loop-b-preserved g c = λ t.
     let told = c.advance.ensures.told t in
     let so_far = c.loop-b.invariant (c.peek.ensures.told told) in
+    let some : c.loop-b.value ≢ 0 = omega arith in
     let more = digits_more c.loop-b.self.line c.loop-b.value _ c.in-Some.b
-    (sym c.in-Some.is ∙ c.peek.ensures.byte told) (sym c.is_ascii_digit.ensures.value ∙ c.if-not-is_ascii_digit.false) c.if-value-eq0.false c.in-Some-with_digit.ensures.0 in
+    (sym c.in-Some.is ∙ c.peek.ensures.byte told) (sym c.is_ascii_digit.ensures.value ∙ c.if-not-is_ascii_digit.false) some c.in-Some-with_digit.ensures.0 in
     (so_far.0, rw (c.in-Some-with_digit.ensures.1, c.advance.ensures.rest t, c.peek.ensures.same told) (sym more ∙ so_far.1))
