@@ -43,6 +43,25 @@ fn feed_blocks<D: Depot>(
     Ok(())
 }
 
+// The feed, which was given the head, with each block of the file.
+fn feed_rest<D: Depot>(
+    alloc: Global,
+    depot: &mut D,
+    file: &str,
+    mut reader: BlockReader,
+    mut feed: Feed,
+) -> Result<Feed, Fault>
+    requires fed { IsFed (D.gave depot.old (name_of reader)) reader feed (head_of_feed feed) [] }
+    requires name { name_of reader ≡ file.now }
+    ensures { FeedsFile file.now (shown_by D.content D.gave D.faults depot.old)
+        (shown_by D.content D.gave D.faults depot.new) result }
+{
+    match feed_blocks(depot, &mut reader, &mut feed) {
+        Ok(()) => Ok(feed),
+        Err(fault) => Err(answer_to(alloc, file, fault)),
+    }
+}
+
 /// What is found of the certificate that the file of this name gives, as a feed that was given its head and all its
 /// blocks. No more than one of them is kept.
 ///
@@ -51,13 +70,10 @@ pub fn feed_in<D: Depot>(alloc: Global, depot: &mut D, file: &str) -> Result<Fee
     ensures { FeedsFile file.now (shown_by D.content D.gave D.faults depot.old)
         (shown_by D.content D.gave D.faults depot.new) result }
 {
-    let (mut reader, head) = match BlockReader::open(alloc, depot, file) {
+    let (reader, head) = match BlockReader::open(alloc, depot, file) {
         Ok(opened) => opened,
         Err(fault) => return Err(answer_to(alloc, file, fault)),
     };
-    let mut feed = Feed::new(alloc, head)?;
-    match feed_blocks(depot, &mut reader, &mut feed) {
-        Ok(()) => Ok(feed),
-        Err(fault) => Err(answer_to(alloc, file, fault)),
-    }
+    let feed = Feed::new(alloc, head)?;
+    feed_rest(alloc, depot, file, reader, feed)
 }

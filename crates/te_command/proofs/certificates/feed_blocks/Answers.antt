@@ -1,7 +1,11 @@
 use Rattle.std.proofs.Common.{ap, Ok}
 use Rattle.te_ports.specs.Shown.{shown_by}
-use Rattle.te_command.proofs.Feeding.{fed_more, fed_on, fed_whole, may_follow}
+use Rattle.te_command.proofs.Feeding.{fed_more, fed_on, fed_valid, fed_whole, may_follow}
 use Rattle.te_command.proofs.certificates.feed_blocks.Goals as goal
+
+pub block-requires-in-rest-clause-block : goal.block-requires-in-rest-clause-block
+block-requires-in-rest-clause-block g c =
+    fed_valid _ _ _ c.rest.reader c.next.new.self c.rest.feed _ c.rest.invariant (c.in_ok-next.ensures.valid (ap Ok c.if-branch.true)) c.block.ensures
 
 pub block-requires-in-rest-clause-above : goal.block-requires-in-rest-clause-above
 block-requires-in-rest-clause-above g c =
