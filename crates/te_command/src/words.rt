@@ -1,5 +1,5 @@
 //! The words of the command line.
-ghost use Rattle.std.specs.Prelude.{◌≡◌, map, string_bytes};
+ghost use Rattle.std.specs.Prelude.{◌≡◌, [], ◌∷◌, map, string_bytes};
 ghost use Rattle.std.specs.Option.{option_map};
 ghost use Rattle.te_command.specs.Commands.{command_of};
 ghost use Rattle.te_command.specs.Asked.{command_meant};
@@ -43,28 +43,42 @@ pub fn command_of(words: &[String]) -> Option<Command<'_>>
     ensures { option_map command_meant result ≡ command_of (map string_bytes words.now) }
 {
     match words {
-        [word, certificate] if word.as_str() == "check" => Some(Command::Check(Check {
-            certificate: certificate.as_str(),
-        })),
-        [word, certificate] if word.as_str() == "convert" => Some(Command::Convert(Convert {
-            certificate: certificate.as_str(),
-        })),
-        [word, plan] if word.as_str() == "publish" => Some(Command::Publish(Publish {
-            plan: plan.as_str(),
-        })),
-        [word, plan] if word.as_str() == "run" => Some(Command::Run(RunPlan {
-            plan: plan.as_str(),
-        })),
-        [word, certificate, topology] if word.as_str() == "check" => {
-            Some(Command::CheckNetwork(CheckNetwork {
-                certificate: certificate.as_str(),
-                topology: topology.as_str(),
-            }))
-        }
-        [word, nodes, seed] if word.as_str() == "gen" => {
-            let command = generate_of(nodes.as_str(), seed.as_str())?;
-            Some(Command::Generate(command))
-        }
+        [word, file] => command_with_file(word.as_str(), file.as_str()),
+        [word, first, second] => command_with_two(word.as_str(), first.as_str(), second.as_str()),
         _ => None,
+    }
+}
+
+// The command of a word and the name of a file.
+fn command_with_file<'a>(word: &str, file: &'a str) -> Option<Command<'a>>
+    ensures { option_map command_meant result ≡ command_of (word.now ∷ file.now ∷ []) }
+{
+    if word == "check" {
+        Some(Command::Check(Check { certificate: file }))
+    } else if word == "convert" {
+        Some(Command::Convert(Convert { certificate: file }))
+    } else if word == "publish" {
+        Some(Command::Publish(Publish { plan: file }))
+    } else if word == "run" {
+        Some(Command::Run(RunPlan { plan: file }))
+    } else {
+        None
+    }
+}
+
+// The command of a word and two more.
+fn command_with_two<'a>(word: &str, first: &'a str, second: &'a str) -> Option<Command<'a>>
+    ensures { option_map command_meant result ≡ command_of (word.now ∷ first.now ∷ second.now ∷ []) }
+{
+    if word == "check" {
+        Some(Command::CheckNetwork(CheckNetwork {
+            certificate: first,
+            topology: second,
+        }))
+    } else if word == "gen" {
+        let command = generate_of(first, second)?;
+        Some(Command::Generate(command))
+    } else {
+        None
     }
 }
