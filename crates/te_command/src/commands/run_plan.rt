@@ -1,7 +1,17 @@
 //! `run PLAN`: the report of the schemes that a plan compares.
+ghost use Rattle.std.specs.Prelude.{IsTrue};
+ghost use Rattle.te_model.specs.Network.{is_well_formed, node_count};
+ghost use Rattle.traffic_matrix.specs.Limits.{IsSeries};
+ghost use Rattle.plan.specs.Plan.{InRange};
+ghost use Rattle.te_ports.specs.Shown.{shown_by};
+ghost use Rattle.te_command.specs.Reading.{answers};
+ghost use Rattle.te_command.specs.Report.{report_of};
+ghost use Rattle.te_command.specs.Commands.{with_failures};
+ghost use Rattle.te_command.specs.Outcome.{Follows};
+
 use crate::answer::{Answer, Fault};
 use crate::ask::Ask;
-use crate::inputs::{inputs_in, outages_in};
+use crate::inputs::{Inputs, inputs_in, outages_in};
 use std::alloc::Global;
 use te_ports::Depot;
 
@@ -18,14 +28,26 @@ impl<'a> Ask for RunPlan<'a> {
 
     fn answer<D: Depot>(&self, alloc: Global, depot: &mut D) -> Result<Answer, Fault> {
         let inputs = inputs_in(alloc, depot, self.plan)?;
-        let failures = outages_in(alloc, depot, &inputs)?;
-        let text = experiment::report(
-            alloc,
-            &inputs.plan,
-            &inputs.network,
-            &inputs.series,
-            &failures,
-        )?;
-        Ok(Answer::Done(text))
+        report_on(alloc, depot, &inputs)
     }
+}
+
+// The report on these inputs, for which the failures are read.
+fn report_on<D: Depot>(alloc: Global, depot: &mut D, inputs: &Inputs) -> Result<Answer, Fault>
+    requires plan { InRange inputs.now.plan }
+    requires network { IsTrue (is_well_formed inputs.now.network) }
+    requires series { IsSeries (node_count inputs.now.network) inputs.now.series }
+    ensures { Follows (with_failures inputs.now.network inputs.now.series inputs.now.plan.failures
+        (λ failures. answers (report_of inputs.now.plan inputs.now.network inputs.now.series failures)))
+        (shown_by D.content D.gave D.faults depot.old) (shown_by D.content D.gave D.faults depot.new) result }
+{
+    let failures = outages_in(alloc, depot, inputs)?;
+    let text = experiment::report(
+        alloc,
+        &inputs.plan,
+        &inputs.network,
+        &inputs.series,
+        &failures,
+    )?;
+    Ok(Answer::Done(text))
 }
