@@ -1,9 +1,33 @@
 //! The words for the faults of topologies, matrix files, failure files and plans. No bytes are refused for the want of memory.
+ghost use Rattle.std.specs.Prelude.{◌≡◌, ◌++◌};
+ghost use Rattle.te_command.specs.TopologyFile.{topology_reason};
+ghost use Rattle.te_command.specs.MatrixFile.{matrices_reason};
+ghost use Rattle.te_command.specs.FailureFile.{failures_reason};
+ghost use Rattle.te_command.specs.PlanFile.{plan_reason};
+ghost use Rattle.te_command.specs.Refusals.{at_row};
+
 use failure::FailureFault;
 use plan::PlanFault;
 use std::fmt;
 use topology::TopologyFault;
 use traffic_matrix::MatrixFault;
+
+// Words, and the row that they end in where there is one.
+#[derive(Clone, Copy)]
+struct AtRow<'a>(&'a str, Option<u64>);
+
+impl<'a> fmt::Display for AtRow<'a> {
+    ghost use Rattle.std.specs.Prelude.{Some};
+
+    ghost output = { λ words. Some (at_row words.0.now words.1) };
+
+    fn fmt<W: fmt::Write>(&self, f: &mut fmt::Formatter<W>) -> fmt::Result {
+        match self.1 {
+            None => f.write_str(self.0),
+            Some(row) => write!(f, "{}{row}", self.0),
+        }
+    }
+}
 
 /// A fault of a topology, which shows as its words.
 #[derive(Clone, Copy)]
@@ -11,21 +35,27 @@ pub struct TopologyReason(pub TopologyFault);
 
 impl fmt::Display for TopologyReason {
     ghost use Rattle.std.specs.Prelude.{Some};
-    ghost use Rattle.te_command.specs.TopologyFile.{topology_reason};
 
     ghost output = { λ reason. Some (topology_reason reason.0) };
 
     fn fmt<W: fmt::Write>(&self, f: &mut fmt::Formatter<W>) -> fmt::Result {
-        match self.0 {
-            TopologyFault::Header => write!(f, "header"),
-            TopologyFault::Fields(row) => write!(f, "fields at row {row}"),
-            TopologyFault::Name(row) => write!(f, "name at row {row}"),
-            TopologyFault::Number(row) => write!(f, "number at row {row}"),
-            TopologyFault::SelfLink(row) => write!(f, "self link at row {row}"),
-            TopologyFault::TooMany(row) => write!(f, "too many at row {row}"),
-            TopologyFault::Empty => write!(f, "empty"),
-            TopologyFault::Memory => write!(f, "memory"),
-        }
+        write!(f, "{}", topology_words(self.0))
+    }
+}
+
+// The words for a fault of a topology.
+fn topology_words(fault: TopologyFault) -> AtRow<'static>
+    ensures { at_row result.0.now result.1 ≡ topology_reason fault }
+{
+    match fault {
+        TopologyFault::Header => AtRow("header", None),
+        TopologyFault::Fields(row) => AtRow("fields at row ", Some(row)),
+        TopologyFault::Name(row) => AtRow("name at row ", Some(row)),
+        TopologyFault::Number(row) => AtRow("number at row ", Some(row)),
+        TopologyFault::SelfLink(row) => AtRow("self link at row ", Some(row)),
+        TopologyFault::TooMany(row) => AtRow("too many at row ", Some(row)),
+        TopologyFault::Empty => AtRow("empty", None),
+        TopologyFault::Memory => AtRow("memory", None),
     }
 }
 
@@ -35,22 +65,28 @@ pub struct MatrixReason(pub MatrixFault);
 
 impl fmt::Display for MatrixReason {
     ghost use Rattle.std.specs.Prelude.{Some};
-    ghost use Rattle.te_command.specs.MatrixFile.{matrices_reason};
 
     ghost output = { λ reason. Some (matrices_reason reason.0) };
 
     fn fmt<W: fmt::Write>(&self, f: &mut fmt::Formatter<W>) -> fmt::Result {
-        match self.0 {
-            MatrixFault::Header => write!(f, "header"),
-            MatrixFault::Fields(row) => write!(f, "fields at row {row}"),
-            MatrixFault::UnknownNode(row) => write!(f, "unknown node at row {row}"),
-            MatrixFault::Number(row) => write!(f, "number at row {row}"),
-            MatrixFault::Order(row) => write!(f, "order at row {row}"),
-            MatrixFault::Repeated(row) => write!(f, "repeated at row {row}"),
-            MatrixFault::SelfPair(row) => write!(f, "self pair at row {row}"),
-            MatrixFault::TooManySteps(row) => write!(f, "too many steps at row {row}"),
-            MatrixFault::Memory => write!(f, "memory"),
-        }
+        write!(f, "{}", matrices_words(self.0))
+    }
+}
+
+// The words for a fault of a matrix file.
+fn matrices_words(fault: MatrixFault) -> AtRow<'static>
+    ensures { at_row result.0.now result.1 ≡ matrices_reason fault }
+{
+    match fault {
+        MatrixFault::Header => AtRow("header", None),
+        MatrixFault::Fields(row) => AtRow("fields at row ", Some(row)),
+        MatrixFault::UnknownNode(row) => AtRow("unknown node at row ", Some(row)),
+        MatrixFault::Number(row) => AtRow("number at row ", Some(row)),
+        MatrixFault::Order(row) => AtRow("order at row ", Some(row)),
+        MatrixFault::Repeated(row) => AtRow("repeated at row ", Some(row)),
+        MatrixFault::SelfPair(row) => AtRow("self pair at row ", Some(row)),
+        MatrixFault::TooManySteps(row) => AtRow("too many steps at row ", Some(row)),
+        MatrixFault::Memory => AtRow("memory", None),
     }
 }
 
@@ -60,19 +96,25 @@ pub struct FailureReason(pub FailureFault);
 
 impl fmt::Display for FailureReason {
     ghost use Rattle.std.specs.Prelude.{Some};
-    ghost use Rattle.te_command.specs.FailureFile.{failures_reason};
 
     ghost output = { λ reason. Some (failures_reason reason.0) };
 
     fn fmt<W: fmt::Write>(&self, f: &mut fmt::Formatter<W>) -> fmt::Result {
-        match self.0 {
-            FailureFault::Header => write!(f, "header"),
-            FailureFault::Fields(row) => write!(f, "fields at row {row}"),
-            FailureFault::Number(row) => write!(f, "number at row {row}"),
-            FailureFault::NoSuchLink(row) => write!(f, "no such link at row {row}"),
-            FailureFault::Interval(row) => write!(f, "interval at row {row}"),
-            FailureFault::Memory => write!(f, "memory"),
-        }
+        write!(f, "{}", failures_words(self.0))
+    }
+}
+
+// The words for a fault of a failure file.
+fn failures_words(fault: FailureFault) -> AtRow<'static>
+    ensures { at_row result.0.now result.1 ≡ failures_reason fault }
+{
+    match fault {
+        FailureFault::Header => AtRow("header", None),
+        FailureFault::Fields(row) => AtRow("fields at row ", Some(row)),
+        FailureFault::Number(row) => AtRow("number at row ", Some(row)),
+        FailureFault::NoSuchLink(row) => AtRow("no such link at row ", Some(row)),
+        FailureFault::Interval(row) => AtRow("interval at row ", Some(row)),
+        FailureFault::Memory => AtRow("memory", None),
     }
 }
 
@@ -82,19 +124,26 @@ pub struct PlanReason(pub PlanFault);
 
 impl fmt::Display for PlanReason {
     ghost use Rattle.std.specs.Prelude.{Some};
-    ghost use Rattle.te_command.specs.PlanFile.{plan_reason};
 
     ghost output = { λ reason. Some (plan_reason reason.0) };
 
     fn fmt<W: fmt::Write>(&self, f: &mut fmt::Formatter<W>) -> fmt::Result {
-        match self.0 {
-            PlanFault::NotJson => write!(f, "not json"),
-            PlanFault::UnknownKey => write!(f, "unknown key"),
-            PlanFault::Missing(key) => write!(f, "missing {}", key.word()),
-            PlanFault::Kind(key) => write!(f, "kind of {}", key.word()),
-            PlanFault::Range(key) => write!(f, "range of {}", key.word()),
-            PlanFault::SchemeName(key) => write!(f, "scheme name of {}", key.word()),
-            PlanFault::Memory => write!(f, "memory"),
-        }
+        let (words, key) = plan_words(self.0);
+        write!(f, "{words}{key}")
+    }
+}
+
+// The words for a fault of a plan, and those of the key that they end in where there is one.
+fn plan_words(fault: PlanFault) -> (&'static str, &'static str)
+    ensures { result.0.now ++ result.1.now ≡ plan_reason fault }
+{
+    match fault {
+        PlanFault::NotJson => ("not json", ""),
+        PlanFault::UnknownKey => ("unknown key", ""),
+        PlanFault::Missing(key) => ("missing ", key.word()),
+        PlanFault::Kind(key) => ("kind of ", key.word()),
+        PlanFault::Range(key) => ("range of ", key.word()),
+        PlanFault::SchemeName(key) => ("scheme name of ", key.word()),
+        PlanFault::Memory => ("memory", ""),
     }
 }
