@@ -1,8 +1,9 @@
 //! `publish PLAN`: the certificate of the routing for which a plan asks.
-ghost use Rattle.std.specs.Prelude.{◌≡◌, ◌≤◌, ◌<◌, IfOk, IsTrue, string_bytes};
+ghost use Rattle.std.specs.Prelude.{◌≡◌, ◌≤◌, ◌<◌, IfOk, IfErr, IsTrue, string_bytes};
 ghost use Rattle.te_model.specs.Network.{is_well_formed, link_count, node_count};
 ghost use Rattle.traffic_matrix.specs.Limits.{IsSeries};
 ghost use Rattle.plan.specs.Plan.{InRange};
+ghost use Rattle.te_command.specs.declared.answer.Fault.TheVariants.{Memory as OutOfMemory};
 ghost use Rattle.te_command.specs.Publish.{IsPublication, no_path_line};
 ghost use Rattle.te_command.specs.Outcome.{status_of, answer_text};
 
@@ -29,7 +30,7 @@ impl<'a> Ask for Publish<'a> {
 
     fn answer<D: Depot>(&self, alloc: Global, depot: &mut D) -> Result<Answer, Fault> {
         let inputs = inputs_in(alloc, depot, self.plan)?;
-        Ok(certify(alloc, &inputs.plan, &inputs.network, &inputs.series)?)
+        certify(alloc, &inputs.plan, &inputs.network, &inputs.series)
     }
 }
 
@@ -51,12 +52,13 @@ fn certify(
     plan: &Experiment,
     network: &Network,
     series: &Series,
-) -> Result<Answer, Memory>
+) -> Result<Answer, Fault>
     requires plan { InRange plan.now }
     requires network { IsTrue (is_well_formed network.now) }
     requires links { 1 ≤ link_count network.now }
     requires series { IsSeries (node_count network.now) series.now }
-    ensures { IfOk result (λ answer. IsPublication plan.now network.now series.now (status_of answer) (answer_text answer)) }
+    ensures answer { IfOk result (λ answer. IsPublication plan.now network.now series.now (status_of answer) (answer_text answer)) }
+    ensures memory { IfErr result (λ fault. fault ≡ OutOfMemory) }
 {
     match experiment::certificate_file(alloc, plan, network, series) {
         Ok(file) => Ok(Answer::Done(file)),
@@ -65,6 +67,6 @@ fn certify(
             let line = no_path_line(alloc, network, pair)?;
             Ok(Answer::NoPath(line.into_bytes()))
         }
-        Err(SchemeFault::Memory) => Err(Memory),
+        Err(SchemeFault::Memory) => Err(Fault::Memory),
     }
 }
