@@ -3,7 +3,7 @@ ghost use Rattle.std.specs.Prelude.{◌≡◌, ◌*◌, ◌<◌, ◌≤◌, ℕ,
 ghost use Rattle.best_blocks.specs.Quotient.{IsGreatestAt};
 
 /// A pair, its share, and its distance.
-#[derive(Clone, Copy, Debug, PartialEq, Eq)]
+#[derive(Clone, Copy)]
 pub struct Quotient {
     pub pair: usize,
     pub share: u64,

@@ -18,7 +18,7 @@ use routing::Routing;
 use te_model::{DemandSet, Network, SHARE_UNIT};
 
 /// By what the weights of a block are scaled: `a / b`.
-#[derive(Clone, Copy, Debug, PartialEq, Eq)]
+#[derive(Clone, Copy)]
 pub struct Scale {
     pub a: u64,
     pub b: u64,

@@ -22,3 +22,13 @@ loop-high-preserved c =
       kept.3,
       λ b above small. balances_no_more lower upper n shares distance middle b above fails,
     )
+
+pub returns-clause-some : goal.returns-clause-some
+returns-clause-some c =
+    let kept = c.loop-high.invariant in
+    record {
+      some = kept.0;
+      small = omega arith;
+      balanced = kept.3;
+      greatest = λ b above small. kept.4 b (omega (arith, above)) small;
+    }
