@@ -1,7 +1,7 @@
 //! The ways to go on after a failure.
 
 /// How traffic goes on where links of its paths have failed.
-#[derive(Clone, Copy, Debug, PartialEq, Eq)]
+#[derive(Clone, Copy, Debug)]
 pub enum Mode {
     /// As before: what comes to a failed link is lost.
     Keep,
