@@ -1,5 +1,5 @@
 -- The words that a drawn network takes, and a node or two links more.
-use Rattle.std.proofs.Common.{ℕ, ◌+◌, ◌-◌, ◌*◌, ◌/◌, ◌%◌, ◌≤◌, ◌≡◌, ◌∙◌, refl, sym, ap, List, [], ◌++◌, cond, arith}
+use Rattle.std.proofs.Common.{ℕ, ◌+◌, ◌-◌, ◌*◌, ◌/◌, ◌%◌, ◌≤◌, ◌≡◌, ◌∙◌, refl, sym, ap, List, [], ◌∷◌, ◌++◌, append_assoc, cond, arith}
 use Rattle.std.specs.List.{flat_map, range_with_len}
 use Rattle.std.proofs.lemmas.Bool.{le-leb}
 use Rattle.std.proofs.lemmas.List.{flat_map_more}
@@ -32,6 +32,18 @@ pub drawn_links : (seed m i j : ℕ) (rng : ChaCha) → rng ≡ generator seed 2
 drawn_links seed m i j rng is =
     ap (λ (w : ℕ). both_ways i j w (word_on rng 1)) (word_of seed m 0 m rng is (omega arith))
     ∙ ap (both_ways i j (word_of_seed seed 2 m)) (word_of seed m 1 (m + 1) rng is refl)
+
+-- the links that the next two words give, after those before
+pub both_added : (i j a b n : ℕ) (rng next : ChaCha) (old one both : List Link) (there back : Link) →
+    a ≡ word_at 4 rng.key rng.stream rng.word_pos → b ≡ word_at 4 next.key next.stream next.word_pos → next ≡ record rng { word_pos = rng.word_pos + 1 } →
+    n ≡ a % 10 → ◌≡◌ {A = Link} there (record { tail = i; head = j; capacity = 1000 * (1 + n); cost = 1 + b % 10 }) →
+    ◌≡◌ {A = Link} back (record { tail = j; head = i; capacity = 1000 * (1 + n); cost = 1 + b % 10 }) → one ≡ old ++ there ∷ [] → both ≡ one ++ back ∷ [] →
+    both ≡ old ++ both_ways i j (word_on rng 0) (word_on rng 1)
+both_added i j a b n rng next old one both there back is_a is_b is_next is_n is_there is_back is_one is_both =
+    let none : rng.word_pos ≡ rng.word_pos + 0 = omega arith in
+    let first : a ≡ word_on rng 0 = is_a ∙ ap (λ (p : ℕ). word_at 4 rng.key rng.stream p) none in
+    let second : b ≡ word_on rng 1 = is_b ∙ ap (λ (r : ChaCha). word_at 4 r.key r.stream r.word_pos) is_next in
+    is_both ∙ (ap (λ (l : List Link). l ++ back ∷ []) is_one ∙ (append_assoc old (there ∷ []) (back ∷ []) ∙ rw (is_there, is_back, is_n, first, second) refl))
 
 -- the links of one node more
 pub links_more : (f : ℕ → List Link) (start before after piece : List Link) (k : ℕ) → before ≡ start ++ flat_map f (range_with_len 0 k) →
