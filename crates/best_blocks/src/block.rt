@@ -1,6 +1,6 @@
 //! Best blocks.
 ghost use Rattle.std.specs.Prelude.{◌≡◌, ◌^◌, ◌<◌, ◌≤◌, ℕ, IfOk, IfSome, IfNone, All, IsTrue, false, length, slice_index};
-ghost use Rattle.te_model.specs.Network.{is_well_formed, link_count};
+ghost use Rattle.te_model.specs.Network.{is_well_formed, link_count, node_count};
 ghost use Rattle.te_model.specs.declared.certificate.Block.{Block};
 ghost use Rattle.te_model.specs.declared.units.TheConstants.{SHARE_UNIT};
 ghost use Rattle.best_blocks.specs.Best.{AreBalanced, IsBalance, IsBestBlock, IsBestScale};
@@ -140,6 +140,42 @@ pub fn best_block(
     }
 }
 
+/// The link, on which some share is above 0, with the shares that the pairs have there.
+fn link_with_shares(
+    alloc: Global,
+    net: &Network,
+    routing: &Routing,
+    set: &DemandSet,
+    link: u32,
+) -> Result<SharedLink, Memory>
+    requires routing { IsRoutingWithin net.now routing.now.routes }
+    requires some { HasShare routing.now.routes link }
+    ensures link { IfOk result (λ l. l.link ≡ link) }
+    ensures shared { IfOk result (IsSharedLink net.now routing.now.routes set.now) }
+{
+    let all = Shares::new(alloc, net, routing)?;
+    shared_link(alloc, net, routing, set, link, all.on(link))
+}
+
+/// The metric of a copy of the weights, with the rows that the link needs.
+fn metric_by(
+    alloc: Global,
+    net: &Network,
+    routing: &Routing,
+    shared: &SharedLink,
+    weights: &[u64],
+) -> Result<Metric, Memory>
+    requires network { IsTrue (is_well_formed net.now) }
+    requires marks { length shared.now.marks ≡ node_count net.now }
+    requires weights { length weights.now ≡ link_count net.now }
+    requires small { All (λ w. w ≤ 2 ^ 28) weights.now }
+    ensures metric { IfOk result (IsMetric net.now routing.now.routes shared.now.marks) }
+    ensures weights { IfOk result (λ m. m.weights ≡ weights.now) }
+{
+    let copied = Vec::from_slice(alloc, weights)?;
+    metric_of(alloc, net, routing, shared.marks.as_slice(), copied)
+}
+
 /// The best block of a link on which some share is above 0, for the weights, or `None` exactly
 /// where there is none: the block whose `a / b`, by which the weights are scaled, is least
 /// (after Applegate and Cohen, 2003).
@@ -162,9 +198,7 @@ pub fn scale(
     ensures best { IfOk result (λ o. IfSome o (IsBestBlock net.now routing.now.routes set.now link weights.now)) }
     ensures none { IfOk result (λ o. IfNone o ((b : Block) → IsBestBlock net.now routing.now.routes set.now link weights.now b → ⊥)) }
 {
-    let all = Shares::new(alloc, net, routing)?;
-    let shared = shared_link(alloc, net, routing, set, link, all.on(link))?;
-    let weights = Vec::from_slice(alloc, weights)?;
-    let metric = metric_of(alloc, net, routing, shared.marks.as_slice(), weights)?;
+    let shared = link_with_shares(alloc, net, routing, set, link)?;
+    let metric = metric_by(alloc, net, routing, &shared, weights)?;
     best_block(alloc, net, routing, set, &shared, &metric)
 }
