@@ -5,7 +5,7 @@ ghost use Rattle.flow_sim.specs.Result.{sum_of_results, sums_of, FitsWords, IsSu
 use te_model::Items;
 
 /// What became of one pair's demand in a step. Each number is in units of demand, and `offered` is the sum of the others.
-#[derive(Clone, Copy, Debug, PartialEq, Eq)]
+#[derive(Clone, Copy)]
 pub struct PairResult {
     /// The demand of the pair.
     pub offered: u64,
