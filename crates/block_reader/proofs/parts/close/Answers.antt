@@ -21,6 +21,9 @@ returns-in-Ok-clause-closes g c =
     let fill = c.in_ok-fill.ensures in
     closes _ _ c.args.lines.now c.fill.new.self c.in-Ok.ensures.closes.0 fill.behind fill.stood fill.enough fill.line c.in-Ok.ensures.closes.1
 
+pub returns-in-Err-clause-closes : goal.returns-in-Err-clause-closes
+returns-in-Err-clause-closes g c = tt
+
 pub returns-in-Err-clause-reads : goal.returns-in-Err-clause-reads
 returns-in-Err-clause-reads g c = reads_then _ _ _ _ tt (Err c.stopped.result) c.in_ok-fill.ensures.reads (reads_err _ _ _ c.stopped.result c.stopped.ensures.reads)
 
