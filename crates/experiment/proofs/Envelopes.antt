@@ -1,8 +1,10 @@
 -- The envelope of a series is within the limits.
-use Rattle.std.proofs.Common.{ℕ, ◌^◌, ◌≤◌, ◌<◌, List, [], ◌∷◌, length, max, min, arith, slice_index}
+use Rattle.std.proofs.Common.{ℕ, ◌+◌, ◌^◌, ◌≤◌, ◌<◌, ◌≡◌, ◌∙◌, sym, ap, List, [], ◌∷◌, length, get_or, take, max, min, arith, rules, slice_index}
 use Rattle.std.specs.Prelude.{All}
+use Rattle.std.specs.Ordering.{ord_max, nat_cmp}
 use Rattle.std.specs.List.{fold}
 use Rattle.std.proofs.Math.Nat.{min-le_left}
+use Rattle.std.proofs.lemmas.List.Sums.{fold_more}
 use Rattle.std.proofs.lemmas.List.Elements.{All-get_or, All-head, All-tail}
 use Rattle.std.proofs.lemmas.List.FromFn.{get_or-map-range_with_len, length-map-range_with_len}
 use Rattle.te_model.specs.declared.demand.Matrix.{Matrix}
@@ -11,6 +13,19 @@ use Rattle.best_blocks.specs.Conditions.{IsSetWithin}
 use Rattle.traffic_matrix.specs.declared.series.Series.{Series}
 use Rattle.traffic_matrix.specs.Limits.{IsSeries}
 use Rattle.experiment.specs.Envelope.{envelope_of, greatest_demand, least_demand}
+
+pub ord_max_is : (a b : ℕ) → ord_max nat_cmp a b ≡ max a b
+ord_max_is a b = search rules
+
+-- one step more, of which the demand is joined to what is so far
+pub demand_more : (join : ℕ → ℕ → ℕ) (first : ℕ) (steps : List Matrix) (p i so_far demand result : ℕ) (step : Matrix) → i < length steps →
+    step ≡ get_or steps i step → so_far ≡ fold (λ d step. join d (slice_index step.demand p)) first (take i steps) →
+    demand ≡ slice_index step.demand p → result ≡ join so_far demand →
+    result ≡ fold (λ d step. join d (slice_index step.demand p)) first (take (i + 1) steps)
+demand_more join first steps p i so_far demand result step inside at is read joined =
+    joined ∙ ap (λ d. join d demand) is
+    ∙ ap (join (fold (λ d (step : Matrix). join d (slice_index step.demand p)) first (take i steps))) (read ∙ ap (λ (step : Matrix). slice_index step.demand p) at)
+    ∙ sym (fold_more (λ d (step : Matrix). join d (slice_index step.demand p)) first steps i step inside)
 
 -- what is the least of more numbers is no more
 least_below : (steps : List Matrix) (p x : ℕ) → fold (λ least step. min least (slice_index step.demand p)) x steps ≤ x
