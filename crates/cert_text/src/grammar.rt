@@ -4,7 +4,7 @@
 ghost use Rattle.std.specs.Prelude.{◌≡◌, ◌<◌, ◌≤◌, true, false, IfOk};
 ghost use Rattle.cert_text.specs.Place.{Reads, Passes};
 ghost use Rattle.cert_text.specs.Takes.{Takes};
-ghost use Rattle.cert_text.specs.Reading.{narrow_number, read_many, read_next_narrow};
+ghost use Rattle.cert_text.specs.Reading.{narrow_number, read_next_narrow};
 ghost use Rattle.te_model.specs.Shape.{is_count};
 ghost use Rattle.cert_text.specs.Fits.{IsWord, IsNamed, FitsLink, FitsNetwork, FitsPath, FitsPair, FitsRoutes, FitsList, FitsSet, FitsHead, FitsRow, FitsSides, FitsBlock};
 ghost use Rattle.cert_text.specs.BlockRest.{read_block_rest};
@@ -514,33 +514,19 @@ pub fn counts_of_head(head: &Head) -> Counts
     }
 }
 
-// So many blocks, whose lines are counted as the head says.
-fn blocks<C: Cursor>(
-    r: &mut Reader<C>,
-    alloc: Global,
-    head: &Head,
-    count: u64,
-) -> Result<Items<Block>, Stop>
-    requires { FitsHead (limits_of head.now.format) head.now }
-    ensures takes { Takes r.old r.new (Reads result)
-        (read_many count (read_block (limits_of head.now.format) narrow_number (counts_of head.now))) }
-{
-    let limits = limits_of(head.format);
-    let counts = counts_of_head(head);
-    let lines = BlockLines {
-        limits: &limits,
-        counts: &counts,
-    };
-    many(r, alloc, count, &lines)
-}
-
 /// A whole certificate of either format, whether or not its rules hold.
 #[tactic(auto, unfolding(crate::specs::Grammar::read_certificate))]
 pub fn certificate<C: Cursor>(r: &mut Reader<C>, alloc: Global) -> Result<Certificate, Stop>
     ensures takes { Takes r.old r.new (Reads result) (read_certificate narrow_number) }
 {
     let (head, count) = opening(r, alloc)?;
-    let blocks = blocks(r, alloc, &head, count)?;
+    let limits = limits_of(head.format);
+    let counts = counts_of_head(&head);
+    let lines = BlockLines {
+        limits: &limits,
+        counts: &counts,
+    };
+    let blocks = many(r, alloc, count, &lines)?;
     closing(r)?;
     Ok(Certificate { head, blocks })
 }

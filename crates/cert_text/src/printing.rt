@@ -8,8 +8,7 @@ ghost use Rattle.te_model.specs.Text.{text};
 use itoa::{Buffer, Integer};
 use std::alloc::{AllocError, Global};
 use te_model::{
-    Block, Certificate, DemandSet, Head, Link, Matrix, Memory, Name, Network, PairRoutes,
-    PathShare, Row,
+    Block, Certificate, DemandSet, Head, Link, Memory, Name, Network, PairRoutes, PathShare, Row,
 };
 
 fn number<I: Integer>(out: &mut Vec<u8>, n: I) -> Result<(), AllocError>
@@ -135,32 +134,24 @@ fn all_pairs(out: &mut Vec<u8>, routes: &[PairRoutes]) -> Result<(), AllocError>
     Ok(())
 }
 
-fn margin_lines(out: &mut Vec<u8>, num: u64, den: u64, base: &Matrix) -> Result<(), AllocError>
-    ensures { OnOk result (out.new.items ≡ out.old.items ++ set_text (DemandSet.Margin num den base.now)) }
-{
-    out.extend_from_slice(b"set margin ")?;
-    number(out, num)?;
-    spaced(out, den)?;
-    end_line(out)?;
-    listing(out, b"base", base.demand.as_slice())
-}
-
-fn box_lines(out: &mut Vec<u8>, lower: &Matrix, upper: &Matrix) -> Result<(), AllocError>
-    ensures { OnOk result (out.new.items ≡ out.old.items ++ set_text (DemandSet.Box lower.now upper.now)) }
-{
-    out.extend_from_slice(b"set box")?;
-    end_line(out)?;
-    listing(out, b"lower", lower.demand.as_slice())?;
-    listing(out, b"upper", upper.demand.as_slice())
-}
-
 fn set_lines(out: &mut Vec<u8>, set: &DemandSet) -> Result<(), AllocError>
     ensures { OnOk result (out.new.items ≡ out.old.items ++ set_text set.now) }
 {
     match set {
         DemandSet::All => out.extend_from_slice(b"set all\n"),
-        DemandSet::Margin { num, den, base } => margin_lines(out, *num, *den, base),
-        DemandSet::Box { lower, upper } => box_lines(out, lower, upper),
+        DemandSet::Margin { num, den, base } => {
+            out.extend_from_slice(b"set margin ")?;
+            number(out, *num)?;
+            spaced(out, *den)?;
+            end_line(out)?;
+            listing(out, b"base", base.demand.as_slice())
+        }
+        DemandSet::Box { lower, upper } => {
+            out.extend_from_slice(b"set box")?;
+            end_line(out)?;
+            listing(out, b"lower", lower.demand.as_slice())?;
+            listing(out, b"upper", upper.demand.as_slice())
+        }
     }
 }
 
