@@ -5,15 +5,19 @@ ghost use Rattle.cert_text.specs.declared.fault.CertFault.TheVariants.{Memory as
 
 use std::alloc::{AllocError, AllocFailed};
 use te_model::{Memory, RuleFault};
+use thiserror::Error;
 
 /// Why no certificate is read.
-#[derive(Clone, Copy, PartialEq, Eq, Debug, Drop)]
+#[derive(Clone, Copy, PartialEq, Eq, Debug, Drop, Error)]
 pub enum CertFault {
     /// The first line, counted from 1, at which the bytes leave the format.
+    #[error("shape at line {0}")]
     Shape(u64),
     /// The file has the right shape, and a rule fails: the one of the least number, at its least place.
+    #[error("rule V{} at {}", .0.number, .0.place)]
     Rule(RuleFault),
     /// There was not enough memory.
+    #[error("memory")]
     Memory,
 }
 

@@ -57,8 +57,5 @@ pub fn read_and_print(alloc: Global, bytes: &[u8]) -> Result<Vec<u8>, CertFault>
     ensures same { IfOk result (λ file. file.items ≡ bytes.now) }
 {
     let cert = read(alloc, bytes)?;
-    match print(alloc, &cert) {
-        Ok(file) => Ok(file),
-        Err(_) => Err(CertFault::Memory),
-    }
+    Ok(print(alloc, &cert)?)
 }
