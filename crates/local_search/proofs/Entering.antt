@@ -6,13 +6,11 @@ use Rattle.std.proofs.lemmas.List.{get_or_past, get_or-set_same, get_or-set_othe
 use Rattle.std.proofs.lemmas.List.Elements.{All-get_or, All-weaker}
 use Rattle.std.proofs.lemmas.List.Folds.{list_any_more, list_any_none}
 use Rattle.te_model.specs.declared.network.Network.{Network}
-use Rattle.te_model.specs.declared.route.PathShare.{PathShare}
 use Rattle.te_model.specs.declared.route.PairRoutes.{PairRoutes}
 use Rattle.te_model.specs.Network.{link_count}
 use Rattle.te_model.specs.Path.{has_number, is_path, no_routes, routes_at}
 use Rattle.te_model.specs.PathRouting.{IsPathRouting, IsPathSplit}
 use Rattle.te_model.proofs.Chains.{path_links}
-use Rattle.routing.specs.Merge.{links_at, no_path}
 use Rattle.local_search.specs.Pairs.{ArePairsOn, HaveLinksBelow, IsPairEntered, IsPairList, holds, pairs_on, some_holds}
 
 -- a list of pairs below n has no other

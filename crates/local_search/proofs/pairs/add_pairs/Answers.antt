@@ -1,12 +1,34 @@
-use Rattle.std.proofs.Common.{◌≡◌, ◌<◌, List, [], length, arith, ap, ◌∙◌, subst}
+use Rattle.std.proofs.Common.{◌≡◌, ℕ, ◌<◌, List, [], All, length, get_or, arith, ap, sym, ◌∙◌, subst}
 use Rattle.std.proofs.lemmas.List.{get_or_default}
 use Rattle.std.proofs.lemmas.List.Elements.{All-get_or}
 use Rattle.te_model.specs.declared.route.PathShare.{PathShare}
 use Rattle.te_model.specs.declared.route.PairRoutes.{PairRoutes}
 use Rattle.te_model.specs.Path.{no_routes, routes_at}
-use Rattle.local_search.specs.Pairs.{IsPairEntered, IsPairList, pairs_on, some_holds}
+use Rattle.local_search.specs.Pairs.{HaveLinksBelow, IsPairEntered, IsPairList, pairs_on, some_holds}
 use Rattle.local_search.proofs.Entering.{all_entered, lists_weaker, pair_entered}
 use Rattle.local_search.proofs.pairs.add_pairs.Goals as goal
+
+-- paths that are those of a pair of the list have the links that all have
+links_of : (routes : List PairRoutes) (p n m : ℕ) (r : PairRoutes) (paths : List PathShare) → p < length routes → paths ≡ (get_or routes p r).paths → m ≡ n →
+    All (λ r. HaveLinksBelow n r.paths) routes → HaveLinksBelow m paths
+links_of routes p n m r paths below is same all =
+    let own : paths ≡ (routes_at routes p).paths = is ∙ ap (λ (r : PairRoutes). r.paths) (get_or_default routes p r no_routes below) in
+    subst (λ k. HaveLinksBelow k paths) (sym same)
+    (subst (HaveLinksBelow n) (sym own) (All-get_or (λ r. HaveLinksBelow n r.paths) routes p no_routes below all))
+
+pub add_pair-requires-clause-links : goal.add_pair-requires-clause-links
+add_pair-requires-clause-links c =
+    links_of c.args.routes.now c.loop-p.p (length c.args.table.now) (length c.loop-p.table) c.index-routes-p.result c.as_slice.result.now c.loop-p-test.true
+    c.as_slice.ensures c.loop-p.auto.table c.requires.links
+
+pub add_pair-requires-in-loop-p-clause-links : goal.add_pair-requires-in-loop-p-clause-links
+add_pair-requires-in-loop-p-clause-links c =
+    links_of c.args.others.now c.loop-p.p (length c.args.table.now) (length c.add_pair.new.table) c.index-others-p.result c.as_slice-in-loop-p.result.now
+    (omega (arith, c.loop-p-test.true, c.requires.pairs)) c.as_slice-in-loop-p.ensures
+    (c.in_ok-add_pair.ensures.entered.count ∙ c.loop-p.auto.table) c.requires.other_links
+
+pub add_pair-requires-in-loop-p-clause-order : goal.add_pair-requires-in-loop-p-clause-order
+add_pair-requires-in-loop-p-clause-order c = c.in_ok-add_pair.ensures.order
 
 pub add_pair-requires-clause-order : goal.add_pair-requires-clause-order
 add_pair-requires-clause-order c = lists_weaker c.loop-p.p c.loop-p.table c.loop-p.invariant.order

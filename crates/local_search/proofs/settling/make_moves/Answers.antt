@@ -1,8 +1,9 @@
-use Rattle.std.proofs.Common.{◌≡◌, List, Option, Some, None, arith, refl, sym, ◌∙◌, subst}
+use Rattle.std.proofs.Common.{◌≡◌, ◌<◌, inl, List, length, Option, Some, None, arith, refl, sym, ◌∙◌, subst}
 use Rattle.std.specs.Prelude.{IfNone, IfSome}
 use Rattle.te_model.specs.declared.route.PairRoutes.{PairRoutes}
 use Rattle.te_model.specs.Network.{link_count}
 use Rattle.te_model.specs.Path.{routes_at}
+use Rattle.te_model.proofs.WellFormed.{few_links}
 use Rattle.routing.specs.Merge.{links_at}
 use Rattle.routing.specs.Routes.{AreDemands}
 use Rattle.routing.specs.Utilisation.{parts}
@@ -14,6 +15,70 @@ use Rattle.local_search.proofs.Holders.{holders_stay}
 use Rattle.local_search.proofs.MovedLoads.{loads_small}
 use Rattle.local_search.proofs.Settled.{settled_more}
 use Rattle.local_search.proofs.settling.make_moves.Goals as goal
+
+-- the step that was found
+can_of : (routes candidates : List PairRoutes) (o : Option Move) (step : Move) → o ≡ Some step →
+    IfSome o (λ m. CanMove routes candidates m.pair m.from (links_at (routes_at candidates m.pair).paths m.target.candidate) m.target.size) →
+    CanMove routes candidates step.pair step.from (links_at (routes_at candidates step.pair).paths step.target.candidate) step.target.size
+can_of routes candidates o step is some =
+    subst (λ (o : Option Move). IfSome o (λ m. CanMove routes candidates m.pair m.from (links_at (routes_at candidates m.pair).paths m.target.candidate)
+    m.target.size)) is some
+
+place_of : (candidates : List PairRoutes) (o : Option Move) (step : Move) → o ≡ Some step →
+    IfSome o (λ m. m.target.candidate < length (routes_at candidates m.pair).paths) → step.target.candidate < length (routes_at candidates step.pair).paths
+place_of candidates o step is some = subst (λ (o : Option Move). IfSome o (λ m. m.target.candidate < length (routes_at candidates m.pair).paths)) is some
+
+pub moves-init : goal.moves-init
+moves-init c = record {
+  routing = c.requires.routing;
+  pairs = refl;
+  lower = omega arith;
+  only = λ p links has. inl has;
+  are_loads = c.requires.loads;
+}
+
+pub next_move-requires-clause-network : goal.next_move-requires-clause-network
+next_move-requires-clause-network c = c.requires.network
+
+pub next_move-requires-clause-loads : goal.next_move-requires-clause-loads
+next_move-requires-clause-loads c = c.moves.invariant.are_loads
+
+pub carry_move-requires-clause-pair : goal.carry_move-requires-clause-pair
+carry_move-requires-clause-pair c = (can_of c.moves.routes c.args.candidates.now _ c.in-Some.step c.in-Some.is c.in_ok-step.ensures.some).pair
+
+pub carry_move-requires-clause-from : goal.carry_move-requires-clause-from
+carry_move-requires-clause-from c = (can_of c.moves.routes c.args.candidates.now _ c.in-Some.step c.in-Some.is c.in_ok-step.ensures.some).path
+
+pub carry_move-requires-clause-to : goal.carry_move-requires-clause-to
+carry_move-requires-clause-to c = place_of c.args.candidates.now _ c.in-Some.step c.in-Some.is c.in_ok-step.ensures.place
+
+pub carry_move-requires-clause-links : goal.carry_move-requires-clause-links
+carry_move-requires-clause-links c = omega (arith, few_links c.args.net.now c.requires.network, c.moves.invariant.are_loads.count)
+
+pub take_move-requires-clause-pair : goal.take_move-requires-clause-pair
+take_move-requires-clause-pair c = (can_of c.moves.routes c.args.candidates.now _ c.in-Some.step c.in-Some.is c.in_ok-step.ensures.some).pair
+
+pub take_move-requires-clause-from : goal.take_move-requires-clause-from
+take_move-requires-clause-from c = (can_of c.moves.routes c.args.candidates.now _ c.in-Some.step c.in-Some.is c.in_ok-step.ensures.some).path
+
+pub take_move-requires-clause-to : goal.take_move-requires-clause-to
+take_move-requires-clause-to c = place_of c.args.candidates.now _ c.in-Some.step c.in-Some.is c.in_ok-step.ensures.place
+
+pub moves-smaller : goal.moves-smaller
+moves-smaller c =
+    let net = c.args.net.now in
+    let demand = c.args.matrix.now.demand in
+    let routes = c.moves.routes in
+    let step = c.in-Some.step in
+    let improves =
+    subst (λ (o : Option Move). IfSome o (λ m. (moved : List PairRoutes) → IsMoved routes m.pair m.from
+    (links_at (routes_at c.args.candidates.now m.pair).paths m.target.candidate) m.target.size moved →
+    ImprovesBy1024th (parts net routes demand) (parts net moved demand))) c.in-Some.is c.in_ok-step.ensures.improves
+    in
+    (improves c.take_move.new.routes c.in_ok-take_move.ensures).0
+
+pub returns-clause-settled : goal.returns-clause-settled
+returns-clause-settled c = c.moves.invariant
 
 pub next_move-requires-clause-splits : goal.next_move-requires-clause-splits
 next_move-requires-clause-splits c = splits_of c.args.net.now c.moves.routes c.moves.invariant.routing
