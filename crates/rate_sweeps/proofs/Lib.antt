@@ -6,3 +6,4 @@ pub mod Shifted
 pub mod Squares
 pub mod SweepLoads
 pub mod Turning
+pub mod Bounding

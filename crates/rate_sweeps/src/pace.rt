@@ -21,7 +21,7 @@ const FIRST_PARTS: u64 = 8;
 const LAST_PARTS: u64 = 2048;
 
 /// How a descent goes on.
-#[derive(Clone, Copy, Debug, PartialEq, Eq)]
+#[derive(Clone, Copy)]
 pub struct Pace {
     /// A turn takes one of so many parts of a weight.
     pub parts: u64,

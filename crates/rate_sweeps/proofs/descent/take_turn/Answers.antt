@@ -106,3 +106,14 @@ returns-clause-made c =
     }
     in
     (made, c.in_ok-routing.ensures.shifts, turn)
+
+pub shift_dearest-requires-clause-routing : goal.shift_dearest-requires-clause-routing
+shift_dearest-requires-clause-routing c = c.requires.descent.3.routing
+
+pub shift_dearest-requires-clause-demands : goal.shift_dearest-requires-clause-demands
+shift_dearest-requires-clause-demands c =
+    subst (λ n. AreDemands n c.args.matrix.now.demand) (sym (same_count c.args.descent.routing.routes c.requires.descent.0 c.requires.descent.3.routing_pairs))
+    c.requires.descent.2
+
+pub shift_dearest-requires-clause-parts : goal.shift_dearest-requires-clause-parts
+shift_dearest-requires-clause-parts c = (c.requires.descent.3.pace.some, c.requires.descent.3.pace.parts)

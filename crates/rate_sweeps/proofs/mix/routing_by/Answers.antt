@@ -1,5 +1,6 @@
-use Rattle.std.proofs.Common.{◌≡◌, ℕ, ◌<◌, List, [], ◌∷◌, ◌++◌, true, length, map, get_or, arith, ap, sym, ◌∙◌, subst}
+use Rattle.std.proofs.Common.{◌≡◌, ℕ, ◌<◌, List, [], ◌∷◌, ◌++◌, true, length, map, get_or, arith, ap, sym, ◌∙◌, subst, All, ◌≤◌}
 use Rattle.std.proofs.lemmas.List.{get_or-map, get_or_default, length-map}
+use Rattle.std.proofs.lemmas.List.Elements.{All-weaker}
 use Rattle.te_model.specs.declared.route.Pair.{Pair}
 use Rattle.te_model.specs.declared.route.PairRoutes.{PairRoutes}
 use Rattle.te_model.specs.declared.route.PathShare.{PathShare}
@@ -10,7 +11,8 @@ use Rattle.routing.specs.Split.{total_weight}
 use Rattle.routing.proofs.Splits.{splits_of}
 use Rattle.scheme.specs.Fixed.{IsRoutingBy}
 use Rattle.scheme.proofs.Plans.{routes_done, routes_more}
-use Rattle.rate_sweeps.specs.Sweeps.{paths_of_pair}
+use Rattle.rate_sweeps.specs.declared.mix.Sweep.{Sweep}
+use Rattle.rate_sweeps.specs.Sweeps.{ArePathsOfPairs, IsWeight, links_in, paths_in, paths_of_pair}
 use Rattle.rate_sweeps.proofs.Mixing.{few_count, mixed_few, mixed_links, mixed_split, part_is, parts_count, pushed_only, way_is}
 use Rattle.rate_sweeps.proofs.mix.routing_by.Goals as goal
 use Rattle.rate_sweeps.proofs.mix.routing_by.Goals.{After-new-2}
@@ -80,3 +82,26 @@ pub returns-clause-only : goal.returns-clause-only
 returns-clause-only c = λ p links below has.
     c.loop-p.invariant.1 p links (omega (arith, below, ap (λ (l : List PairRoutes). length l) c.new-2.ensures, c.loop-p.invariant.0.count))
     (subst (λ (l : List PairRoutes). HasLinks (routes_at l p).paths links) c.new-2.ensures has)
+
+pub parts_of_pair-requires-clause-paths : goal.parts_of_pair-requires-clause-paths
+parts_of_pair-requires-clause-paths c =
+    let like = c.args.like.now.routes in
+    let p = c.loop-p.p in
+    let below : p < length like = omega (arith, c.loop-p-test.true, ap (λ (l : List PairRoutes). length l) c.as_slice-list.ensures) in
+    All-weaker (λ (s : Sweep). ArePathsOfPairs c.args.net.now like (paths_in s)) (λ (s : Sweep). p < length s.paths)
+    (λ s of. omega (arith, of.count, length-map s.paths links_in, below)) c.args.sweeps.now c.requires.paths
+
+pub normalize-requires-clause-some : goal.normalize-requires-clause-some
+normalize-requires-clause-some c =
+    let count = parts_count c.args.sweeps.now c.loop-p.p c.in_ok-parts.parts.items c.in_ok-parts.ensures.paths in
+    omega (arith, ap (λ (l : List PathShare). length l) c.deref.ensures.value, count, c.requires.some)
+
+pub normalize-requires-clause-count : goal.normalize-requires-clause-count
+normalize-requires-clause-count c =
+    let count = parts_count c.args.sweeps.now c.loop-p.p c.in_ok-parts.parts.items c.in_ok-parts.ensures.paths in
+    omega (arith, ap (λ (l : List PathShare). length l) c.deref.ensures.value, count, c.requires.few)
+
+pub normalize-requires-clause-weights : goal.normalize-requires-clause-weights
+normalize-requires-clause-weights c =
+    subst (All (λ (s : PathShare). 1 ≤ s.weight)) (sym c.deref.ensures.value)
+    (All-weaker (λ (s : PathShare). IsWeight s.weight) (λ (s : PathShare). 1 ≤ s.weight) (λ s is. is.0) c.in_ok-parts.parts.items c.in_ok-parts.ensures.weights)

@@ -8,6 +8,7 @@ use Rattle.te_model.specs.Network.{link_count}
 use Rattle.te_model.specs.Path.{no_routes, routes_at}
 use Rattle.te_model.specs.PathRouting.{IsPathSplit}
 use Rattle.routing.specs.Merge.{HasLinks, links_at, no_path}
+use Rattle.routing.proofs.Splits.{split_some}
 use Rattle.rate_sweeps.specs.Choices.{IsLeastAmong}
 use Rattle.rate_sweeps.specs.Sweeps.{HaveLinks, links_in}
 use Rattle.rate_sweeps.proofs.Among.{each_more, ways_among}
@@ -69,3 +70,34 @@ returns-clause-ways c =
     in
     ways_among c.args.net.now routes (map links_in list) c.requires.routing (length-map list links_in ∙ c.loop-p.invariant.0 ∙ every)
     (λ p below. c.loop-p.invariant.1 p (omega (arith, below, every)))
+
+pub cheapest-place-requires-clause-some : goal.cheapest-place-requires-clause-some
+cheapest-place-requires-clause-some c =
+    let net = c.args.net.now in
+    let routes = c.args.routing.now.routes in
+    let p = c.loop-p.p in
+    let below : p < length routes = omega (arith, c.loop-p-test.true, ap (λ (l : List PairRoutes). length l) c.as_slice-routes.ensures) in
+    let own : c.as_slice-paths.result.now ≡ (routes_at routes p).paths =
+    c.as_slice-paths.ensures
+    ∙ (ap (λ (r : PairRoutes). r.paths) (get_or_default c.as_slice-routes.result.now p c.index-routes-p.result no_routes c.loop-p-test.true)
+    ∙ ap (λ (l : List PairRoutes). (routes_at l p).paths) c.as_slice-routes.ensures)
+    in
+    omega (
+      arith,
+      ap (λ (l : List PathShare). length l) own,
+      split_some net (routes_at routes p) (All-get_or (IsPathSplit net) routes p no_routes below c.requires.routing),
+    )
+
+pub returns-clause-among : goal.returns-clause-among
+returns-clause-among c =
+    let every : c.loop-p.p ≡ length c.args.routing.now.routes =
+    omega (arith, c.loop-p-test.false, c.loop-p.auto.p-end, ap (λ (l : List PairRoutes). length l) c.as_slice-routes.ensures)
+    in
+    λ p below. c.loop-p.invariant.1 p (omega (arith, below, every))
+
+pub returns-clause-cheapest : goal.returns-clause-cheapest
+returns-clause-cheapest c =
+    let every : c.loop-p.p ≡ length c.args.routing.now.routes =
+    omega (arith, c.loop-p-test.false, c.loop-p.auto.p-end, ap (λ (l : List PairRoutes). length l) c.as_slice-routes.ensures)
+    in
+    λ p below. c.loop-p.invariant.2 p (omega (arith, below, every))

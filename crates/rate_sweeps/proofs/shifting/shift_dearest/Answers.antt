@@ -135,3 +135,12 @@ returns-clause-shifts c =
       each = λ q below. subst (λ (l : List PairRoutes). IsShiftForDemand lengths c.args.parts c.args.limit (get_or demand q 0) (routes_at old q) (get_or offered q []) (routes_at l q))
           (sym c.new.ensures) (c.loop-p.invariant.1 q (omega (arith, below, every at)));
     }
+
+pub shift_pair-requires-clause-ascending : goal.shift_pair-requires-clause-ascending
+shift_pair-requires-clause-ascending c = (split (goal.at.shift_pair-requires-clause-ascending c).After-index-offered-p).distinct
+
+pub shift_pair-requires-clause-positive : goal.shift_pair-requires-clause-positive
+shift_pair-requires-clause-positive c = (split (goal.at.shift_pair-requires-clause-positive c).After-index-offered-p).weights
+
+pub shift_pair-requires-clause-whole : goal.shift_pair-requires-clause-whole
+shift_pair-requires-clause-whole c = (split (goal.at.shift_pair-requires-clause-whole c).After-index-offered-p).whole
