@@ -17,7 +17,7 @@ const CANDIDATES: u32 = 4;
 /// Multicommodity flow: the routing of a matrix starts from the even mix of the least paths by lengths that grow with the loads
 /// (Garg and Könemann, 1998), or from a better mix of sweeps, and weight is then moved to the four least paths by cost until no
 /// single move helps by a stated share (`local_search::settle`).
-#[derive(Clone, Copy, Debug, PartialEq, Eq)]
+#[derive(Clone, Copy)]
 pub struct Mcf;
 
 /// The pairs, and a routing over the four least paths by cost of each.

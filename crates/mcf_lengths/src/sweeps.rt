@@ -1,9 +1,11 @@
 //! Routings over all paths by sweeps.
-ghost use Rattle.std.specs.Prelude.{◌≡◌, ◌^◌, ◌<◌, ◌≤◌, IfOk, IsTrue, length};
+ghost use Rattle.std.specs.Prelude.{◌≡◌, ◌^◌, ◌<◌, ◌≤◌, List, IfOk, IsTrue, length};
+ghost use Rattle.te_model.specs.declared.route.PairRoutes.{PairRoutes};
 ghost use Rattle.te_model.specs.Network.{is_well_formed};
 ghost use Rattle.routing.specs.Routes.{AreDemands, HasFewPaths, IsRoutingOf};
 ghost use Rattle.routing.specs.Utilisation.{parts};
 ghost use Rattle.scheme.specs.Reach.{AllReached, ArePairsOf};
+ghost use Rattle.rate_sweeps.specs.Descents.{BothKeep, IsDescent};
 ghost use Rattle.rate_sweeps.specs.Sweeps.{AreRates};
 ghost use Rattle.mcf_lengths.specs.Rounds.{AreLengths};
 ghost use Rattle.mcf_lengths.specs.Sweeps.{AreCommodities, AreLeastSweeps, IsFewRouting, IsNoWorse};
@@ -11,8 +13,9 @@ ghost use Rattle.mcf_lengths.specs.Sweeps.{AreCommodities, AreLeastSweeps, IsFew
 use crate::paths::{destinations, least_paths};
 use path_budget::trim;
 use rate_sweeps::{
-    COUNTED, MAX_PARTS, Rates, STAGES, Sweep, TURNS, UNCOUNTED, add_counted, first_descent,
-    first_rates, is_over, lesser, next_lengths, offer, routing_by, take_sweep, take_turn,
+    COUNTED, Descent, MAX_PARTS, Rates, STAGES, Sweep, TURNS, UNCOUNTED, add_counted,
+    first_descent, first_rates, is_over, lesser, next_lengths, offer, routing_by, take_sweep,
+    take_turn,
 };
 use routing::Routing;
 use std::alloc::Global;
@@ -69,7 +72,31 @@ impl<'a> Commodities<'a> {
         Ok(best)
     }
 
-    /// The best routing of a descent from the given one, by turns to the least paths. Their lengths are offered.
+    /// The descent after a turn to the least paths. Their lengths are offered.
+    fn turn(&self, alloc: Global, descent: Descent, rates: &mut Rates) -> Result<Descent, Memory>
+        requires commodities { AreCommodities self.now }
+        requires descent { (start : List PairRoutes) × IsRoutingOf self.now.net.now self.now.pairs.now.list start × IsDescent self.now.net.now self.now.matrix.now.demand start descent }
+        requires rates { AreRates self.now.net.now rates.old }
+        ensures descent { (start : List PairRoutes) → IsDescent self.now.net.now self.now.matrix.now.demand start descent → IfOk result (IsDescent self.now.net.now self.now.matrix.now.demand start) }
+        ensures few { BothKeep (HasFewPaths 28) descent → IfOk result (BothKeep (HasFewPaths 28)) }
+        ensures rates { AreRates self.now.net.now rates.new }
+    {
+        let limit = STARTING_PATHS as usize;
+        let lengths = next_lengths(alloc, self.net, self.matrix, &descent)?;
+        let paths = least_paths(alloc, self.net, self.pairs, self.wanted, &lengths)?;
+        offer(alloc, self.net, self.matrix, &paths, &lengths, rates)?;
+        take_turn(
+            alloc,
+            self.net,
+            self.matrix,
+            descent,
+            &paths,
+            &lengths,
+            limit,
+        )
+    }
+
+    /// The best routing of a descent from the given one, by turns to the least paths.
     fn descend(&self, alloc: Global, start: Routing, rates: &mut Rates) -> Result<Routing, Memory>
         requires commodities { AreCommodities self.now }
         requires start { IsFewRouting self.now start.routes }
@@ -77,26 +104,31 @@ impl<'a> Commodities<'a> {
         ensures routing { IfOk result (λ r. IsNoWorse self.now start.routes r.routes) }
         ensures rates { AreRates self.now.net.now rates.new }
     {
-        let limit = STARTING_PATHS as usize;
         let mut descent = first_descent(alloc, self.net, self.matrix, start)?;
         for _ in 0..TURNS {
             if is_over(descent.pace) {
                 return Ok(descent.best);
             }
-            let lengths = next_lengths(alloc, self.net, self.matrix, &descent)?;
-            let paths = least_paths(alloc, self.net, self.pairs, self.wanted, &lengths)?;
-            offer(alloc, self.net, self.matrix, &paths, &lengths, rates)?;
-            descent = take_turn(
-                alloc,
-                self.net,
-                self.matrix,
-                descent,
-                &paths,
-                &lengths,
-                limit,
-            )?;
+            descent = self.turn(alloc, descent, rates)?;
         }
         Ok(descent.best)
+    }
+
+    /// The given routing, or a better one by sweeps and a descent.
+    fn best_routing(
+        &self,
+        alloc: Global,
+        start: Routing,
+        rates: &mut Rates,
+    ) -> Result<Routing, Memory>
+        requires commodities { AreCommodities self.now }
+        requires start { IsFewRouting self.now start.routes }
+        requires rates { AreRates self.now.net.now rates.old }
+        ensures routing { IfOk result (λ r. IsNoWorse self.now start.routes r.routes) }
+        ensures rates { AreRates self.now.net.now rates.new }
+    {
+        let best = self.best_mix(alloc, start, rates)?;
+        self.descend(alloc, best, rates)
     }
 }
 
@@ -133,7 +165,6 @@ pub fn sweep(
         wanted: &wanted,
         matrix,
     };
-    let best = commodities.best_mix(alloc, start, &mut rates)?;
-    let routing = commodities.descend(alloc, best, &mut rates)?;
+    let routing = commodities.best_routing(alloc, start, &mut rates)?;
     Ok((routing, Items::new(rates.lengths)))
 }

@@ -1,4 +1,5 @@
-use Rattle.std.proofs.Common.{◌≡◌, ℕ, ◌+◌, ◌*◌, ◌<◌, ◌≤◌, ◌^◌, List, [], ◌∷◌, ◌++◌, All, true, length, map, max, slice_index, arith, ap, sym, ◌∙◌, subst, rules}
+use Rattle.std.proofs.Common.{◌≡◌, ℕ, ◌+◌, ◌*◌, ◌<◌, ◌≤◌, ◌^◌, List, [], ◌∷◌, ◌++◌, All, true, length, map, max, nat_cmp, slice_index, arith, ap, sym, ◌∙◌, subst}
+use Rattle.std.specs.Ordering.{ord_max}
 use Rattle.std.proofs.lemmas.List.{length-map}
 use Rattle.te_model.specs.declared.route.Path.{Path}
 use Rattle.te_model.specs.Pairs.{AreDemands}
@@ -60,6 +61,13 @@ grow-requires-clause-loads c =
     ap (λ (l : List ℕ). length l) (c.deref-in-loop-round-3.ensures.value ∙ c.in_ok-loads.ensures)
     ∙ length-loads_of c.args.net.now (slice_index c.args.matrix.now.demand) (map links_in c.as_slice.result.now)
 
+-- the greater of two numbers
+greater_of : (a b m : ℕ) → m ≡ ord_max nat_cmp a b → m ≡ max a b
+greater_of a b m is = grind (arith, is)
+
+below_greater : (a b m : ℕ) → m ≡ ord_max nat_cmp a b → b ≤ m
+below_greater a b m is = omega (arith, greater_of a b m is)
+
 pub grow-requires-clause-divisor : goal.grow-requires-clause-divisor
 grow-requires-clause-divisor c =
     let net = c.args.net.now in
@@ -67,7 +75,7 @@ grow-requires-clause-divisor c =
     c.greatest_usage.ensures.usage
     ∙ ap (λ (l : List ℕ). greatest_usage net l) (c.deref-in-loop-round-2.ensures.value ∙ sym c.deref-in-loop-round-3.ensures.value)
     in
-    let within : c.greatest_usage.result ≤ c.max-most.result = grind (arith, c.max-most.ensures) in
+    let within = below_greater c.loop-round.most c.greatest_usage.result c.max-most.result c.max-most.ensures in
     omega (arith, usage, within)
 
 pub grow-requires-clause-count : goal.grow-requires-clause-count
@@ -95,13 +103,13 @@ loop-round-preserved c =
     let usage : c.greatest_usage.result ≡ greatest_usage net (loads_in net demand round) =
     c.greatest_usage.ensures.usage ∙ ap (λ (l : List ℕ). greatest_usage net l) (c.deref-in-loop-round-2.ensures.value ∙ loads)
     in
-    let greater : c.max-most.result ≡ max c.loop-round.most c.greatest_usage.result = grind (arith, c.max-most.ensures) in
+    let greater : c.max-most.result ≡ max c.loop-round.most c.greatest_usage.result = greater_of c.loop-round.most c.greatest_usage.result c.max-most.result c.max-most.ensures in
     let grows : next ≡ grown_multipliers net (loads_in net demand round) (4 * c.max-most.result) multipliers =
     c.in_ok-multipliers-2.ensures
     ∙ (ap (λ (l : List ℕ). grown_multipliers net l (4 * c.max-most.result) c.deref-in-loop-round-4.result.now) (c.deref-in-loop-round-3.ensures.value ∙ loads)
     ∙ ap (λ (m : List ℕ). grown_multipliers net (loads_in net demand round) (4 * c.max-most.result) m) c.deref-in-loop-round-4.ensures.value)
     in
-    let pushed : c.push.new.self.items ≡ rounds ++ round ∷ [] = search rules in
+    let pushed : c.push.new.self.items ≡ rounds ++ round ∷ [] = c.in_ok-push.ensures.items in
     subst (λ (rs : List FlowRound). FlowSoFar net pairs demand (j + 1) c.max-most.result next rs) (sym pushed)
     (flow_more net pairs demand j c.loop-round.most c.max-most.result multipliers next rounds round c.loop-round.invariant is
     (greater ∙ ap (λ (x : ℕ). max c.loop-round.most x) usage) (omega (arith, greater, c.greatest_usage.ensures.small, c.loop-round.invariant.small)) grows)

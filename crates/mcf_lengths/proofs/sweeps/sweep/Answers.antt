@@ -20,8 +20,8 @@ pub returns-then-branch-eq0-clause-lengths : goal.returns-then-branch-eq0-clause
 returns-then-branch-eq0-clause-lengths c =
     subst (AreLengths c.args.net.now) (sym c.new.ensures) (offered_lengths c.args.net.now c.in_ok-rates.rates c.in_ok-rates.ensures)
 
-pub best_mix-requires-clause-commodities : goal.best_mix-requires-clause-commodities
-best_mix-requires-clause-commodities c = record {
+pub best_routing-requires-clause-commodities : goal.best_routing-requires-clause-commodities
+best_routing-requires-clause-commodities c = record {
   network = c.requires.network;
   ends = c.requires.pairs;
   reached = c.requires.reached;
@@ -29,20 +29,8 @@ best_mix-requires-clause-commodities c = record {
   demands = c.requires.demands;
 }
 
-pub best_mix-requires-clause-start : goal.best_mix-requires-clause-start
-best_mix-requires-clause-start c = record { routing = c.requires.start; few = c.requires.few }
-
-pub descend-requires-clause-commodities : goal.descend-requires-clause-commodities
-descend-requires-clause-commodities c = record {
-  network = c.requires.network;
-  ends = c.requires.pairs;
-  reached = c.requires.reached;
-  marks = subst (MarksDestinations c.args.net.now c.args.pairs.now.list) (sym c.deref.ensures.value) c.in_ok-wanted.ensures;
-  demands = c.requires.demands;
-}
-
-pub descend-requires-clause-start : goal.descend-requires-clause-start
-descend-requires-clause-start c = record { routing = c.in_ok-best.ensures.routing.routing; few = c.in_ok-best.ensures.routing.few }
+pub best_routing-requires-clause-start : goal.best_routing-requires-clause-start
+best_routing-requires-clause-start c = record { routing = c.requires.start; few = c.requires.few }
 
 pub returns-clause-routing : goal.returns-clause-routing
 returns-clause-routing c = c.in_ok-routing.ensures.routing.routing
@@ -51,8 +39,8 @@ pub returns-clause-few : goal.returns-clause-few
 returns-clause-few c = c.in_ok-routing.ensures.routing.few
 
 pub returns-clause-no_greater : goal.returns-clause-no_greater
-returns-clause-no_greater c = omega (arith, c.in_ok-routing.ensures.routing.no_greater, c.in_ok-best.ensures.routing.no_greater)
+returns-clause-no_greater c = c.in_ok-routing.ensures.routing.no_greater
 
 pub returns-clause-lengths : goal.returns-clause-lengths
 returns-clause-lengths c =
-    subst (AreLengths c.args.net.now) (sym c.new-2.ensures) (offered_lengths c.args.net.now c.descend.new.rates c.descend.ensures.rates)
+    subst (AreLengths c.args.net.now) (sym c.new-2.ensures) (offered_lengths c.args.net.now c.best_routing.new.rates c.best_routing.ensures.rates)

@@ -1,10 +1,12 @@
-use Rattle.std.proofs.Common.{List, length, arith, sym, subst}
+use Rattle.std.proofs.Common.{◌≡◌, ℕ, ◌≤◌, ◌^◌, List, All, length, arith, sym, ◌∙◌, subst}
+use Rattle.std.proofs.lemmas.List.Elements.{All-push, All-weaker}
 use Rattle.te_model.specs.declared.route.Pair.{Pair}
+use Rattle.te_model.specs.Network.{link_count}
 use Rattle.routing.specs.Routes.{AreDemands, IsRoutingOf}
 use Rattle.routing.proofs.InOrder.{routes_count}
 use Rattle.scheme.specs.Reach.{AllReached, ArePairsOf}
 use Rattle.mcf_lengths.specs.declared.round.TheConstants.{ROUNDS}
-use Rattle.mcf_lengths.specs.Rounds.{IsRoundsRouting}
+use Rattle.mcf_lengths.specs.Rounds.{AreLengths, IsRoundsRouting}
 use Rattle.mcf_lengths.proofs.Balancing.{few_more, few_together, pairs_join_nodes}
 use Rattle.mcf_lengths.proofs.flow.McfScheme.route.Goals as goal
 
@@ -83,3 +85,21 @@ returns-clause-related c = λ pairs is.
       bracket = c.in_ok-note.ensures.sound;
       lower = c.in_ok-note.ensures.lower;
     }
+
+pub bracket-requires-clause-lengths : goal.bracket-requires-clause-lengths
+bracket-requires-clause-lengths c =
+    let net = c.args.net.now in
+    let all =
+    subst (All (AreLengths net)) (sym (c.deref.ensures.value ∙ c.in_ok-push.ensures.items))
+    (All-push (AreLengths net) c.in_ok-rounds.offered.items c.in_ok-start.swept c.in_ok-rounds.ensures.limits c.in_ok-start.ensures.lengths)
+    in
+    All-weaker (AreLengths net) (λ (l : List ℕ). length l ≡ link_count net) (λ l are. are.count) c.deref.result.now all
+
+pub bracket-requires-clause-limit : goal.bracket-requires-clause-limit
+bracket-requires-clause-limit c =
+    let net = c.args.net.now in
+    let all =
+    subst (All (AreLengths net)) (sym (c.deref.ensures.value ∙ c.in_ok-push.ensures.items))
+    (All-push (AreLengths net) c.in_ok-rounds.offered.items c.in_ok-start.swept c.in_ok-rounds.ensures.limits c.in_ok-start.ensures.lengths)
+    in
+    All-weaker (AreLengths net) (λ (l : List ℕ). All (λ (x : ℕ). x ≤ 2 ^ 28) l) (λ l are. are.limit) c.deref.result.now all

@@ -1,4 +1,4 @@
-use Rattle.std.proofs.Common.{List, All, arith, sym, ◌∙◌, subst}
+use Rattle.std.proofs.Common.{List, All, length, arith, ap, sym, ◌∙◌, subst}
 use Rattle.te_model.specs.Pairs.{AreDemands}
 use Rattle.routing.specs.Routes.{HasFewPaths, IsRoutingOf}
 use Rattle.routing.proofs.InOrder.{routes_count}
@@ -14,6 +14,12 @@ loop-init c = (
   omega arith,
   omega arith,
 )
+
+pub routing_by-requires-clause-some : goal.routing_by-requires-clause-some
+routing_by-requires-clause-some c = omega (arith, ap (λ (l : List Sweep). length l) c.deref.ensures.value, c.in_ok-sweeps.ensures.sweeps.count)
+
+pub routing_by-requires-clause-few : goal.routing_by-requires-clause-few
+routing_by-requires-clause-few c = omega (arith, ap (λ (l : List Sweep). length l) c.deref.ensures.value, c.in_ok-sweeps.ensures.sweeps.count)
 
 pub routing_by-requires-clause-weights : goal.routing_by-requires-clause-weights
 routing_by-requires-clause-weights c =
@@ -58,6 +64,6 @@ loop-preserved c =
         no_greater = omega (arith, c.in_ok-best.ensures.first, c.loop.invariant.0.no_greater);
       },
       c.stage.ensures.rates,
-      grind (arith, doubled),
-      grind (arith, doubled),
+      omega (arith, doubled, c.loop.invariant.2),
+      omega (arith, doubled),
     )
