@@ -6,8 +6,9 @@ use block_reader::{BlockReader, StreamFault};
 use cert_text::CertFault::{self, Shape};
 use cert_text::read;
 use std::alloc::{AllocError, Global};
+use std::process::Abort;
 use std::test::Fail;
-use te_model::{Block, Certificate, Items, RuleFault};
+use te_model::{Block, Certificate, Head, Items, RuleFault};
 use te_ports::{Depot, MemDepot, RecordDepot};
 
 // Two parallel links.
@@ -171,17 +172,31 @@ fn blocks_of(alloc: Global, bytes: &[u8]) -> Items<Block> {
     }
 }
 
-// Whether the head and the blocks that are handed out of the file are the certificate of these bytes, or the fault.
+// Whether this head and the blocks that the reader hands out are the certificate of these bytes, or the fault.
+fn is_handed_out(
+    alloc: Global,
+    depot: &mut RecordDepot<MemDepot>,
+    reader: &mut BlockReader,
+    head: Head,
+    bytes: &[u8],
+) -> Result<bool, StreamFault> {
+    let blocks = blocks_of(alloc, bytes);
+    let answer = hands_out_and_stays(depot, reader, blocks.as_slice());
+    let printed = is_printed(alloc, &Certificate { head, blocks }, bytes);
+    match answer {
+        Ok(same) => Ok(same & printed),
+        Err(fault) => Err(fault),
+    }
+}
+
+// The same of the file in a depot.
 fn streamed(
     alloc: Global,
     depot: &mut RecordDepot<MemDepot>,
     bytes: &[u8],
 ) -> Result<bool, StreamFault> {
     let (mut reader, head) = BlockReader::open(alloc, depot, "file")?;
-    let blocks = blocks_of(alloc, bytes);
-    let answer = hands_out_and_stays(depot, &mut reader, blocks.as_slice());
-    let cert = Certificate { head, blocks };
-    Ok(answer? && is_printed(alloc, &cert, bytes))
+    is_handed_out(alloc, depot, &mut reader, head, bytes)
 }
 
 // The same of a file of which reads give so many bytes at once, and the read of that number fails.
@@ -220,15 +235,24 @@ fn is_answered_in_all_pieces(alloc: Global, bytes: &[u8], fault: Option<CertFaul
     true
 }
 
-#[test]
-fn both_readers_give_the_same_certificates_and_faults(rt: HostRuntime) -> Result<(), Fail> {
-    for row in FILES {
+// Both readers answer each file that is changed so.
+fn all_are_answered(
+    rt: &impl Abort,
+    alloc: Global,
+    files: &[(&str, &[(usize, &str)], Option<CertFault>)],
+) -> Result<(), Fail> {
+    for row in files {
         let (file, changes, fault) = *row;
-        let text = changed(rt.alloc(), file, changes)?;
-        let answered = is_answered_in_all_pieces(rt.alloc(), text.as_bytes(), fault);
+        let text = changed(alloc, file, changes)?;
+        let answered = is_answered_in_all_pieces(alloc, text.as_bytes(), fault);
         assert!(rt; answered, "{text}");
     }
     Ok(())
+}
+
+#[test]
+fn both_readers_give_the_same_certificates_and_faults(rt: HostRuntime) -> Result<(), Fail> {
+    all_are_answered(&rt, rt.alloc(), FILES)
 }
 
 // Lines of two parallel links, and of the two faults that they make the one that is told.
@@ -252,15 +276,24 @@ const TWO_FAULTS: &[(&[(usize, &str)], CertFault)] = &[
     (&[(16, "268435457 1"), (19, "1 01")], Shape(19)),
 ];
 
-#[test]
-fn the_first_of_two_faults_is_told(rt: HostRuntime) -> Result<(), Fail> {
-    for row in TWO_FAULTS {
+// Both readers tell the fault of each change of two parallel links.
+fn all_are_told(
+    rt: &impl Abort,
+    alloc: Global,
+    rows: &[(&[(usize, &str)], CertFault)],
+) -> Result<(), Fail> {
+    for row in rows {
         let (changes, fault) = *row;
-        let text = changed(rt.alloc(), PARALLEL, changes)?;
-        let answered = is_answered(rt.alloc(), text.as_bytes(), 7, Some(fault));
+        let text = changed(alloc, PARALLEL, changes)?;
+        let answered = is_answered(alloc, text.as_bytes(), 7, Some(fault));
         assert!(rt; answered, "{text}");
     }
     Ok(())
+}
+
+#[test]
+fn the_first_of_two_faults_is_told(rt: HostRuntime) -> Result<(), Fail> {
+    all_are_told(&rt, rt.alloc(), TWO_FAULTS)
 }
 
 // The length of the first beginning of a file, of those that end with or before the end of a line, of which the readers do
@@ -268,8 +301,8 @@ fn the_first_of_two_faults_is_told(rt: HostRuntime) -> Result<(), Fail> {
 fn wrong_cut(alloc: Global, bytes: &[u8]) -> Option<usize> {
     let mut line: u64 = 1;
     let mut begins = true;
-    for (length, byte) in bytes.iter().enumerate() {
-        let ends = *byte == b'\n';
+    for length in 0..bytes.len() {
+        let ends = bytes[length] == b'\n';
         if (begins || ends) && !is_answered(alloc, &bytes[..length], 64, Some(Shape(line))) {
             return Some(length);
         }

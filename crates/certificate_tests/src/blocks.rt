@@ -3,16 +3,35 @@ use te_model::{Block, Row};
 
 // Whether the rows have the same sources and potentials.
 fn are_same_rows(rows: &[Row], others: &[Row]) -> bool {
-    rows.len() == others.len()
-        && rows.iter().zip(others).all(|(row, other)| row.source == other.source
-            && row.potential == other.potential)
+    if rows.len() != others.len() {
+        return false;
+    }
+    for place in 0..rows.len() {
+        let (row, other) = (&rows[place], &others[place]);
+        if row.source != other.source || row.potential != other.potential {
+            return false;
+        }
+    }
+    true
 }
 
 /// Whether the blocks have the same numbers.
 pub fn is_same_block(block: &Block, other: &Block) -> bool {
-    (block.link, block.a, block.b) == (other.link, other.a, other.b)
-        && block.weights == other.weights
-        && are_same_rows(block.rows.as_slice(), other.rows.as_slice())
-        && block.plus == other.plus
-        && block.minus == other.minus
+    let numbers = (block.link == other.link) & (block.a == other.a) & (block.b == other.b);
+    let rows = are_same_rows(block.rows.as_slice(), other.rows.as_slice());
+    let counters = (block.plus == other.plus) & (block.minus == other.minus);
+    numbers & rows & counters & (block.weights == other.weights)
+}
+
+/// Whether the blocks have the same numbers, one by one.
+pub fn are_same_blocks(blocks: &[Block], others: &[Block]) -> bool {
+    if blocks.len() != others.len() {
+        return false;
+    }
+    for place in 0..blocks.len() {
+        if !is_same_block(&blocks[place], &others[place]) {
+            return false;
+        }
+    }
+    true
 }

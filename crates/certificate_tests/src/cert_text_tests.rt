@@ -2,6 +2,7 @@
 use cert_text::CertFault::{self, Shape};
 use cert_text::{print, read, upgrade};
 use std::alloc::Global;
+use std::process::Abort;
 use te_model::{Certificate, RuleFault};
 
 // The smallest file: one link, one pair and one block.
@@ -130,23 +131,28 @@ fn fault_with(alloc: Global, file: &str, piece: &str, other: &str) -> Option<Cer
     }
 }
 
-#[test]
-fn a_fault_is_told_with_its_place(rt: HostRuntime) {
-    for row in FAULTS {
+// Tells the fault of each file that is changed so.
+fn all_are_told(rt: &impl Abort, alloc: Global, faults: &[(&str, &str, &str, CertFault)]) {
+    for row in faults {
         let (file, piece, other, fault) = *row;
-        let found = fault_with(rt.alloc(), file, piece, other);
+        let found = fault_with(alloc, file, piece, other);
         assert_eq!(rt; found, Some(fault), "{other:?} for {piece:?}");
     }
+}
+
+#[test]
+fn a_fault_is_told_with_its_place(rt: HostRuntime) {
+    all_are_told(&rt, rt.alloc(), FAULTS);
 }
 
 // The length of the first beginning of a file that does not leave the format at the line in which it ends.
 fn wrong_cut(alloc: Global, bytes: &[u8]) -> Option<usize> {
     let mut line: u64 = 1;
-    for (length, byte) in bytes.iter().enumerate() {
+    for length in 0..bytes.len() {
         if fault_of(alloc, &bytes[..length]) != Some(Shape(line)) {
             return Some(length);
         }
-        if *byte == b'\n' {
+        if bytes[length] == b'\n' {
             line = line.saturating_add(1);
         }
     }
@@ -155,9 +161,8 @@ fn wrong_cut(alloc: Global, bytes: &[u8]) -> Option<usize> {
 
 #[test]
 fn leaves_the_format_where_it_is_cut(rt: HostRuntime) {
-    for file in [SMALLEST, BOX] {
-        assert_eq!(rt; wrong_cut(rt.alloc(), file.as_bytes()), None);
-    }
+    assert!(rt; wrong_cut(rt.alloc(), SMALLEST.as_bytes()).is_none());
+    assert!(rt; wrong_cut(rt.alloc(), BOX.as_bytes()).is_none());
 }
 
 // Whether the certificate is printed as this text.
@@ -178,16 +183,8 @@ fn is_printed_and_upgraded(alloc: Global, text: &str, second: &str) -> Result<bo
 
 #[test]
 fn prints_what_it_read_and_upgrades_it_to_the_second_format(rt: HostRuntime) {
-    for (text, second) in [
-        (SMALLEST, SECOND),
-        (SECOND, SECOND),
-        (MARGIN, BOX),
-        (BOX, BOX),
-    ] {
-        assert_eq!(rt;
-            is_printed_and_upgraded(rt.alloc(), text, second),
-            Ok(true),
-            "{text}"
-        );
-    }
+    assert!(rt; is_printed_and_upgraded(rt.alloc(), SMALLEST, SECOND) == Ok(true));
+    assert!(rt; is_printed_and_upgraded(rt.alloc(), SECOND, SECOND) == Ok(true));
+    assert!(rt; is_printed_and_upgraded(rt.alloc(), MARGIN, BOX) == Ok(true));
+    assert!(rt; is_printed_and_upgraded(rt.alloc(), BOX, BOX) == Ok(true));
 }

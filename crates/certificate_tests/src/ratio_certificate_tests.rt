@@ -3,11 +3,12 @@ ghost use Rattle.std.specs.Prelude.{◌≡◌, ◌^◌, ◌<◌, ◌≤◌, All,
 ghost use Rattle.te_model.specs.ThreeNodes.{straight_routes};
 ghost use Rattle.best_blocks.specs.Conditions.{IsSetWithin};
 
-use crate::blocks::is_same_block;
+use crate::blocks::are_same_blocks;
 use ratio_certificate::*;
 use routing::Routing;
 use sample_networks::{matrix, straight_routes, three_nodes};
 use std::alloc::{AllocError, Global};
+use std::process::Abort;
 use std::test::Fail;
 use te_model::{Block, Certificate, DemandSet, Memory, Row};
 
@@ -21,7 +22,7 @@ fn straight_routing(alloc: Global) -> Result<Routing, AllocError>
 }
 
 /// A set of matrices. The last two have the same matrices, those in which both demands are equal.
-#[derive(Clone, Copy, Debug)]
+#[derive(Clone, Copy)]
 enum Demands {
     All,
     Margin,
@@ -71,12 +72,18 @@ fn best_on(
 
 /// Whether the rows have these sources and potentials.
 fn are_rows(rows: &[Row], expected: &[(u32, [u64; 3])]) -> bool {
-    for (row, (source, potential)) in rows.iter().zip(expected) {
-        if row.source != *source || row.potential.as_slice() != potential.as_slice() {
+    if rows.len() != expected.len() {
+        return false;
+    }
+    for place in 0..rows.len() {
+        let (source, potential) = expected[place];
+        if rows[place].source != source
+            || rows[place].potential.as_slice() != potential.as_slice()
+        {
             return false;
         }
     }
-    rows.len() == expected.len()
+    true
 }
 
 /// The best block of the first link for a set and the weights 1, 1, 0 and 0, in which a is one million.
@@ -120,13 +127,10 @@ const BEST_BLOCKS: &[BestBlock] = &[
 
 /// Whether the block of these weights is the best one.
 fn is_block(block: &Block, weights: &[u64], best: &BestBlock) -> bool {
-    block.link == 0
-        && block.a == 1_000_000
-        && block.b == best.b
-        && block.weights.as_slice() == weights
-        && are_rows(block.rows.as_slice(), best.rows)
-        && block.plus.as_slice() == best.plus
-        && block.minus.as_slice() == best.minus
+    let numbers = (block.link == 0) & (block.a == 1_000_000) & (block.b == best.b);
+    let rows = are_rows(block.rows.as_slice(), best.rows);
+    let counters = (block.plus.as_slice() == best.plus) & (block.minus.as_slice() == best.minus);
+    numbers & rows & counters & (block.weights.as_slice() == weights)
 }
 
 /// Whether the best block for the set is this one, and needs as much.
@@ -140,24 +144,33 @@ fn has_best(alloc: Global, set: &DemandSet, best: &BestBlock) -> bool
     }
 }
 
-#[test]
-fn best_blocks_are_those_found_by_hand(rt: HostRuntime) -> Result<(), Fail> {
-    let alloc = rt.alloc();
-    for best in BEST_BLOCKS {
-        let set = set_of(alloc, best.demands)?;
-        assert!(rt; has_best(alloc, &set, best), "{:?}", best.demands);
+/// Whether the best block for these demands is this one.
+fn is_found(alloc: Global, best: &BestBlock) -> Result<bool, AllocError> {
+    let set = set_of(alloc, best.demands)?;
+    Ok(has_best(alloc, &set, best))
+}
+
+fn all_are_found(rt: &impl Abort, alloc: Global, rows: &[BestBlock]) -> Result<(), Fail> {
+    for best in rows {
+        assert!(rt; is_found(alloc, best)?, "{}", best.need);
     }
     Ok(())
 }
 
-/// What the best block of the first link needs for every matrix, if the weights have one.
-fn need_of_first(alloc: Global, weights: &[u64]) -> Result<Option<u128>, Memory>
+#[test]
+fn best_blocks_are_those_found_by_hand(rt: HostRuntime) -> Result<(), Fail> {
+    all_are_found(&rt, rt.alloc(), BEST_BLOCKS)
+}
+
+/// Whether the best block of the first link needs as much for every matrix, or the weights have none.
+fn is_need(alloc: Global, weights: &[u64], need: Option<u128>) -> bool
     requires count { length weights.now ≡ 4 }
     requires small { All (λ w. w ≤ 2 ^ 28) weights.now }
 {
-    match best_on(alloc, &DemandSet::All, 0, weights)? {
-        Some((_, need)) => Ok(Some(need)),
-        None => Ok(None),
+    match best_on(alloc, &DemandSet::All, 0, weights) {
+        Ok(Some((_, least))) => need == Some(least),
+        Ok(None) => need.is_none(),
+        Err(_) => false,
     }
 }
 
@@ -165,24 +178,16 @@ fn need_of_first(alloc: Global, weights: &[u64]) -> Result<Option<u128>, Memory>
 fn weights_have_these_needs(rt: HostRuntime) {
     let alloc = rt.alloc();
     let far = 1 << 20;
-    let needs = [
-        // Each distance is one weight, and the weights of all four links are paid for.
-        (need_of_first(alloc, &[far, far, far, far]), Some(4_000_000)),
-        // The link from a to b is on no least path, so half its weight leaves the distances as they are.
-        (
-            need_of_first(alloc, &[far, far, far / 2, far]),
-            Some(3_500_000),
-        ),
-        // Doubled until the greatest is 2^20, weights need no more than before.
-        (need_of_first(alloc, &[1, 1, 0, 0]), Some(2_000_000)),
-        (need_of_first(alloc, &[2, 2, 0, 0]), Some(2_000_000)),
-        (need_of_first(alloc, &[far, far, 0, 0]), Some(2_000_000)),
-        // Without a weight above 0 there is no block.
-        (need_of_first(alloc, &[0, 0, 0, 0]), None),
-    ];
-    for (found, need) in needs {
-        assert_eq!(rt; found, Ok(need));
-    }
+    // Each distance is one weight, and the weights of all four links are paid for.
+    assert!(rt; is_need(alloc, &[far, far, far, far], Some(4_000_000)));
+    // The link from a to b is on no least path, so half its weight leaves the distances as they are.
+    assert!(rt; is_need(alloc, &[far, far, far / 2, far], Some(3_500_000)));
+    // Doubled until the greatest is 2^20, weights need no more than before.
+    assert!(rt; is_need(alloc, &[1, 1, 0, 0], Some(2_000_000)));
+    assert!(rt; is_need(alloc, &[2, 2, 0, 0], Some(2_000_000)));
+    assert!(rt; is_need(alloc, &[far, far, 0, 0], Some(2_000_000)));
+    // Without a weight above 0 there is no block.
+    assert!(rt; is_need(alloc, &[0, 0, 0, 0], None));
 }
 
 /// The certificate of the straight routes over the set.
@@ -205,27 +210,30 @@ fn is_made_between(certificate: &Certificate, least: u64, most: u64) -> bool {
     }
 }
 
+/// The certificate of the straight routes over these demands.
+fn made_for(alloc: Global, demands: Demands) -> Result<Certificate, Memory> {
+    let set = set_of(alloc, demands)?;
+    made(alloc, set)
+}
+
+/// Whether both links have a block in the certificate of these demands, and its ratio is one of these.
+fn has_ratio_between(
+    alloc: Global,
+    demands: Demands,
+    least: u64,
+    most: u64,
+) -> Result<bool, Memory> {
+    let certificate = made_for(alloc, demands)?;
+    Ok(is_made_between(&certificate, least, most))
+}
+
 #[test]
 fn made_certificates_have_nearly_the_least_ratio(rt: HostRuntime) -> Result<(), Fail> {
     let alloc = rt.alloc();
     // The routes have the ratio 2 for every matrix and 1 for multiples of one.
-    for (demands, least, most) in [
-        (Demands::All, 2_000_000, 2_000_200),
-        (Demands::Margin, 1_000_000, 1_000_100),
-    ] {
-        let certificate = made(alloc, set_of(alloc, demands)?)?;
-        assert!(rt; is_made_between(&certificate, least, most), "{demands:?}");
-    }
+    assert!(rt; has_ratio_between(alloc, Demands::All, 2_000_000, 2_000_200)?);
+    assert!(rt; has_ratio_between(alloc, Demands::Margin, 1_000_000, 1_000_100)?);
     Ok(())
-}
-
-/// Whether the blocks have the same numbers.
-fn are_same_blocks(blocks: &[Block], others: &[Block]) -> bool {
-    blocks.len() == others.len()
-        && blocks
-            .iter()
-            .zip(others)
-            .all(|(block, other)| is_same_block(block, other))
 }
 
 /// Whether one is of the first format and has a margin, the other of the second and has a box, and ratio and blocks are the same.
@@ -237,11 +245,20 @@ fn are_alike(margin: &Certificate, bounds: &Certificate) -> bool {
         && are_same_blocks(margin.blocks.as_slice(), bounds.blocks.as_slice())
 }
 
+/// Whether the certificate of the box is like that of the margin.
+fn is_box_like(alloc: Global, margin: &Certificate) -> Result<bool, Memory> {
+    let bounds = made_for(alloc, Demands::Box)?;
+    Ok(are_alike(margin, &bounds))
+}
+
+/// Whether the certificates of the margin and of its box are alike.
+fn are_made_alike(alloc: Global) -> Result<bool, Memory> {
+    let margin = made_for(alloc, Demands::Margin)?;
+    is_box_like(alloc, &margin)
+}
+
 #[test]
 fn a_margin_and_its_box_have_the_same_blocks(rt: HostRuntime) -> Result<(), Fail> {
-    let alloc = rt.alloc();
-    let margin = made(alloc, set_of(alloc, Demands::Margin)?)?;
-    let bounds = made(alloc, set_of(alloc, Demands::Box)?)?;
-    assert!(rt; are_alike(&margin, &bounds));
+    assert!(rt; are_made_alike(rt.alloc())?);
     Ok(())
 }

@@ -4,8 +4,14 @@ ghost use Rattle.te_model.specs.Validity.{IsValid};
 use cert_text::read;
 use ratio_checker::{Feed, Finding, verdict};
 use std::alloc::Global;
+use std::process::Abort;
 use std::test::Fail;
 use te_model::{Certificate, Memory};
+
+// The first line of each format.
+const FIRST: &str = "yates-ratio 1\n";
+
+const SECOND: &str = "yates-ratio 2\n";
 
 // Two parallel links, each with half of the one pair's demand.
 const PARALLEL: &str =
@@ -35,42 +41,42 @@ const FOR_EQUAL_WITHOUT_MINUS: &str =
 const FOR_DOUBLE: &str =
     "blocks 2\n0 1000000 3 2\n2 2 0 0\n0 0 0 2\n1 0 0 2\nplus 1 0\nminus 0 2\n1 1000000 3 2\n2 2 0 0\n0 0 0 2\n1 0 0 2\nplus 0 1\nminus 2 0\n";
 
-// The format, the network with its pairs, the set with the ratio, and the blocks of a certificate, and the first inequality
+// The first line, the network with its pairs, the set with the ratio, and the blocks of a certificate, and the first inequality
 // that fails, if one does: its link, its number and its place.
 const CERTIFICATES: &[(&str, &str, &str, &str, Option<(u32, u8, u64)>)] = &[
     // Each of two parallel links has a share, so neither block can be left out.
     (
-        "1",
+        FIRST,
         PARALLEL,
         "set all\nratio 2000000\n",
         "blocks 2\n0 500000 1 1\n1 1\n0 0 1\n1 500000 1 1\n1 1\n0 0 1\n",
         None,
     ),
     (
-        "1",
+        FIRST,
         PARALLEL,
         "set all\nratio 2000000\n",
         "blocks 1\n0 500000 1 1\n1 1\n0 0 1\n",
         Some((1, 2, 0)),
     ),
     (
-        "1",
+        FIRST,
         PARALLEL,
         "set all\nratio 2000000\n",
         "blocks 1\n1 500000 1 1\n1 1\n0 0 1\n",
         Some((0, 2, 0)),
     ),
     // The ratio of three nodes is 2 for every matrix. A block that is left out fails before a ratio that is too low.
-    ("1", STRAIGHT, "set all\nratio 2000000\n", FOR_ALL, None),
+    (FIRST, STRAIGHT, "set all\nratio 2000000\n", FOR_ALL, None),
     (
-        "1",
+        FIRST,
         STRAIGHT,
         "set all\nratio 1999999\n",
         FOR_ALL,
         Some((0, 4, 0)),
     ),
     (
-        "1",
+        FIRST,
         STRAIGHT,
         "set all\nratio 1999999\n",
         "blocks 1\n1 1000000 1 1\n1 1 0 0\n1 0 0 1\n",
@@ -78,28 +84,28 @@ const CERTIFICATES: &[(&str, &str, &str, &str, Option<(u32, u8, u64)>)] = &[
     ),
     // It is 1 for equal demands, as a margin or as a box, and the blocks do not hold for larger sets.
     (
-        "1",
+        FIRST,
         STRAIGHT,
         "set margin 1 1\nbase 10 10\nratio 1000000\n",
         FOR_EQUAL,
         None,
     ),
     (
-        "1",
+        FIRST,
         STRAIGHT,
         "set margin 1 1\nbase 10 10\nratio 1000000\n",
         FOR_EQUAL_WITHOUT_MINUS,
         Some((0, 3, 0)),
     ),
     (
-        "2",
+        SECOND,
         STRAIGHT,
         "set box\nlower 10 10\nupper 10 10\nratio 1000000\n",
         FOR_EQUAL,
         None,
     ),
     (
-        "2",
+        SECOND,
         STRAIGHT,
         "set box\nlower 10 10\nupper 20 20\nratio 1000000\n",
         FOR_EQUAL,
@@ -107,14 +113,14 @@ const CERTIFICATES: &[(&str, &str, &str, &str, Option<(u32, u8, u64)>)] = &[
     ),
     // It is four thirds, rounded up, where neither demand is above twice the other.
     (
-        "2",
+        SECOND,
         STRAIGHT,
         "set box\nlower 10 10\nupper 20 20\nratio 1333334\n",
         FOR_DOUBLE,
         None,
     ),
     (
-        "2",
+        SECOND,
         STRAIGHT,
         "set box\nlower 10 10\nupper 20 20\nratio 1333333\n",
         FOR_DOUBLE,
@@ -122,14 +128,14 @@ const CERTIFICATES: &[(&str, &str, &str, &str, Option<(u32, u8, u64)>)] = &[
     ),
     // The link from z to b has the weight 0, so the potential of z is at least that of b.
     (
-        "1",
+        FIRST,
         OUT_OF_REACH,
         "set all\nratio 1000000\n",
         "blocks 1\n0 1000000 1 1\n1 0\n0 0 1 0\n",
         Some((0, 1, 2)),
     ),
     (
-        "1",
+        FIRST,
         OUT_OF_REACH,
         "set all\nratio 1000000\n",
         "blocks 1\n0 1000000 1 1\n1 0\n0 0 1 1\n",
@@ -154,12 +160,12 @@ fn found(alloc: Global, cert: Certificate) -> Result<Option<Finding>, Memory>
 // The same of the certificate of these parts.
 fn found_in(
     alloc: Global,
-    format: &str,
+    first_line: &str,
     network: &str,
     claim: &str,
     blocks: &str,
 ) -> Result<Option<Finding>, Fail> {
-    let text = format!(in alloc; "yates-ratio {format}\n{network}{claim}{blocks}end\n")?;
+    let text = [first_line, network, claim, blocks, "end\n"].concat(alloc)?;
     let cert = read(alloc, text.as_bytes())?;
     Ok(found(alloc, cert)?)
 }
@@ -172,12 +178,19 @@ fn finding_of(failure: Option<(u32, u8, u64)>) -> Finding {
     }
 }
 
-#[test]
-fn the_first_inequality_that_fails_is_found(rt: HostRuntime) -> Result<(), Fail> {
-    for row in CERTIFICATES {
-        let (format, network, claim, blocks, failure) = *row;
-        let found = found_in(rt.alloc(), format, network, claim, blocks)?;
-        assert_eq!(rt; found, Some(finding_of(failure)), "{claim}{blocks}");
+// A certificate in its parts, and the first inequality of it that fails, if one does.
+type Verdict<'a> = (&'a str, &'a str, &'a str, &'a str, Option<(u32, u8, u64)>);
+
+fn all_are_found(rt: &impl Abort, alloc: Global, rows: &[Verdict<'_>]) -> Result<(), Fail> {
+    for row in rows {
+        let (first_line, network, claim, blocks, failure) = *row;
+        let found = found_in(alloc, first_line, network, claim, blocks)?;
+        assert!(rt; found == Some(finding_of(failure)), "{claim}{blocks}");
     }
     Ok(())
+}
+
+#[test]
+fn the_first_inequality_that_fails_is_found(rt: HostRuntime) -> Result<(), Fail> {
+    all_are_found(&rt, rt.alloc(), CERTIFICATES)
 }
