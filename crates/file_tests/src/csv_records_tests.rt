@@ -9,16 +9,19 @@ fn next_has(rows: &mut Rows, second: &str, fields: usize) -> bool {
     found & of_three & of_four & (rows.field(1) == Some(second.as_bytes()))
 }
 
+// The second field of each record, and how many fields it has.
+const RECORDS: &[(&str, usize)] = &[("b", 2), ("d,\"e\"", 3), ("h", 4)];
+
 // Whether three records follow, with these second fields and so many fields, and no more, however often one asks.
 fn three_records_follow(rows: &mut Rows) -> bool {
-    for (second, fields) in [("b", 2), ("d,\"e\"", 3), ("h", 4)] {
-        if !next_has(rows, second, fields) {
-            return false;
-        }
+    let mut follow = true;
+    for record in RECORDS {
+        let (second, fields) = *record;
+        follow &= next_has(rows, second, fields);
     }
-    let first = rows.advance();
-    let again = rows.advance();
-    first == Ok(false) && again == Ok(false)
+    let no_more = rows.advance() == Ok(false);
+    let none_again = rows.advance() == Ok(false);
+    follow & no_more & none_again
 }
 
 #[test]
@@ -43,9 +46,8 @@ const NUMBERS: &[(&str, u64, u64, Option<u64>)] = &[
 fn numbers_within_bounds(rt: HostRuntime) {
     for row in NUMBERS {
         let (text, least, most, number) = *row;
-        assert_eq!(rt;
-            number_within(text.as_bytes(), least, most),
-            number,
+        assert!(rt;
+            number_within(text.as_bytes(), least, most) == number,
             "{text}"
         );
     }

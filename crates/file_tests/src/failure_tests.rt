@@ -10,13 +10,17 @@ use te_model::{Items, Memory, Network};
 const FOUR_NODES: &[u8] =
     b"source,target,capacity,cost\ns,t,10,1\ns,x,10,1\nx,t,10,1\ns,y,3,3\ny,x,3,3\n";
 
+fn first_of(failures: &Failures) -> Option<Outage> {
+    failures.list.as_slice().first().copied()
+}
+
 // The first outage of a file of the four nodes over two steps, or the file's fault.
 fn first_outage(alloc: Global, text: &str) -> Result<Option<Outage>, FailureFault> {
     let Ok(net) = topology::read(alloc, FOUR_NODES) else {
         return Err(FailureFault::Memory);
     };
     let failures = read(alloc, &net, 2, text.as_bytes())?;
-    Ok(failures.list.as_slice().first().copied())
+    Ok(first_of(&failures))
 }
 
 // A file, and its first outage or its fault.
@@ -46,7 +50,7 @@ const FILES: &[(&str, Result<Option<Outage>, FailureFault>)] = &[
 fn first_outages_and_faults(rt: HostRuntime) {
     for row in FILES {
         let (text, found) = *row;
-        assert_eq!(rt; first_outage(rt.alloc(), text), found, "{text}");
+        assert!(rt; first_outage(rt.alloc(), text) == found, "{text}");
     }
 }
 
@@ -78,14 +82,13 @@ fn series_is(
     requires { IsTrue (is_well_formed net.now) }
 {
     let series = failures.series(alloc, net, wanted.len())?;
+    let mut are_wanted = series.len() == wanted.len();
     for (found, row) in series.iter().zip(wanted) {
         let (step, marks) = *row;
-        let alone = marks_are(alloc, net, failures, step, marks);
-        if found.as_slice() != marks.as_slice() || alone != Ok(true) {
-            return Ok(false);
-        }
+        let alone = marks_are(alloc, net, failures, step, marks) == Ok(true);
+        are_wanted &= alone & (found.as_slice() == marks.as_slice());
     }
-    Ok(series.len() == wanted.len())
+    Ok(are_wanted)
 }
 
 // Whether these outages of the four nodes mark the links so.
@@ -156,11 +159,18 @@ fn outages_of_a_series(rt: HostRuntime) {
     for row in SERIES {
         let (outages, wanted) = *row;
         let found = outages_mark(rt.alloc(), outages, wanted);
-        assert_eq!(rt; found, Ok(true), "{} outages", outages.len());
+        assert!(rt; found == Ok(true), "{} outages", outages.len());
     }
 }
 
-// Whether the links of these numbers are left of the four nodes, the second of them being link 2, and all nodes.
+// Whether the links of these numbers are left of the network, the second of them being link 2, and all nodes.
+fn is_left(left: &Survivor, net: &Network, origin: &[u32]) -> bool {
+    let second = left.network.links.as_slice().get(1) == net.links.as_slice().get(2);
+    let links = left.origin.as_slice() == origin;
+    second & links & (left.network.names == net.names)
+}
+
+// Whether these links and all nodes are left of the four nodes.
 fn leaves(alloc: Global, failed: &[bool], origin: &[u32]) -> Result<bool, Memory> {
     let Ok(net) = topology::read(alloc, FOUR_NODES) else {
         return Err(Memory);
@@ -169,9 +179,7 @@ fn leaves(alloc: Global, failed: &[bool], origin: &[u32]) -> Result<bool, Memory
         return Ok(false);
     }
     let left = surviving(alloc, &net, failed)?;
-    let second = left.network.links.as_slice().get(1) == net.links.as_slice().get(2);
-    let links = left.origin.as_slice() == origin;
-    Ok(second & links & (left.network.names == net.names))
+    Ok(is_left(&left, &net, origin))
 }
 
 #[test]
@@ -181,5 +189,5 @@ fn links_that_have_not_failed_are_left(rt: HostRuntime) {
         &[false, true, false, false, false],
         &[0, 2, 3, 4],
     );
-    assert_eq!(rt; found, Ok(true));
+    assert!(rt; found == Ok(true));
 }

@@ -13,6 +13,7 @@ fn first_words(seed: u64, purpose: u8) -> (u32, u32) {
 // order of its bytes.
 #[test]
 fn words_of_the_zero_key(rt: HostRuntime) {
-    assert_eq!(rt; first_words(0, 0), (0x2fef003e, 0xd6405f89));
-    assert!(rt; first_words(0, 1).0 != 0x2fef003e);
+    let (first, second) = first_words(0, 0);
+    let (other, _) = first_words(0, 1);
+    assert!(rt; first == 0x2fef003e && second == 0xd6405f89 && other != 0x2fef003e);
 }

@@ -48,7 +48,7 @@ fn files_are_loaded_up_to_a_limit(rt: HostRuntime) -> Result<(), Fail> {
     for row in LOADS {
         let (name, limit, text, answer) = *row;
         let found = loads_as(rt.alloc(), &mut depot, name, limit, text);
-        assert_eq!(rt; found, answer, "{name} {limit}");
+        assert!(rt; found == answer, "{name} {limit}");
     }
     Ok(())
 }
@@ -56,10 +56,10 @@ fn files_are_loaded_up_to_a_limit(rt: HostRuntime) -> Result<(), Fail> {
 #[test]
 fn every_file_of_a_depot_without_faults_is_loaded(rt: HostRuntime) -> Result<(), Fail> {
     let mut depot = SureDepot::new(rt.alloc())?;
-    let added = depot.add("file", b"bytes");
-    let known = loads_as(rt.alloc(), &mut depot, "file", 5, "bytes");
-    let unknown = loads_as(rt.alloc(), &mut depot, "none", 0, "");
-    assert_eq!(rt; (added, known, unknown), (Ok(()), Ok(true), Ok(true)));
+    let added = depot.add("file", b"bytes").is_ok();
+    let known = loads_as(rt.alloc(), &mut depot, "file", 5, "bytes") == Ok(true);
+    let unknown = loads_as(rt.alloc(), &mut depot, "none", 0, "") == Ok(true);
+    assert!(rt; added & known & unknown);
     Ok(())
 }
 
@@ -80,24 +80,21 @@ fn are_reads_of_file(reads: &[Entry]) -> bool {
     }
 }
 
-// What a read that fails and one into no room answer, and how many reads are then on record.
-fn two_more_reads(depot: &mut RecordDepot<MemDepot>) -> ([Result<usize, Failed>; 2], usize) {
-    let failed = depot.fetch("file", 0, &mut [0; 2]);
-    let nothing = depot.fetch("file", 0, &mut []);
-    ([failed, nothing], depot.reads().len())
+// Whether a read fails, one into no room gives nothing, and four reads are then on record.
+fn two_more_are_no_reads(depot: &mut RecordDepot<MemDepot>) -> bool {
+    let failed = depot.fetch("file", 0, &mut [0; 2]) == Err(Failed);
+    let nothing = depot.fetch("file", 0, &mut []) == Ok(0);
+    failed & nothing & (depot.reads().len() == 4)
 }
 
 #[test]
 fn a_record_holds_a_file_from_its_start_to_its_end(rt: HostRuntime) -> Result<(), Fail> {
     let files = file_of(rt.alloc(), "bytes", 2, 4)?;
     let mut depot = RecordDepot::new(rt.alloc(), files);
-    let loaded = loads_as(rt.alloc(), &mut depot, "file", 5, "bytes");
+    let loaded = loads_as(rt.alloc(), &mut depot, "file", 5, "bytes") == Ok(true);
     let recorded = are_reads_of_file(depot.reads());
-    let more = two_more_reads(&mut depot);
-    assert_eq!(rt;
-        (loaded, recorded, more),
-        (Ok(true), true, ([Err(Failed), Ok(0)], 4))
-    );
+    let no_more = two_more_are_no_reads(&mut depot);
+    assert!(rt; loaded & recorded & no_more);
     Ok(())
 }
 
@@ -127,20 +124,31 @@ fn end_of_reads(reads: &[Entry]) -> Option<u64> {
     Some(end)
 }
 
-// Whether a file of this text in pieces of so many bytes is loaded as it is, or why it is not loaded, and where the
-// reads end.
-fn load_in_pieces(alloc: Global, piece: usize, text: &str) -> (Result<bool, LoadFault>, Option<u64>)
+// Whether the file is loaded as this text, or why it is not loaded.
+fn loads_within(
+    alloc: Global,
+    depot: &mut RecordDepot<MemDepot>,
+    text: &str,
+) -> Result<bool, LoadFault> {
+    let bytes = load_within(alloc, depot, "file", &BySecond)?;
+    Ok(bytes.as_slice() == text.as_bytes())
+}
+
+// Whether a file of this text in pieces of so many bytes is loaded as it is, or is not loaded for this cause, and its
+// reads end there.
+fn is_loaded_in_pieces(
+    alloc: Global,
+    piece: usize,
+    text: &str,
+    answer: Result<bool, LoadFault>,
+    end: u64,
+) -> Result<bool, AllocError>
     requires { 1 ≤ piece }
 {
-    let Ok(files) = file_of(alloc, text, piece, u64::MAX) else {
-        return (Err(LoadFault::Memory), None);
-    };
+    let files = file_of(alloc, text, piece, u64::MAX)?;
     let mut depot = RecordDepot::new(alloc, files);
-    let answer = match load_within(alloc, &mut depot, "file", &BySecond) {
-        Ok(bytes) => Ok(bytes.as_slice() == text.as_bytes()),
-        Err(fault) => Err(fault),
-    };
-    (answer, end_of_reads(depot.reads()))
+    let loaded = loads_within(alloc, &mut depot, text) == answer;
+    Ok(loaded & (end_of_reads(depot.reads()) == Some(end)))
 }
 
 // A file, whether it is loaded, and where its reads end, which is one byte past the limit at the latest.
@@ -158,35 +166,34 @@ const LIMITS: &[(&str, Result<bool, LoadFault>, u64)] = &[
 fn a_limit_may_hang_on_the_first_bytes(rt: HostRuntime) {
     for row in LIMITS {
         let (text, answer, end) = *row;
-        let found = [
-            load_in_pieces(rt.alloc(), 1, text),
-            load_in_pieces(rt.alloc(), 2, text),
-            load_in_pieces(rt.alloc(), 64, text),
-        ];
-        assert_eq!(rt; found, [(answer, Some(end)); 3], "{text}");
+        let by_one = is_loaded_in_pieces(rt.alloc(), 1, text, answer, end) == Ok(true);
+        let by_two = is_loaded_in_pieces(rt.alloc(), 2, text, answer, end) == Ok(true);
+        let whole = is_loaded_in_pieces(rt.alloc(), 64, text, answer, end) == Ok(true);
+        assert!(rt; by_one & by_two & whole, "{text}");
     }
 }
 
-// Whether the text is written, and whether the sink then holds these bytes.
-fn put_as(sink: &mut MemSink, text: &str, held: &str) -> (bool, bool) {
+// Whether the text is taken whole, or is not, as is said, and whether the sink then holds these bytes.
+fn is_put(sink: &mut MemSink, text: &str, whole: bool, held: &str) -> bool {
     let answer = put_all(sink, text.as_bytes());
-    (answer.is_ok(), sink.bytes() == held.as_bytes())
+    (answer.is_ok() == whole) & (sink.bytes() == held.as_bytes())
 }
 
-// Whether a sink with so much room takes all ten bytes, and then the last six of them, and whether it holds these bytes
-// after each. The call of that number fails.
-fn put_twice(
+// Whether a sink with so much room does not take all ten bytes, takes the last six of them then, or does not, as is said,
+// and holds these bytes after each. The call of that number fails.
+fn is_put_twice(
     alloc: Global,
     room: usize,
     failing: u64,
     held: [&str; 2],
-) -> Result<[(bool, bool); 2], AllocError> {
+    takes_last: bool,
+) -> Result<bool, AllocError> {
     let [held_first, held_last] = held;
     let mut sink = MemSink::new(alloc, room, 4)?;
     sink.fail_at(failing)?;
-    let first = put_as(&mut sink, "ten bytes.", held_first);
-    let last = put_as(&mut sink, "bytes.", held_last);
-    Ok([first, last])
+    let first = is_put(&mut sink, "ten bytes.", false, held_first);
+    let last = is_put(&mut sink, "bytes.", takes_last, held_last);
+    Ok(first & last)
 }
 
 // The room, the call that fails, what the sink holds after each text, and whether it takes the last one whole.
@@ -201,8 +208,8 @@ const SINKS: &[(usize, u64, [&str; 2], bool)] = &[
 fn a_text_is_written_up_to_a_failure_and_as_far_as_there_is_room(rt: HostRuntime) {
     for row in SINKS {
         let (room, failing, held, takes_last) = *row;
-        let found = put_twice(rt.alloc(), room, failing, held);
-        assert_eq!(rt; found, Ok([(false, true), (takes_last, true)]), "{room}");
+        let found = is_put_twice(rt.alloc(), room, failing, held, takes_last);
+        assert!(rt; found == Ok(true), "{room}");
     }
 }
 
@@ -210,7 +217,7 @@ fn a_text_is_written_up_to_a_failure_and_as_far_as_there_is_room(rt: HostRuntime
 fn a_sink_without_faults_counts_the_bytes(rt: HostRuntime) {
     let mut sink = SureSink::new();
     let put = put_all(&mut sink, b"ten bytes.");
-    assert_eq!(rt; (put, sink.count()), (Ok(()), 10));
+    assert!(rt; put.is_ok() && sink.count() == 10);
 }
 
 // A file in memory that gives three bytes a read, after so many reads that a signal interrupts, and counts its seeks.
@@ -256,8 +263,14 @@ impl Disk for OneFile<'_> {
     }
 }
 
-// What two loads of a file answer, and the count of seeks after each.
-fn load_twice(alloc: Global, text: &str, interrupted: u8) -> [(Result<bool, LoadFault>, u8); 2] {
+// Whether the first load of a file gives this answer without a seek, and the second one the text, with so many seeks.
+fn is_loaded_twice(
+    alloc: Global,
+    text: &str,
+    interrupted: u8,
+    answer: Result<bool, LoadFault>,
+    seeks_after: u8,
+) -> bool {
     let seeks = Cell::new(0);
     let file = SlowFile {
         bytes: Cursor::new(text.as_bytes()),
@@ -266,10 +279,10 @@ fn load_twice(alloc: Global, text: &str, interrupted: u8) -> [(Result<bool, Load
     };
     let file = OpenFile::new(String::new(alloc), file);
     let mut depot = RealDepot::over(OneFile { file });
-    let first = loads_as(alloc, &mut depot, "file", 10, text);
-    let seeks_before = seeks.get();
-    let second = loads_as(alloc, &mut depot, "file", 10, text);
-    [(first, seeks_before), (second, seeks.get())]
+    let first = loads_as(alloc, &mut depot, "file", 10, text) == answer;
+    let without_seek = seeks.get() == 0;
+    let second = loads_as(alloc, &mut depot, "file", 10, text) == Ok(true);
+    first & without_seek & second & (seeks.get() == seeks_after)
 }
 
 // How many reads a signal interrupts, what the first load answers, and the count of seeks after the second.
@@ -283,8 +296,8 @@ const INTERRUPTED: &[(u8, Result<bool, LoadFault>, u8)] = &[
 fn a_file_is_read_in_order(rt: HostRuntime) {
     for row in INTERRUPTED {
         let (interrupted, first, seeks) = *row;
-        let answers = load_twice(rt.alloc(), "ten bytes.", interrupted);
-        assert_eq!(rt; answers, [(first, 0), (Ok(true), seeks)], "{interrupted}");
+        let loaded = is_loaded_twice(rt.alloc(), "ten bytes.", interrupted, first, seeks);
+        assert!(rt; loaded, "{interrupted}");
     }
 }
 
@@ -314,14 +327,8 @@ impl Write for SlowStream {
     }
 }
 
-// Whether a stream takes the whole text, and whether it then holds these bytes.
-fn put_in_parts(
-    alloc: Global,
-    piece: usize,
-    room: usize,
-    interrupted: u8,
-    taken: &str,
-) -> (bool, bool) {
+// Whether a stream takes these bytes of the text, and says whether they are all of its ten.
+fn is_put_in_parts(alloc: Global, piece: usize, room: usize, interrupted: u8, taken: &str) -> bool {
     let mut stream = SlowStream {
         bytes: Vec::new(alloc),
         piece,
@@ -329,7 +336,7 @@ fn put_in_parts(
         interrupted,
     };
     let answer = put_all(&mut RealSink::new(&mut stream), b"ten bytes.");
-    (answer.is_ok(), stream.bytes.as_slice() == taken.as_bytes())
+    (answer.is_ok() == (taken.len() == 10)) & (stream.bytes.as_slice() == taken.as_bytes())
 }
 
 // How many bytes a stream takes at once and in all, how many writes a signal interrupts, and what it then holds.
@@ -345,11 +352,7 @@ const STREAMS: &[(usize, usize, u8, &str)] = &[
 fn a_stream_takes_a_text_in_parts(rt: HostRuntime) {
     for row in STREAMS {
         let (piece, room, interrupted, taken) = *row;
-        let put = put_in_parts(rt.alloc(), piece, room, interrupted, taken);
-        assert_eq!(rt;
-            put,
-            (taken.len() == 10, true),
-            "{piece} {room} {interrupted}"
-        );
+        let put = is_put_in_parts(rt.alloc(), piece, room, interrupted, taken);
+        assert!(rt; put, "{piece} {room} {interrupted}");
     }
 }

@@ -51,7 +51,7 @@ const FILES: &[(&str, Result<(usize, usize), TopologyFault>)] = &[
 fn counts_and_faults_of_files(rt: HostRuntime) {
     for row in FILES {
         let (text, found) = *row;
-        assert_eq!(rt; counts(rt.alloc(), text), found, "{text}");
+        assert!(rt; counts(rt.alloc(), text) == found, "{text}");
     }
 }
 
@@ -96,7 +96,7 @@ fn nodes_in_order_of_appearance(rt: HostRuntime) -> Result<(), Fail> {
     let net = read(rt.alloc(), text)?;
     let nodes = are_in_order(net.names.as_slice());
     let links = net.links.as_slice() == LINKS;
-    assert_eq!(rt; (nodes, links), (true, true));
+    assert!(rt; nodes && links);
     Ok(())
 }
 
@@ -125,7 +125,7 @@ fn no_more_nodes_and_links_than_the_limits(rt: HostRuntime) -> Result<(), Fail> 
     for row in LIMITS {
         let (links, parallel, found) = *row;
         let text = links_from_one_node(rt.alloc(), links, parallel)?;
-        assert_eq!(rt; counts(rt.alloc(), text.as_str()), found, "{links}");
+        assert!(rt; counts(rt.alloc(), text.as_str()) == found, "{links}");
     }
     Ok(())
 }
