@@ -56,6 +56,19 @@ pub struct Call<'a> {
     pub err: &'a str,
 }
 
+/// A call whose second read fails, which would find the end of its first file.
+pub const SECOND_READ_FAILS: Call<'static> = Call {
+    command: CHECK,
+    files: &[],
+    read: 0,
+    failing_fetch: Some(1),
+    failing_put: None,
+    room_of_err: 200,
+    status: 4,
+    out: "",
+    err: "fault: read\n",
+};
+
 /// What a call left.
 #[derive(Drop)]
 struct Outcome {

@@ -1,5 +1,7 @@
 //! The command `publish`.
-use crate::call::{Call, Files, PUBLISH, Row, all_leave, all_say, depot_of, published_ratio};
+use crate::call::{
+    Call, Files, PUBLISH, Row, SECOND_READ_FAILS, all_leave, all_say, depot_of, published_ratio,
+};
 use std::test::Fail;
 
 const SPF: &str = "{\"topology\":\"t\",\"matrices\":\"m\",\"publish\":\"spf\"}";
@@ -342,13 +344,7 @@ fn files_of_publish_are_refused(rt: HostRuntime) -> Result<(), Fail> {
 const UNREAD: Call<'static> = Call {
     command: PUBLISH,
     files: &[&[SPF], &[LINE], &[DEMAND]],
-    read: 0,
-    failing_fetch: Some(1),
-    failing_put: None,
-    room_of_err: 200,
-    status: 4,
-    out: "",
-    err: "fault: read\n",
+    ..SECOND_READ_FAILS
 };
 
 const FAULTS: &[Call<'static>] = &[

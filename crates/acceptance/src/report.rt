@@ -1,5 +1,5 @@
 //! The command `run`.
-use crate::call::{Call, RUN, Row, all_leave, all_say};
+use crate::call::{Call, RUN, Row, SECOND_READ_FAILS, all_leave, all_say};
 use std::test::Fail;
 
 const PLAN: &str =
@@ -167,13 +167,7 @@ fn files_of_run_are_refused(rt: HostRuntime) -> Result<(), Fail> {
 const UNREAD: Call<'static> = Call {
     command: RUN,
     files: &[&[PLAN], &[WAYS], &[TWELVE], &[SECOND]],
-    read: 0,
-    failing_fetch: Some(1),
-    failing_put: None,
-    room_of_err: 200,
-    status: 4,
-    out: "",
-    err: "fault: read\n",
+    ..SECOND_READ_FAILS
 };
 
 const FAULTS: &[Call<'static>] = &[

@@ -1,15 +1,7 @@
 -- Lists that loops make of the elements of others.
-use Rattle.std.proofs.Common.{◌≡◌, ℕ, ◌+◌, ◌<◌, Bool, true, false, List, [], ◌∷◌, ◌++◌, length, map, filter, take, get_or, cond, ap, sym, ◌∙◌}
-use Rattle.std.proofs.lemmas.List.{append-nil, map_more}
+use Rattle.std.proofs.Common.{◌≡◌, ℕ, ◌+◌, ◌<◌, Bool, true, false, List, [], ◌∷◌, ◌++◌, length, filter, take, get_or, cond, ap, sym, ◌∙◌}
+use Rattle.std.proofs.lemmas.List.{append-nil}
 use Rattle.std.proofs.lemmas.List.Elements.{filter_more}
-
--- what a function makes of one element more
-pub mapped_more : {X Y : Type 0} (f : X → Y) (xs items : List X) (i : ℕ) (d : X) (y : Y) (old new : List Y) → items ≡ xs → i < length items →
-    old ≡ map f (take i xs) → new ≡ old ++ y ∷ [] → y ≡ f (get_or items i d) → new ≡ map f (take (i + 1) xs)
-mapped_more f xs items i d y old new same below made pushed is =
-    pushed
-    ∙ (ap (λ ys. ys ++ y ∷ []) (made ∙ ap (λ l. map f (take i l)) (sym same))
-    ∙ (ap (λ z. map f (take i items) ++ z ∷ []) is ∙ (sym (map_more f items i d below) ∙ ap (λ l. map f (take (i + 1) l)) same)))
 
 -- one element more that passes
 pub kept_more : {X : Type 0} (p : X → Bool) (xs : List X) (i : ℕ) (x : X) (old new : List X) → i < length xs → x ≡ get_or xs i x →

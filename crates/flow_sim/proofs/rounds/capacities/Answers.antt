@@ -1,7 +1,7 @@
 use Rattle.std.proofs.Common.{refl}
 use Rattle.te_model.specs.declared.network.Link.{Link}
 use Rattle.te_model.specs.Network.{no_link}
-use Rattle.local_recovery.proofs.Making.{mapped_more}
+use Rattle.te_model.proofs.Choices.{mapped_more}
 use Rattle.flow_sim.proofs.rounds.capacities.Goals as goal
 
 pub loop-link-preserved : goal.loop-link-preserved

@@ -1,5 +1,5 @@
 use Rattle.std.proofs.Common.{slice_index, refl}
-use Rattle.local_recovery.proofs.Making.{mapped_more}
+use Rattle.te_model.proofs.Choices.{mapped_more}
 use Rattle.flow_sim.proofs.serve.units_of.Goals as goal
 
 pub loop-flow-preserved : goal.loop-flow-preserved

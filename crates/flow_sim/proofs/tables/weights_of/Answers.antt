@@ -1,6 +1,6 @@
 use Rattle.std.proofs.Common.{ap, refl}
 use Rattle.te_model.specs.declared.route.PathShare.{PathShare}
-use Rattle.local_recovery.proofs.Making.{mapped_more}
+use Rattle.te_model.proofs.Choices.{mapped_more}
 use Rattle.flow_sim.proofs.tables.weights_of.Goals as goal
 
 pub loop-path-preserved : goal.loop-path-preserved

@@ -3,7 +3,7 @@ use Rattle.std.proofs.lemmas.List.{take_all}
 use Rattle.te_model.specs.declared.route.PairRoutes.{PairRoutes}
 use Rattle.local_recovery.specs.Recovery.{scaled_routes}
 use Rattle.local_recovery.proofs.BypassWalks.{item_has}
-use Rattle.local_recovery.proofs.Making.{mapped_more}
+use Rattle.te_model.proofs.Choices.{mapped_more}
 use Rattle.local_recovery.proofs.recovery.scale.Goals as goal
 
 pub scale_pair-requires-clause-few : goal.scale_pair-requires-clause-few

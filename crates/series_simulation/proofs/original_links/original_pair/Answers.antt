@@ -1,6 +1,6 @@
 use Rattle.std.proofs.Common.{ap, ◌∙◌}
 use Rattle.series_simulation.specs.OriginalLinks.{original_path}
-use Rattle.local_recovery.proofs.Making.{mapped_more}
+use Rattle.te_model.proofs.Choices.{mapped_more}
 use Rattle.series_simulation.proofs.original_links.original_pair.Goals as goal
 
 pub loop-path-preserved : goal.loop-path-preserved

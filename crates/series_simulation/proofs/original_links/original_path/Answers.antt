@@ -1,5 +1,5 @@
 use Rattle.std.proofs.Common.{slice_index, refl}
-use Rattle.local_recovery.proofs.Making.{mapped_more}
+use Rattle.te_model.proofs.Choices.{mapped_more}
 use Rattle.series_simulation.proofs.original_links.original_path.Goals as goal
 
 pub loop-link-preserved : goal.loop-link-preserved

@@ -3,7 +3,7 @@ use Rattle.std.proofs.lemmas.List.{take_all}
 use Rattle.te_model.specs.declared.route.PairRoutes.{PairRoutes}
 use Rattle.routing.specs.Split.{are_splits}
 use Rattle.series_simulation.specs.OriginalLinks.{original_routes, original_pair}
-use Rattle.local_recovery.proofs.Making.{mapped_more}
+use Rattle.te_model.proofs.Choices.{mapped_more}
 use Rattle.series_simulation.proofs.Order.{are_splits-back}
 use Rattle.series_simulation.proofs.original_links.original_routes.Goals as goal
 

@@ -1,5 +1,5 @@
 use Rattle.std.proofs.Common.{None, is_some, refl}
-use Rattle.local_recovery.proofs.Making.{mapped_more}
+use Rattle.te_model.proofs.Choices.{mapped_more}
 use Rattle.series_simulation.proofs.reachability.path_marks.Goals as goal
 
 pub loop-distance-preserved : goal.loop-distance-preserved
