@@ -54,6 +54,9 @@ returns-then-eq-clause-refused c =
     four-fields c.args.row c.args.rows.now.current s t q k _ c.in-Some.ensures.some
     (same-names c.args.row s t q k c.in-Some-as_name.ensures.0 c.in-Some-as_name-2.ensures.0 first.0 second.0 (rw (c.in-Some-as_name.ensures.1, c.in-Some-as_name-2.ensures.1) at (sym c.if-eq.ensures)))
 
+pub returns-then-eq-clause-entry : goal.returns-then-eq-clause-entry
+returns-then-eq-clause-entry c = tt
+
 pub returns-clause-entry : goal.returns-clause-entry
 returns-clause-entry c =
     let s = c.in-Some.source.now in
