@@ -25,6 +25,11 @@ use Rattle.te_model.proofs.Conditionals.{if_zero}
 abbrev pub no_share : PairShare
 no_share = record { pair = 0; share = 0 }
 
+-- a number of the list is a place of the table, which has kept its length
+pub place_inside : {X : Type 0} (old table : List X) (links : List ℕ) (i : ℕ) → All (λ h. h < length old) links → i < length links →
+    length table ≡ length old → slice_index links i < length table
+place_inside old table links i each below same = omega (arith, All-get_or (λ h. h < length old) links i 0 below each, same)
+
 -- a number above the last
 increasing_push : (xs : List ℕ) (x : ℕ) → IsStrictlyIncreasing xs → ((k : ℕ) → k + 1 ≡ length xs → get_or xs k 0 < x) → IsStrictlyIncreasing (xs ++ x ∷ [])
 increasing_push xs x up above k below =

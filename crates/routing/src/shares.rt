@@ -12,7 +12,7 @@ use std::marker::Model;
 use te_model::{Memory, Network, PathShare};
 
 /// A pair, and its share on a link.
-#[derive(Clone, Copy, Debug, PartialEq, Eq)]
+#[derive(Clone, Copy, PartialEq, Eq)]
 pub struct PairShare {
     /// The number of the pair.
     pub pair: u32,

@@ -1,5 +1,6 @@
-use Rattle.std.proofs.Common.{◌≡◌, ◌+◌, ◌-◌, ◌<◌, length, get_or, arith, ap, sym, subst, ◌∙◌, ℕ, ◌==◌, eq-eqb, List, Bool, true, false}
+use Rattle.std.proofs.Common.{◌≡◌, ◌+◌, ◌-◌, ◌<◌, length, get_or, arith, ap, sym, subst, ◌∙◌, ℕ, ◌==◌, eq-eqb, List}
 use Rattle.std.proofs.lemmas.List.{get_or_read}
+use Rattle.te_model.proofs.Shares.{split}
 use Rattle.routing.specs.declared.shares.PairShare.{PairShare}
 use Rattle.routing.specs.Shares.{IsShareList, share_in}
 use Rattle.routing.proofs.Sharing.{no_share, order_pushed, order_set}
@@ -57,10 +58,6 @@ overflow_add-index_mut c =
       c.requires.room,
     )
 
-more : (b : Bool) (x y : ℕ) → (if b then x + y else 0) ≡ (if b then x else 0) + (if b then y else 0)
-more true x y = omega arith
-more false x y = omega arith
-
 pub returns-then-index-pair-clause-sums : goal.returns-then-index-pair-clause-sums
 returns-then-index-pair-clause-sums c q =
     let list = c.self.inside.list.items in
@@ -74,7 +71,7 @@ returns-then-index-pair-clause-sums c q =
     omega (
       arith,
       sum_by-set (part q) list i (record { pair = was.pair; share = was.share + c.args.share }) no_share inside,
-      more (was.pair == q) was.share c.args.share,
+      split (was.pair == q) was.share c.args.share,
       ap (part q) read,
       ap (λ n. if n == q then c.args.share else 0) same,
       ap (λ (l : List PairShare). share_in l q) c.self.view_is,
