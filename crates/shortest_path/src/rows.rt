@@ -10,7 +10,7 @@ use std::alloc::Global;
 use te_model::{Link, Memory, Network};
 
 /// Whether a search goes along links or against them.
-#[derive(Clone, Copy, Debug, PartialEq, Eq)]
+#[derive(Clone, Copy)]
 pub enum Direction {
     /// Along links: from their tails to their heads.
     Forward,
