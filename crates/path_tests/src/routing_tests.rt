@@ -1,5 +1,7 @@
 //! Routings: shares, loads, loops that are cut, equal paths that are merged, and flows that come apart into paths.
-ghost use Rattle.std.specs.Prelude.{◌≡◌, IfOk, length};
+ghost use Rattle.std.specs.Prelude.{◌≡◌, ◌^◌, ◌<◌, IfOk, IsTrue, length};
+ghost use Rattle.te_model.specs.Network.{is_well_formed};
+ghost use Rattle.routing.specs.Routes.{AreDemands};
 ghost use Rattle.path_tests.specs.RoutingSamples.{fork, halves, three_middles, way_and_back};
 
 use crate::thirds::THIRDS;
@@ -7,7 +9,7 @@ use routing::*;
 use sample_networks::{are_paths, matrix, network, weighted_paths, weighted_routes};
 use std::alloc::{AllocError, Global};
 use std::test::Fail;
-use te_model::{Items, Memory, Network, Pair, Path, PathShare};
+use te_model::{Items, Matrix, Memory, Network, Pair, Path, PathShare};
 
 /// The nodes s, t and x: a straight link from s to t, a way over x, and a link from x back to s.
 fn way_and_back(alloc: Global) -> Result<Network, AllocError>
@@ -17,6 +19,24 @@ fn way_and_back(alloc: Global) -> Result<Network, AllocError>
     network(alloc, &["s", "t", "x"], &ends)
 }
 
+/// Whether the only pair has these shares on the links 0, 2 and 3.
+fn has_shares(routing: &Routing) -> bool
+    requires { 0 < length routing.now.routes }
+{
+    let first = routing.share(0, 0) == 750_000;
+    let third = routing.share(0, 2) == 250_000;
+    first & third & (routing.share(0, 3) == 0)
+}
+
+/// Whether link 0 has a load of 6, and the greatest utilisation is 0.6.
+fn has_load_and_parts(net: &Network, matrix: &Matrix, routing: &Routing) -> bool
+    requires network { IsTrue (is_well_formed net.now) }
+    requires pairs { length routing.now.routes < 2 ^ 32 }
+    requires demands { AreDemands (length routing.now.routes) matrix.now.demand }
+{
+    (routing.load(matrix, 0) == 6_000_000) & (routing.parts(net, matrix) == 600_000)
+}
+
 #[test]
 fn shares_give_loads_and_the_greatest_utilisation(rt: HostRuntime) -> Result<(), Fail> {
     let alloc = rt.alloc();
@@ -24,13 +44,7 @@ fn shares_give_loads_and_the_greatest_utilisation(rt: HostRuntime) -> Result<(),
     let routes = weighted_routes(alloc, &[(0, 1, &[(&[0], 750_000), (&[1, 2], 250_000)])])?;
     let routing = Routing { routes };
     let matrix = matrix(alloc, &[8])?;
-    let shares = [
-        routing.share(0, 0),
-        routing.share(0, 2),
-        routing.share(0, 3),
-    ];
-    assert!(rt; shares == [750_000, 250_000, 0]);
-    assert!(rt; routing.load(&matrix, 0) == 6_000_000 && routing.parts(&net, &matrix) == 600_000);
+    assert!(rt; has_shares(&routing) && has_load_and_parts(&net, &matrix, &routing));
     Ok(())
 }
 
@@ -109,23 +123,52 @@ fn halves(alloc: Global) -> Result<Routing, AllocError>
     Ok(Routing { routes })
 }
 
+/// Whether this is the greatest utilisation, by one pass over the routing and by a pass for each link.
+fn is_greatest(
+    alloc: Global,
+    net: &Network,
+    matrix: &Matrix,
+    routing: &Routing,
+    expected: u128,
+) -> Result<bool, Memory>
+    requires network { IsTrue (is_well_formed net.now) }
+    requires pairs { length routing.now.routes < 2 ^ 32 }
+    requires demands { AreDemands (length routing.now.routes) matrix.now.demand }
+{
+    let greatest = routing.greatest_utilisation(alloc, net, matrix)?;
+    Ok((greatest == expected) & (routing.parts(net, matrix) == expected))
+}
+
+/// Whether the four links have loads of 8, 6, 6 and 0, by one pass over the routing and by a pass for each link.
+fn are_loads(
+    alloc: Global,
+    net: &Network,
+    matrix: &Matrix,
+    routing: &Routing,
+) -> Result<bool, Memory>
+    requires pairs { length routing.now.routes < 2 ^ 32 }
+    requires demands { AreDemands (length routing.now.routes) matrix.now.demand }
+{
+    let each = [
+        routing.load(matrix, 0),
+        routing.load(matrix, 1),
+        routing.load(matrix, 2),
+        routing.load(matrix, 3),
+    ];
+    let loads = routing.loads(alloc, net, matrix)?;
+    let single = each == [8_000_000, 6_000_000, 6_000_000, 0];
+    Ok(single & (loads.as_slice() == each.as_slice()))
+}
+
 #[test]
 fn loads_in_one_pass_are_those_of_single_links(rt: HostRuntime) -> Result<(), Fail> {
     let alloc = rt.alloc();
     let net = fork(alloc)?;
     let matrix = matrix(alloc, &[8, 4])?;
     let routing = halves(alloc)?;
-    let greatest = routing.greatest_utilisation(alloc, &net, &matrix)?;
-    assert!(rt; greatest == 800_000 && routing.parts(&net, &matrix) == 800_000);
-    let each = [
-        routing.load(&matrix, 0),
-        routing.load(&matrix, 1),
-        routing.load(&matrix, 2),
-        routing.load(&matrix, 3),
-    ];
-    assert!(rt; each == [8_000_000, 6_000_000, 6_000_000, 0]);
-    let loads = routing.loads(alloc, &net, &matrix)?;
-    assert!(rt; loads.as_slice() == each.as_slice());
+    let greatest = is_greatest(alloc, &net, &matrix, &routing, 800_000);
+    let loads = are_loads(alloc, &net, &matrix, &routing);
+    assert!(rt; greatest == Ok(true) && loads == Ok(true));
     Ok(())
 }
 
@@ -143,15 +186,21 @@ fn are_loads_without_pairs(
     Ok(loads.as_slice() == expected)
 }
 
-#[test]
-fn no_pairs_put_no_load_on_links(rt: HostRuntime) -> Result<(), Fail> {
-    let alloc = rt.alloc();
+fn has_no_load_on_fork(alloc: Global) -> Result<bool, Memory> {
     let net = fork(alloc)?;
+    are_loads_without_pairs(alloc, &net, &[0, 0, 0, 0])
+}
+
+fn has_no_load_without_links(alloc: Global) -> Result<bool, Memory> {
     let bare = network(alloc, &["a", "m", "b"], &[])?;
-    let on_links = are_loads_without_pairs(alloc, &net, &[0, 0, 0, 0])?;
-    let on_none = are_loads_without_pairs(alloc, &bare, &[])?;
-    assert!(rt; on_links && on_none);
-    Ok(())
+    are_loads_without_pairs(alloc, &bare, &[])
+}
+
+#[test]
+fn no_pairs_put_no_load_on_links(rt: HostRuntime) {
+    let on_links = has_no_load_on_fork(rt.alloc());
+    let on_none = has_no_load_without_links(rt.alloc());
+    assert!(rt; on_links == Ok(true) && on_none == Ok(true));
 }
 
 /// The shares of the halves.
@@ -163,17 +212,39 @@ fn shares_of_halves(alloc: Global, net: &Network, routing: &Routing) -> Result<S
     Shares::new(alloc, net, routing)
 }
 
-#[test]
-fn each_link_has_the_pairs_with_a_share(rt: HostRuntime) -> Result<(), Fail> {
-    let alloc = rt.alloc();
+/// The shares of the halves on the fork.
+fn shares_on_fork(alloc: Global) -> Result<Shares, Memory>
+    ensures { IfOk result (λ s. length s ≡ 4) }
+{
     let net = fork(alloc)?;
     let routing = halves(alloc)?;
-    let shares = shares_of_halves(alloc, &net, &routing)?;
-    let of = |pair, share| PairShare { pair, share };
-    let whole = [of(0, 1_000_000)];
-    let both = [of(0, 500_000), of(1, 500_000)];
-    assert!(rt; shares.on(0) == whole.as_slice() && shares.on(3).is_empty());
-    assert!(rt; shares.on(1) == both.as_slice() && shares.on(2) == both.as_slice());
+    shares_of_halves(alloc, &net, &routing)
+}
+
+/// All of the first pair.
+const WHOLE: &[PairShare] = &[PairShare {
+    pair: 0,
+    share: 1_000_000,
+}];
+
+/// Half of each of the two pairs.
+const HALF_EACH: &[PairShare] = &[
+    PairShare {
+        pair: 0,
+        share: 500_000,
+    },
+    PairShare {
+        pair: 1,
+        share: 500_000,
+    },
+];
+
+#[test]
+fn each_link_has_the_pairs_with_a_share(rt: HostRuntime) -> Result<(), Fail> {
+    let shares = shares_on_fork(rt.alloc())?;
+    let of_first = shares.on(0) == WHOLE && shares.on(3).is_empty();
+    let of_both = shares.on(1) == HALF_EACH && shares.on(2) == HALF_EACH;
+    assert!(rt; of_first && of_both);
     Ok(())
 }
 
