@@ -17,3 +17,8 @@ appended_more old then now text done n left before step rest =
     ∙ ap (λ f. append_known (append_known old (take done text)) (take n f)) all
     ∙ append_known_twice old (take done text) (take n (drop done text))
     ∙ ap (λ f. append_known old f) (sym (take-add done n text))
+
+-- all pieces were appended
+pub appended_all : (old now : Option (List ℕ)) (text : List ℕ) (done : ℕ) → now ≡ append_known old (take done text) → done ≡ length text →
+    now ≡ append_known old text
+appended_all old now text done before all = before ∙ ap (λ k. append_known old (take k text)) all ∙ ap (append_known old) (take-length text)
