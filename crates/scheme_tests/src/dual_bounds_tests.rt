@@ -33,22 +33,31 @@ fn has_row_of_first(bracket: &Bracket) -> bool {
     }
 }
 
-/// Whether half of the demand over each link has the bracket of lengths of 1, where these lengths are offered.
-fn has_even_lengths(alloc: Global, first: u64, second: u64) -> Result<bool, Memory>
+/// The bracket of half of the demand over each link, where these lengths are offered.
+fn bracket_of_halves(alloc: Global, first: u64, second: u64) -> Result<Bracket, Memory>
     requires first { first ≤ 2 ^ 28 }
     requires second { second ≤ 2 ^ 28 }
+    ensures { IfOk result HasLow }
 {
     let commodities = on_parallel_links(alloc)?;
     let routes = weighted_routes(alloc, &[(0, 1, &[(&[0], 500_000), (&[1], 500_000)])])?;
     let routing = Routing { routes };
     let offered = offer(alloc, first, second)?;
-    let bracket = bracket(
+    bracket(
         alloc,
         &commodities.net,
         &routing,
         &commodities.matrix,
         &offered,
-    )?;
+    )
+}
+
+/// Whether half of the demand over each link has the bracket of lengths of 1, where these lengths are offered.
+fn has_even_lengths(alloc: Global, first: u64, second: u64) -> Result<bool, Memory>
+    requires first { first ≤ 2 ^ 28 }
+    requires second { second ≤ 2 ^ 28 }
+{
+    let bracket = bracket_of_halves(alloc, first, second)?;
     Ok(is_bracket(&bracket, &[1, 1], 1_000_000, 2_000_000) && has_row_of_first(&bracket))
 }
 
@@ -57,8 +66,28 @@ fn no_bound_is_greater_than_that_of_even_lengths(rt: HostRuntime) {
     // Lengths of 1 give 40 / 40 for every routing, and no sound bound is greater.
     for (first, second) in [(3, 1), (2, 2), (0, 0), (1, 1)] {
         let found = has_even_lengths(rt.alloc(), first, second);
-        assert_eq!(rt; found, Ok(true), "{first} {second}");
+        assert!(rt; found == Ok(true), "{first} {second}");
     }
+}
+
+/// The bracket of the demand on the first link alone, where these lengths are offered.
+fn bracket_of_first(alloc: Global, first: u64, second: u64) -> Result<Bracket, Memory>
+    requires first { first ≤ 2 ^ 28 }
+    requires second { second ≤ 2 ^ 28 }
+    ensures { IfOk result HasLow }
+{
+    let commodities = on_parallel_links(alloc)?;
+    let routes = weighted_routes(alloc, &[(0, 1, &[(&[0], 1_000_000)])])?;
+    let fixed = Routing { routes };
+    let offered = offer(alloc, first, second)?;
+    bracket_on_paths(
+        alloc,
+        &commodities.net,
+        &fixed,
+        &fixed,
+        &commodities.matrix,
+        &offered,
+    )
 }
 
 /// Whether the demand on the first link alone has this bracket without rows, where these lengths are offered.
@@ -72,18 +101,7 @@ fn is_bracket_of_first(
     requires first { first ≤ 2 ^ 28 }
     requires second { second ≤ 2 ^ 28 }
 {
-    let commodities = on_parallel_links(alloc)?;
-    let routes = weighted_routes(alloc, &[(0, 1, &[(&[0], 1_000_000)])])?;
-    let fixed = Routing { routes };
-    let offered = offer(alloc, first, second)?;
-    let bracket = bracket_on_paths(
-        alloc,
-        &commodities.net,
-        &fixed,
-        &fixed,
-        &commodities.matrix,
-        &offered,
-    )?;
+    let bracket = bracket_of_first(alloc, first, second)?;
     Ok(is_bracket(&bracket, lengths, low, 4_000_000) && bracket.rows.as_slice().is_empty())
 }
 
@@ -97,6 +115,6 @@ fn the_first_link_alone_carries_four_times_its_capacity(rt: HostRuntime) {
         (1, 1, [1, 1], 1_000_000),
     ] {
         let found = is_bracket_of_first(rt.alloc(), first, second, &lengths, low);
-        assert_eq!(rt; found, Ok(true), "{first} {second}");
+        assert!(rt; found == Ok(true), "{first} {second}");
     }
 }

@@ -35,11 +35,12 @@ fn takes(round: &FlowRound, link: u32) -> bool {
 
 /// Whether the first pair takes these links alone, one in each round.
 fn take_links(rounds: &[FlowRound], links: &[u32]) -> bool {
+    for (round, link) in rounds.iter().zip(links) {
+        if !takes(round, *link) {
+            return false;
+        }
+    }
     rounds.len() == links.len()
-        && rounds
-            .iter()
-            .zip(links)
-            .all(|(round, link)| takes(round, *link))
 }
 
 // The link of each round: the small one, 0, in the rounds 5, 9, 13, 17, 20 and 24.
