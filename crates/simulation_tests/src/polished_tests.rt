@@ -488,13 +488,13 @@ const SMALL: &[(&str, &str, &str, Demands, usize)] = &[
 fn certificates_of_small_networks_are_polished(rt: HostRuntime) -> Result<(), Fail> {
     for row in SMALL {
         let (name, topology, matrices, demands, blocks) = *row;
-        let found = judge(
+        let (count, polished) = judge(
             rt.alloc(),
             topology.as_bytes(),
             matrices.as_bytes(),
             demands,
         )?;
-        assert_eq!(rt; found, (blocks, true), "{name}");
+        assert!(rt; count == blocks && polished, "{name}");
     }
     Ok(())
 }
@@ -514,8 +514,8 @@ fn certificates_of_the_backbone_are_polished(rt: HostRuntime) -> Result<(), Fail
         ("all matrices", Demands::All),
         ("a margin", Demands::NearFirst),
     ] {
-        let found = judge(rt.alloc(), BACKBONE.as_bytes(), &matrices, demands)?;
-        assert_eq!(rt; found, (28, true), "{name}");
+        let (count, polished) = judge(rt.alloc(), BACKBONE.as_bytes(), &matrices, demands)?;
+        assert!(rt; count == 28 && polished, "{name}");
     }
     Ok(())
 }

@@ -102,11 +102,12 @@ fn is_row(row: &StepRow, numbers: &Row) -> bool {
 
 /// Whether the rows are these.
 fn are_rows(rows: &[StepRow], numbers: &[Row]) -> bool {
+    for (row, numbers) in rows.iter().zip(numbers) {
+        if !is_row(row, numbers) {
+            return false;
+        }
+    }
     rows.len() == numbers.len()
-        && rows
-            .iter()
-            .zip(numbers)
-            .all(|(row, numbers)| is_row(row, numbers))
 }
 
 #[test]
