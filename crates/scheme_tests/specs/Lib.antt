@@ -1,1 +1,2 @@
+pub mod DualBoundsSamples
 pub mod TreeEmbedSamples

@@ -1,22 +1,26 @@
 //! Rounds of least paths by lengths that grow with the load, on two parallel links.
-ghost use Rattle.std.specs.Prelude.{◌∷◌, [], IfOk};
+ghost use Rattle.std.specs.Prelude.{◌≡◌, ◌<◌, ◌∷◌, [], IfOk, length};
+ghost use Rattle.routing.specs.Routes.{AreDemands};
+ghost use Rattle.scheme.specs.Low.{HasLow};
 ghost use Rattle.mcf_lengths.specs.Rounds.{AreFlowRounds, IsRoundsRouting};
 ghost use Rattle.sample_networks.specs.Literals.{pair_of};
 ghost use Rattle.sample_networks.specs.Networks.{parallel_links};
 
 use crate::brackets::is_between;
-use crate::commodities::{on_parallel_links, plan_and_route};
+use crate::commodities::{Commodities, on_parallel_links, plan_and_route};
 use mcf_lengths::*;
 use routing::Routing;
 use sample_networks::are_routes;
 use std::alloc::Global;
-use std::test::Fail;
-use te_model::Memory;
+use te_model::{Bracket, Items, Memory};
 
-fn sample_rounds(alloc: Global) -> Result<Vec<FlowRound>, Memory>
+/// The rounds of the demand.
+fn sample_rounds(alloc: Global, commodities: &Commodities) -> Result<Vec<FlowRound>, Memory>
+    requires net { commodities.now.net ≡ parallel_links }
+    requires pairs { commodities.now.pairs.list ≡ pair_of (0, 1) ∷ [] }
+    requires matrix { commodities.now.matrix.demand ≡ 40 ∷ [] }
     ensures { IfOk result (λ r. AreFlowRounds parallel_links (pair_of (0, 1) ∷ []) (40 ∷ []) r.items) }
 {
-    let commodities = on_parallel_links(alloc)?;
     make_rounds(
         alloc,
         &commodities.net,
@@ -35,12 +39,15 @@ fn takes(round: &FlowRound, link: u32) -> bool {
 
 /// Whether the first pair takes these links alone, one in each round.
 fn take_links(rounds: &[FlowRound], links: &[u32]) -> bool {
-    for (round, link) in rounds.iter().zip(links) {
-        if !takes(round, *link) {
+    if rounds.len() != links.len() {
+        return false;
+    }
+    for place in 0..rounds.len() {
+        if !takes(&rounds[place], links[place]) {
             return false;
         }
     }
-    rounds.len() == links.len()
+    true
 }
 
 // The link of each round: the small one, 0, in the rounds 5, 9, 13, 17, 20 and 24.
@@ -48,46 +55,109 @@ const LINKS: &[u32] = &[
     1, 1, 1, 1, 1, 0, 1, 1, 1, 0, 1, 1, 1, 0, 1, 1, 1, 0, 1, 1, 0, 1, 1, 1, 0, 1, 1, 1,
 ];
 
-#[test]
-fn the_small_link_is_taken_in_six_rounds(rt: HostRuntime) -> Result<(), Fail> {
-    let rounds = sample_rounds(rt.alloc())?;
-    assert!(rt; take_links(&rounds, LINKS));
-    Ok(())
+/// Whether the pair takes the small link alone in six rounds, and the large one in the others.
+fn rounds_take_links(alloc: Global, commodities: &Commodities) -> bool
+    requires net { commodities.now.net ≡ parallel_links }
+    requires pairs { commodities.now.pairs.list ≡ pair_of (0, 1) ∷ [] }
+    requires matrix { commodities.now.matrix.demand ≡ 40 ∷ [] }
+{
+    match &sample_rounds(alloc, commodities) {
+        Ok(rounds) => take_links(rounds, LINKS),
+        Err(_) => false,
+    }
 }
 
-/// The routing of the rounds, its parts, and how many rounds there are lengths of.
-fn sample_routing(alloc: Global) -> Result<(Routing, u128, usize), Memory>
-    ensures { IfOk result (λ r. IsRoundsRouting parallel_links (pair_of (0, 1) ∷ []) (40 ∷ []) r.0.routes) }
+/// The routing of the rounds, and the lengths of each.
+fn sample_routing(
+    alloc: Global,
+    commodities: &Commodities,
+) -> Result<(Routing, Vec<Items<u64>>), Memory>
+    requires net { commodities.now.net ≡ parallel_links }
+    requires pairs { commodities.now.pairs.list ≡ pair_of (0, 1) ∷ [] }
+    requires matrix { commodities.now.matrix.demand ≡ 40 ∷ [] }
+    ensures rounds { IfOk result (λ r. IsRoundsRouting parallel_links (pair_of (0, 1) ∷ []) (40 ∷ []) r.0.routes) }
+    ensures count { IfOk result (λ r. length r.0.routes ≡ 1) }
 {
-    let commodities = on_parallel_links(alloc)?;
-    let (routing, lengths) = rounds_routing(
+    rounds_routing(
         alloc,
         &commodities.net,
         &commodities.pairs,
         &commodities.matrix,
-    )?;
-    let parts = routing.parts(&commodities.net, &commodities.matrix);
-    Ok((routing, parts, lengths.len()))
+    )
 }
 
-#[test]
-fn most_rounds_take_the_large_link(rt: HostRuntime) -> Result<(), Fail> {
-    let (routing, parts, rounds) = sample_routing(rt.alloc())?;
-    assert!(rt; parts == 1_047_620 && rounds == 28);
-    assert!(rt;
-        are_routes(
-            routing.routes.as_slice(),
-            &[(0, 1, &[(&[0], 214_285), (&[1], 785_715)])]
-        )
+/// Whether the small link has 6 of 28 parts of the demand, and the large link the rest.
+fn takes_most_on_large_link(commodities: &Commodities, routing: &Routing) -> bool
+    requires net { commodities.now.net ≡ parallel_links }
+    requires matrix { commodities.now.matrix.demand ≡ 40 ∷ [] }
+    requires count { length routing.now.routes ≡ 1 }
+{
+    let parts = routing.parts(&commodities.net, &commodities.matrix) == 1_047_620;
+    let routes = are_routes(
+        routing.routes.as_slice(),
+        &[(0, 1, &[(&[0], 214_285), (&[1], 785_715)])],
     );
-    Ok(())
+    parts & routes
+}
+
+/// Whether the routing of 28 rounds has most of the demand on the large link.
+fn rounds_take_large_link(alloc: Global, commodities: &Commodities) -> bool
+    requires net { commodities.now.net ≡ parallel_links }
+    requires pairs { commodities.now.pairs.list ≡ pair_of (0, 1) ∷ [] }
+    requires matrix { commodities.now.matrix.demand ≡ 40 ∷ [] }
+{
+    match sample_routing(alloc, commodities) {
+        Ok((routing, lengths)) => {
+            (lengths.len() == 28) & takes_most_on_large_link(commodities, &routing)
+        }
+        Err(_) => false,
+    }
+}
+
+/// Whether there is one pair, and no routing is better by more than a part in 5,000.
+fn fills_evenly(routing: &Routing, note: &Bracket) -> bool
+    requires { HasLow note.now }
+{
+    let pairs = routing.routes.as_slice().len() == 1;
+    pairs & is_between(note, 1_000_000, 1_000_200)
+}
+
+/// Whether the scheme fills both links evenly.
+fn flow_fills_evenly(alloc: Global, commodities: &Commodities) -> bool
+    requires net { commodities.now.net ≡ parallel_links }
+    requires pairs { commodities.now.pairs.list ≡ pair_of (0, 1) ∷ [] }
+    requires matrix { commodities.now.matrix.demand ≡ 40 ∷ [] }
+{
+    match plan_and_route(alloc, &Mcf, commodities) {
+        Ok((_plan, routing, note)) => fills_evenly(&routing, &note),
+        Err(_) => false,
+    }
+}
+
+fn small_link_is_taken_in_six_rounds(alloc: Global) -> bool {
+    match on_parallel_links(alloc) {
+        Ok(commodities) => rounds_take_links(alloc, &commodities),
+        Err(_) => false,
+    }
+}
+
+fn most_rounds_take_large_link(alloc: Global) -> bool {
+    match on_parallel_links(alloc) {
+        Ok(commodities) => rounds_take_large_link(alloc, &commodities),
+        Err(_) => false,
+    }
+}
+
+fn parallel_links_are_filled_evenly(alloc: Global) -> bool {
+    match on_parallel_links(alloc) {
+        Ok(commodities) => flow_fills_evenly(alloc, &commodities),
+        Err(_) => false,
+    }
 }
 
 #[test]
-fn two_parallel_links_are_filled_evenly(rt: HostRuntime) -> Result<(), Fail> {
-    let alloc = rt.alloc();
-    let commodities = on_parallel_links(alloc)?;
-    let (_plan, routing, note) = plan_and_route(alloc, &Mcf, &commodities)?;
-    assert!(rt; routing.routes.as_slice().len() == 1 && is_between(&note, 1_000_000, 1_000_200));
-    Ok(())
+fn lengths_grow_with_the_load(rt: HostRuntime) {
+    assert!(rt; small_link_is_taken_in_six_rounds(rt.alloc()));
+    assert!(rt; most_rounds_take_large_link(rt.alloc()));
+    assert!(rt; parallel_links_are_filled_evenly(rt.alloc()));
 }

@@ -1,10 +1,14 @@
 //! The mix of trees, on two nodes with one link each way.
-use crate::commodities::{plan_and_route, there_and_back};
+ghost use Rattle.std.specs.Prelude.{◌≡◌, ◌∷◌, []};
+ghost use Rattle.sample_networks.specs.Literals.{pair_of};
+ghost use Rattle.sample_networks.specs.Networks.{two_nodes};
+
+use crate::commodities::{Commodities, plan_and_route, there_and_back};
 use racke_mix::*;
 use routing::Routing;
 use sample_networks::are_routes;
 use scheme::Oblivious;
-use std::test::Fail;
+use std::alloc::Global;
 
 /// Whether each pair has its own link alone.
 fn has_single_links(routing: &Routing) -> bool {
@@ -22,13 +26,33 @@ fn are_two_from_even(rounds: &[Round]) -> bool {
     }
 }
 
-#[test]
-fn each_pair_has_its_own_link(rt: HostRuntime) -> Result<(), Fail> {
-    let alloc = rt.alloc();
+/// Whether the plan has two rounds, and each pair its own link alone, for every matrix and for one.
+fn has_own_links(racke: &Racke, plan: &RackePlan, routing: &Routing) -> bool {
+    let rounds = are_two_from_even(plan.rounds.as_slice());
+    rounds & has_single_links(racke.fixed(plan)) & has_single_links(routing)
+}
+
+/// Whether the mix of two trees takes the only link of each pair.
+fn mix_has_own_links(alloc: Global, commodities: &Commodities) -> bool
+    requires net { commodities.now.net ≡ two_nodes }
+    requires pairs { commodities.now.pairs.list ≡ pair_of (0, 1) ∷ pair_of (1, 0) ∷ [] }
+    requires matrix { commodities.now.matrix.demand ≡ 1 ∷ 2 ∷ [] }
+{
     let racke = Racke { trees: 2, seed: 0 };
-    let commodities = there_and_back(alloc)?;
-    let (plan, routing, _note) = plan_and_route(alloc, &racke, &commodities)?;
-    assert!(rt; are_two_from_even(plan.rounds.as_slice()));
-    assert!(rt; has_single_links(racke.fixed(&plan)) && has_single_links(&routing));
-    Ok(())
+    match &plan_and_route(alloc, &racke, commodities) {
+        Ok((plan, routing, _note)) => has_own_links(&racke, plan, routing),
+        Err(_) => false,
+    }
+}
+
+fn mix_there_and_back_has_own_links(alloc: Global) -> bool {
+    match there_and_back(alloc) {
+        Ok(commodities) => mix_has_own_links(alloc, &commodities),
+        Err(_) => false,
+    }
+}
+
+#[test]
+fn each_pair_has_its_own_link(rt: HostRuntime) {
+    assert!(rt; mix_there_and_back_has_own_links(rt.alloc()));
 }
