@@ -1,5 +1,5 @@
 //! What the schemes route in these tests: demands of the pairs of a small network.
-ghost use Rattle.std.specs.Prelude.{◌≡◌, ◌∷◌, [], IfOk, IsTrue, length, map};
+ghost use Rattle.std.specs.Prelude.{◌≡◌, ◌∷◌, [], IfOk, IsTrue, length};
 ghost use Rattle.te_model.specs.Network.{is_well_formed};
 ghost use Rattle.routing.specs.Routes.{AreDemands};
 ghost use Rattle.scheme.specs.Reach.{ArePairsOf};
@@ -20,30 +20,16 @@ pub struct Commodities {
     pub matrix: Matrix,
 }
 
-/// The demands of these pairs of the network.
-fn on_network(
-    alloc: Global,
-    net: Network,
-    ends: &[(u32, u32)],
-    demands: &[u64],
-) -> Result<Commodities, AllocError>
-    ensures net { IfOk result (λ c. c.net ≡ net) }
-    ensures pairs { IfOk result (λ c. c.pairs.list ≡ map pair_of ends.now) }
-    ensures matrix { IfOk result (λ c. c.matrix.demand ≡ demands.now) }
-{
-    let pairs = pairs(alloc, ends)?;
-    let matrix = matrix(alloc, demands)?;
-    Ok(Commodities { net, pairs, matrix })
-}
-
 /// A demand of 40 over two parallel links of the capacities 10 and 30.
 pub fn on_parallel_links(alloc: Global) -> Result<Commodities, AllocError>
     ensures net { IfOk result (λ c. c.net ≡ parallel_links) }
     ensures pairs { IfOk result (λ c. c.pairs.list ≡ pair_of (0, 1) ∷ []) }
     ensures matrix { IfOk result (λ c. c.matrix.demand ≡ 40 ∷ []) }
 {
+    let matrix = matrix(alloc, &[40])?;
+    let pairs = pairs(alloc, &[(0, 1)])?;
     let net = parallel_links(alloc)?;
-    on_network(alloc, net, &[(0, 1)], &[40])
+    Ok(Commodities { net, pairs, matrix })
 }
 
 /// Demands of 1 there and 2 back between two nodes with one link each way.
@@ -52,8 +38,10 @@ pub fn there_and_back(alloc: Global) -> Result<Commodities, AllocError>
     ensures pairs { IfOk result (λ c. c.pairs.list ≡ pair_of (0, 1) ∷ pair_of (1, 0) ∷ []) }
     ensures matrix { IfOk result (λ c. c.matrix.demand ≡ 1 ∷ 2 ∷ []) }
 {
+    let matrix = matrix(alloc, &[1, 2])?;
+    let pairs = pairs(alloc, &[(0, 1), (1, 0)])?;
     let net = two_nodes(alloc)?;
-    on_network(alloc, net, &[(0, 1), (1, 0)], &[1, 2])
+    Ok(Commodities { net, pairs, matrix })
 }
 
 /// The plan of the scheme, its routing of the demands, and the note on it.

@@ -120,13 +120,12 @@ fn is_even_bracket_best(alloc: Global, first: u64, second: u64) -> bool
 
 #[test]
 fn no_bound_is_greater_than_that_of_even_lengths(rt: HostRuntime) {
+    let alloc = rt.alloc();
     // Lengths of 1 give 40 / 40 for every routing, and no sound bound is greater.
-    for (first, second) in [(3, 1), (2, 2), (0, 0), (1, 1)] {
-        assert!(rt;
-            is_even_bracket_best(rt.alloc(), first, second),
-            "{first} {second}"
-        );
-    }
+    assert!(rt; is_even_bracket_best(alloc, 3, 1));
+    assert!(rt; is_even_bracket_best(alloc, 2, 2));
+    assert!(rt; is_even_bracket_best(alloc, 0, 0));
+    assert!(rt; is_even_bracket_best(alloc, 1, 1));
 }
 
 /// All of the demand over the first link.
@@ -170,7 +169,7 @@ fn has_bracket(
     fixed: &Routing,
     first: u64,
     second: u64,
-    lengths: [u64; 2],
+    lengths: &[u64],
     low: u128,
 ) -> bool
     requires net { commodities.now.net ≡ parallel_links }
@@ -181,7 +180,7 @@ fn has_bracket(
 {
     match bracket_of_first(alloc, commodities, fixed, first, second) {
         Ok(bracket) => {
-            is_bracket(&bracket, &lengths, low, 4_000_000) & bracket.rows.as_slice().is_empty()
+            is_bracket(&bracket, lengths, low, 4_000_000) & bracket.rows.as_slice().is_empty()
         }
         Err(_) => false,
     }
@@ -192,7 +191,7 @@ fn first_has_bracket(
     commodities: &Commodities,
     first: u64,
     second: u64,
-    lengths: [u64; 2],
+    lengths: &[u64],
     low: u128,
 ) -> bool
     requires net { commodities.now.net ≡ parallel_links }
@@ -207,7 +206,7 @@ fn first_has_bracket(
 }
 
 /// Whether the demand on the first link alone has this bracket, where these lengths are offered.
-fn is_bracket_of_first(alloc: Global, first: u64, second: u64, lengths: [u64; 2], low: u128) -> bool
+fn is_bracket_of_first(alloc: Global, first: u64, second: u64, lengths: &[u64], low: u128) -> bool
     requires first { first ≤ 2 ^ 28 }
     requires second { second ≤ 2 ^ 28 }
 {
@@ -219,14 +218,10 @@ fn is_bracket_of_first(alloc: Global, first: u64, second: u64, lengths: [u64; 2]
 
 #[test]
 fn the_first_link_alone_carries_four_times_its_capacity(rt: HostRuntime) {
+    let alloc = rt.alloc();
     // The offered lengths, those of the bracket, and its bound from below.
-    for (first, second, lengths, low) in [
-        (1, 0, [1, 0], 4_000_000),
-        (5, 1, [5, 1], 2_500_000),
-        (1, 3, [1, 1], 1_000_000),
-        (1, 1, [1, 1], 1_000_000),
-    ] {
-        let is_bracket = is_bracket_of_first(rt.alloc(), first, second, lengths, low);
-        assert!(rt; is_bracket, "{first} {second}");
-    }
+    assert!(rt; is_bracket_of_first(alloc, 1, 0, &[1, 0], 4_000_000));
+    assert!(rt; is_bracket_of_first(alloc, 5, 1, &[5, 1], 2_500_000));
+    assert!(rt; is_bracket_of_first(alloc, 1, 3, &[1, 1], 1_000_000));
+    assert!(rt; is_bracket_of_first(alloc, 1, 1, &[1, 1], 1_000_000));
 }

@@ -61,8 +61,8 @@ fn rounds_take_links(alloc: Global, commodities: &Commodities) -> bool
     requires pairs { commodities.now.pairs.list ≡ pair_of (0, 1) ∷ [] }
     requires matrix { commodities.now.matrix.demand ≡ 40 ∷ [] }
 {
-    match &sample_rounds(alloc, commodities) {
-        Ok(rounds) => take_links(rounds, LINKS),
+    match sample_rounds(alloc, commodities) {
+        Ok(rounds) => take_links(&rounds, LINKS),
         Err(_) => false,
     }
 }

@@ -39,8 +39,8 @@ fn mix_has_own_links(alloc: Global, commodities: &Commodities) -> bool
     requires matrix { commodities.now.matrix.demand ≡ 1 ∷ 2 ∷ [] }
 {
     let racke = Racke { trees: 2, seed: 0 };
-    match &plan_and_route(alloc, &racke, commodities) {
-        Ok((plan, routing, _note)) => has_own_links(&racke, plan, routing),
+    match plan_and_route(alloc, &racke, commodities) {
+        Ok((plan, routing, _note)) => has_own_links(&racke, &plan, &routing),
         Err(_) => false,
     }
 }

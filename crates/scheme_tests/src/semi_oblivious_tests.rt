@@ -68,8 +68,8 @@ fn stays_alone(alloc: Global, commodities: &Commodities) -> bool
 {
     let base = Ksp { k: 2 };
     let semi = Semi { base, budget: 1 };
-    match &plan_and_route(alloc, &semi, commodities) {
-        Ok((_plan, routing, note)) => fills_small_link(routing, note),
+    match plan_and_route(alloc, &semi, commodities) {
+        Ok((_plan, routing, note)) => fills_small_link(&routing, &note),
         Err(_) => false,
     }
 }

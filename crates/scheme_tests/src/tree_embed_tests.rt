@@ -147,11 +147,18 @@ fn nodes_not_reached_back_have_least_paths(alloc: Global) -> bool {
 }
 
 /// Whether the tree path from b to c leads over a, the center of both.
-fn leads_over_center(alloc: Global, net: &Network) -> bool
+fn leads_over_center(alloc: Global, tree: &Tree, net: &Network) -> bool
+    requires own { tree.now.network ≡ net.now }
+    requires net { net.now ≡ triangle }
+{
+    leads_over(alloc, tree, net, 1, 2, &[1, 2])
+}
+
+fn around_tree_leads_over_center(alloc: Global, net: &Network) -> bool
     requires { net.now ≡ triangle }
 {
     match around(alloc, net) {
-        Ok(tree) => leads_over(alloc, &tree, net, 1, 2, &[1, 2]),
+        Ok(tree) => leads_over_center(alloc, &tree, net),
         Err(_) => false,
     }
 }
@@ -177,7 +184,7 @@ fn aside_tree_has_no_loop(alloc: Global, net: &Network) -> bool
 /// Whether the tree paths in the triangle lead over the centers, and have no loop.
 fn triangle_paths_lead_over_centers(alloc: Global) -> bool {
     match triangle(alloc) {
-        Ok(net) => leads_over_center(alloc, &net) & aside_tree_has_no_loop(alloc, &net),
+        Ok(net) => around_tree_leads_over_center(alloc, &net) & aside_tree_has_no_loop(alloc, &net),
         Err(_) => false,
     }
 }
