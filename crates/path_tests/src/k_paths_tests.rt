@@ -1,5 +1,5 @@
 //! The least paths of a pair in order, and even weights on them.
-ghost use Rattle.std.specs.Prelude.{◌≢◌, ◌<◌, ◌≤◌, IsTrue};
+ghost use Rattle.std.specs.Prelude.{◌≡◌, ◌≢◌, ◌<◌, ◌≤◌, IsTrue};
 ghost use Rattle.te_model.specs.Network.{is_well_formed, node_count};
 ghost use Rattle.sample_networks.specs.Networks.{three_ways};
 
@@ -8,17 +8,19 @@ use k_paths::*;
 use sample_networks::{are_routes, network, pairs, three_ways};
 use scheme::{Oblivious, Scheme, SchemeFault};
 use std::alloc::Global;
-use std::test::Fail;
 use te_model::{Network, Path};
 
 /// Whether the paths have these links.
 fn have_links(paths: &[Path], expected: &[&[u32]]) -> bool {
-    for (path, links) in paths.iter().zip(expected) {
-        if path.links.as_slice() != *links {
+    if paths.len() != expected.len() {
+        return false;
+    }
+    for place in 0..paths.len() {
+        if paths[place].links.as_slice() != expected[place] {
             return false;
         }
     }
-    paths.len() == expected.len()
+    true
 }
 
 /// Whether the first `k` paths have these links.
@@ -60,9 +62,22 @@ fn paths_come_in_order_of_cost_and_links(rt: HostRuntime) {
     assert!(rt; are_first_ways(alloc, 2, 4, 0, 2, &[]));
 }
 
-#[test]
-fn a_least_way_may_lead_over_the_first_nodes(rt: HostRuntime) -> Result<(), Fail> {
-    let alloc = rt.alloc();
+/// Whether the paths from s to t come in order, of which the second leads over y before x, and the last over x before y.
+fn are_over_both(alloc: Global, net: &Network) -> bool
+    requires network { IsTrue (is_well_formed net.now) }
+    requires nodes { node_count net.now ≡ 4 }
+{
+    are_first(
+        alloc,
+        net,
+        0,
+        3,
+        5,
+        &[&[0, 1], &[2, 3, 1], &[2, 4], &[0, 5, 4]],
+    )
+}
+
+fn least_way_may_lead_over_first_nodes(alloc: Global) -> bool {
     // The least way from y to t leads over x, and there is a link from x to y.
     let ends = [
         (0, 1, 10, 1),
@@ -72,31 +87,44 @@ fn a_least_way_may_lead_over_the_first_nodes(rt: HostRuntime) -> Result<(), Fail
         (2, 3, 10, 5),
         (1, 2, 10, 1),
     ];
-    let net = network(alloc, &["s", "x", "y", "t"], &ends)?;
-    assert!(rt;
-        are_first(
-            alloc,
-            &net,
-            0,
-            3,
-            5,
-            &[&[0, 1], &[2, 3, 1], &[2, 4], &[0, 5, 4]]
-        )
-    );
-    Ok(())
+    match network(alloc, &["s", "x", "y", "t"], &ends) {
+        Ok(net) => are_over_both(alloc, &net),
+        Err(_) => false,
+    }
 }
 
-/// The plan of the five least paths for the only pair of the three ways.
-fn prepared(alloc: Global) -> Result<KspPlan, SchemeFault> {
-    let net = three_ways(alloc, 2)?;
+/// The plan of the five least paths for the only pair.
+fn prepared(alloc: Global, net: &Network) -> Result<KspPlan, SchemeFault>
+    requires { net.now ≡ three_ways 2 }
+{
     let pairs = pairs(alloc, &[(0, 4)])?;
-    Ksp { k: 5 }.prepare(alloc, &net, &pairs)
+    Ksp { k: 5 }.prepare(alloc, net, &pairs)
+}
+
+/// Whether each of the three paths has a third.
+fn has_even_weights(plan: &KspPlan) -> bool {
+    let fixed = Ksp { k: 5 }.fixed(plan);
+    are_routes(fixed.routes.as_slice(), &[(0, 4, THIRDS)])
+}
+
+fn plan_has_even_weights(alloc: Global, net: &Network) -> bool
+    requires { net.now ≡ three_ways 2 }
+{
+    match prepared(alloc, net) {
+        Ok(plan) => has_even_weights(&plan),
+        Err(_) => false,
+    }
+}
+
+fn paths_have_even_weights(alloc: Global) -> bool {
+    match three_ways(alloc, 2) {
+        Ok(net) => plan_has_even_weights(alloc, &net),
+        Err(_) => false,
+    }
 }
 
 #[test]
-fn paths_have_even_weights(rt: HostRuntime) -> Result<(), Fail> {
-    let plan = prepared(rt.alloc())?;
-    let fixed = Ksp { k: 5 }.fixed(&plan);
-    assert!(rt; are_routes(fixed.routes.as_slice(), &[(0, 4, THIRDS)]));
-    Ok(())
+fn first_paths_have_even_weights(rt: HostRuntime) {
+    assert!(rt; least_way_may_lead_over_first_nodes(rt.alloc()));
+    assert!(rt; paths_have_even_weights(rt.alloc()));
 }

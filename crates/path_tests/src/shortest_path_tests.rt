@@ -1,58 +1,87 @@
 //! Least distances, and the paths that have them, by lengths of 1, 1, 1, 3 and 3.
-ghost use Rattle.std.specs.Prelude.{◌≢◌, ◌<◌};
+ghost use Rattle.std.specs.Prelude.{◌≡◌, ◌≢◌, ◌<◌};
 ghost use Rattle.te_model.specs.Network.{node_count};
 ghost use Rattle.sample_networks.specs.Networks.{four_nodes};
 
 use sample_networks::four_nodes;
 use shortest_path::*;
 use std::alloc::Global;
-use std::test::Fail;
-use te_model::{Memory, Path};
+use te_model::Network;
 
-/// The least distance of each node from this one.
-fn distances_from(alloc: Global, src: u32) -> Result<Vec<Option<u64>>, Memory>
-    requires { src < node_count four_nodes }
+/// Whether these are the least distances of the nodes from this one.
+fn are_distances(alloc: Global, net: &Network, src: u32, expected: &[Option<u64>]) -> bool
+    requires net { net.now ≡ four_nodes }
+    requires src { src < node_count net.now }
 {
-    let net = four_nodes(alloc)?;
-    distances(alloc, &net, &[1, 1, 1, 3, 3], src)
-}
-
-#[test]
-fn sums_are_least(rt: HostRuntime) -> Result<(), Fail> {
-    let from_s = distances_from(rt.alloc(), 0)?;
-    assert!(rt; from_s.as_slice() == [Some(0), Some(1), Some(1), Some(3)].as_slice());
-    // No link leaves t.
-    let from_t = distances_from(rt.alloc(), 1)?;
-    assert!(rt; from_t.as_slice() == [None, Some(0), None, None].as_slice());
-    Ok(())
-}
-
-#[test]
-fn potentials_out_of_reach_are_the_greatest(rt: HostRuntime) -> Result<(), Fail> {
-    let alloc = rt.alloc();
-    let net = four_nodes(alloc)?;
-    let sums = potentials(alloc, &net, &[1, 1, 1, 3, 3], 1)?;
-    assert!(rt; sums.as_slice() == [0, 0, 0, 0].as_slice());
-    Ok(())
-}
-
-/// The least path from a node to another.
-fn least(alloc: Global, src: u32, dst: u32) -> Result<Option<Path>, Memory>
-    requires src { src < node_count four_nodes }
-    requires dst { dst < node_count four_nodes }
-    requires apart { src ≢ dst }
-{
-    let net = four_nodes(alloc)?;
-    least_path(alloc, &net, &[1, 1, 1, 3, 3], src, dst)
-}
-
-#[test]
-fn paths_are_least(rt: HostRuntime) -> Result<(), Fail> {
-    match least(rt.alloc(), 0, 2)? {
-        Some(path) => assert!(rt; path.links.as_slice() == [1].as_slice()),
-        None => assert!(rt; false),
+    match distances(alloc, net, &[1, 1, 1, 3, 3], src) {
+        Ok(sums) => sums.as_slice() == expected,
+        Err(_) => false,
     }
-    let back = least(rt.alloc(), 1, 0)?;
-    assert!(rt; back.is_none());
-    Ok(())
+}
+
+/// Whether the distances from s and from t are least.
+fn are_sums_least(alloc: Global, net: &Network) -> bool
+    requires { net.now ≡ four_nodes }
+{
+    let from_s = are_distances(alloc, net, 0, &[Some(0), Some(1), Some(1), Some(3)]);
+    // No link leaves t.
+    from_s & are_distances(alloc, net, 1, &[None, Some(0), None, None])
+}
+
+/// Whether the potentials from t are the greatest that its own can be, as no link leaves it.
+fn are_potentials_greatest(alloc: Global, net: &Network) -> bool
+    requires { net.now ≡ four_nodes }
+{
+    match potentials(alloc, net, &[1, 1, 1, 3, 3], 1) {
+        Ok(sums) => sums.as_slice() == [0, 0, 0, 0].as_slice(),
+        Err(_) => false,
+    }
+}
+
+/// Whether the least path from s to x is their link.
+fn leads_over_link(alloc: Global, net: &Network) -> bool
+    requires { net.now ≡ four_nodes }
+{
+    match least_path(alloc, net, &[1, 1, 1, 3, 3], 0, 2) {
+        Ok(Some(path)) => path.links.as_slice() == [1].as_slice(),
+        _ => false,
+    }
+}
+
+/// Whether there is no path from t to s.
+fn leads_nowhere(alloc: Global, net: &Network) -> bool
+    requires { net.now ≡ four_nodes }
+{
+    match least_path(alloc, net, &[1, 1, 1, 3, 3], 1, 0) {
+        Ok(path) => path.is_none(),
+        Err(_) => false,
+    }
+}
+
+fn sums_are_least(alloc: Global) -> bool {
+    match four_nodes(alloc) {
+        Ok(net) => are_sums_least(alloc, &net),
+        Err(_) => false,
+    }
+}
+
+fn potentials_out_of_reach_are_greatest(alloc: Global) -> bool {
+    match four_nodes(alloc) {
+        Ok(net) => are_potentials_greatest(alloc, &net),
+        Err(_) => false,
+    }
+}
+
+fn paths_are_least(alloc: Global) -> bool {
+    match four_nodes(alloc) {
+        Ok(net) => leads_over_link(alloc, &net) & leads_nowhere(alloc, &net),
+        Err(_) => false,
+    }
+}
+
+#[test]
+fn sums_and_paths_are_least(rt: HostRuntime) {
+    assert!(rt; sums_are_least(rt.alloc()));
+    assert!(rt; potentials_out_of_reach_are_greatest(rt.alloc()));
+    assert!(rt; paths_are_least(rt.alloc()));
 }
