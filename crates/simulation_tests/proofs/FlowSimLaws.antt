@@ -1,12 +1,15 @@
--- The routing of the tests is one of its network.
-use Rattle.std.proofs.Common.{nat_eq, ◌≤◌, List, [], ◌∷◌, length, arith, refl}
+-- The routing of the tests is one of its network, and what is left of it are rates.
+use Rattle.std.proofs.Common.{nat_eq, ◌≡◌, ◌≤◌, List, [], ◌∷◌, length, arith, refl, subst, sym, Result, Ok, Err}
+use Rattle.std.specs.Prelude.{IfOk}
 use Rattle.std.proofs.lemmas.List.Elements.{All-nil, All-cons}
 use Rattle.te_model.specs.declared.route.PairRoutes.{PairRoutes}
+use Rattle.te_model.specs.declared.network.Network.{Network}
 use Rattle.te_model.specs.Network.{node_count}
 use Rattle.te_model.specs.Pairs.{IsNodePair}
 use Rattle.te_model.specs.PathRouting.{IsPathRouting}
 use Rattle.routing.specs.Routes.{HasFewPaths}
-use Rattle.local_recovery.specs.Rates.{ArePairs}
+use Rattle.local_recovery.specs.declared.rates.Recovered.{Recovered}
+use Rattle.local_recovery.specs.Rates.{pairs_of, ArePairs, HasPathsOf, IsRates}
 use Rattle.local_recovery.specs.Spread.{IsSublist}
 use Rattle.sample_networks.specs.Literals.{pair_of, routes_of, share_of}
 use Rattle.sample_networks.specs.Networks.{four_nodes}
@@ -33,3 +36,13 @@ there_pairs = record {
 
 pub there_of_both : IsSublist (pair_of (0, 1) ∷ []) (pair_of (0, 1) ∷ pair_of (1, 0) ∷ [])
 there_of_both = (λ q. nat_eq q.src 0, refl)
+
+-- rates over this pair with paths of the network are rates of it
+pub there_rates : {E : Type 0} (net : Network) (left : Result Recovered E) → net ≡ four_nodes → IfOk left (λ r. pairs_of r.routes ≡ pair_of (0, 1) ∷ []) →
+    IfOk left (λ r. HasPathsOf net r.routes) → IfOk left (λ r. HasFewPaths 4096 r.routes) → IfOk left (λ r. IsRates net r.routes)
+there_rates net (Ok r) is pairs paths few = record {
+  pairs = subst (λ n. ArePairs n (pairs_of r.routes)) (sym is) (subst (ArePairs four_nodes) (sym pairs) there_pairs);
+  paths = paths;
+  few = few;
+}
+there_rates net (Err e) is pairs paths few = tt

@@ -6,5 +6,5 @@ use Rattle.simulation_tests.proofs.flow_sim_tests.spread_back.Goals as goal
 
 pub spread-requires : goal.spread-requires
 spread-requires c =
-    subst (λ ps. IsSublist ps c.in_ok-pairs.pairs.list) (sym c.in_ok-rates.ensures.pairs)
+    subst (λ ps. IsSublist ps c.in_ok-pairs.pairs.list) (sym c.requires)
     (subst (IsSublist (pair_of (0, 1) ∷ [])) (sym c.in_ok-pairs.ensures) there_of_both)

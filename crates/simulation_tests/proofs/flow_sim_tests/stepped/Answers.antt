@@ -4,4 +4,4 @@ use Rattle.simulation_tests.proofs.flow_sim_tests.stepped.Goals as goal
 
 pub step-requires-clause-demands : goal.step-requires-clause-demands
 step-requires-clause-demands c =
-    ap length c.in_ok-matrix.ensures ∙ (sym (ap length c.in_ok-rates.ensures.pairs) ∙ length-map c.in_ok-rates.rates.routes (λ r. r.pair))
+    ap length c.in_ok-matrix.ensures ∙ (sym (ap length c.requires.pairs) ∙ length-map c.args.rates.now.routes (λ r. r.pair))
