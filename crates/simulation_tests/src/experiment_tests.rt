@@ -1,5 +1,8 @@
 //! Reports of plans on small networks.
-use crate::inputs::{FOUR_NODES, ONE_FAILS, TWO_STEPS, read_inputs};
+ghost use Rattle.te_model.specs.Network.{node_count};
+ghost use Rattle.traffic_matrix.specs.Limits.{IsSeries};
+
+use crate::inputs::{FOUR_NODES, Inputs, ONE_FAILS, TWO_STEPS, read_inputs};
 use experiment::*;
 use std::alloc::Global;
 use std::str::from_utf8;
@@ -9,7 +12,15 @@ const HEADER: &str =
     "scheme,step,offered,delivered,lost_full,lost_failed,lost_no_path,peak,parts,low\n";
 
 /// A plan, a topology, matrices and outages, and the lines of the report below its header.
-const REPORTS: &[(&str, &str, &str, &str, &str)] = &[
+type Report = (
+    &'static str,
+    &'static str,
+    &'static str,
+    &'static str,
+    &'static str,
+);
+
+const REPORTS: &[Report] = &[
     // A failed link by each recovery.
     (
         "{\"topology\":\"t\",\"matrices\":\"m\",\"schemes\":[\"ksp\"],\"k\":2,\"recovery\":\"none\"}",
@@ -49,15 +60,10 @@ const REPORTS: &[(&str, &str, &str, &str, &str)] = &[
     ),
 ];
 
-/// The report of a plan, of which each file is given by its text.
-fn report_of(
-    alloc: Global,
-    plan: &str,
-    topology: &str,
-    matrices: &str,
-    outages: &str,
-) -> Result<Vec<u8>, Fail> {
-    let inputs = read_inputs(alloc, topology, matrices, outages)?;
+/// The report of a plan on the inputs.
+fn report_on(alloc: Global, inputs: &Inputs, plan: &str) -> Result<Vec<u8>, Fail>
+    requires { IsSeries (node_count inputs.now.network) inputs.now.series }
+{
     let plan = read_plan(alloc, plan.as_bytes())?;
     let text = report(
         alloc,
@@ -69,6 +75,18 @@ fn report_of(
     Ok(text)
 }
 
+/// The report of a plan, of which each file is given by its text.
+fn report_of(
+    alloc: Global,
+    plan: &str,
+    topology: &str,
+    matrices: &str,
+    outages: &str,
+) -> Result<Vec<u8>, Fail> {
+    let inputs = read_inputs(alloc, topology, matrices, outages)?;
+    report_on(alloc, &inputs, plan)
+}
+
 /// The lines of a report below its header.
 fn lines_of(report: &[u8]) -> Option<&str> {
     match from_utf8(report) {
@@ -77,12 +95,17 @@ fn lines_of(report: &[u8]) -> Option<&str> {
     }
 }
 
+/// Whether the report of the row has its lines.
+fn has_lines(alloc: Global, row: &Report) -> Result<bool, Fail> {
+    let (plan, topology, matrices, outages, lines) = *row;
+    let text = report_of(alloc, plan, topology, matrices, outages)?;
+    Ok(lines_of(&text) == Some(lines))
+}
+
 #[test]
 fn reports_have_a_line_for_each_step_and_the_total(rt: HostRuntime) -> Result<(), Fail> {
     for row in REPORTS {
-        let (plan, topology, matrices, outages, lines) = *row;
-        let text = report_of(rt.alloc(), plan, topology, matrices, outages)?;
-        assert!(rt; lines_of(&text) == Some(lines), "{plan}");
+        assert!(rt; has_lines(rt.alloc(), row)?, "{}", row.0);
     }
     Ok(())
 }
@@ -126,15 +149,20 @@ fn is_of_every_scheme(report: &[u8]) -> bool {
     }
 }
 
-#[test]
-fn every_scheme_on_two_parallel_links(rt: HostRuntime) -> Result<(), Fail> {
+/// Whether there is such a report.
+fn has_every_scheme(alloc: Global) -> Result<bool, Fail> {
     let text = report_of(
-        rt.alloc(),
+        alloc,
         "{\"topology\":\"t\",\"matrices\":\"m\",\"trees\":8}",
         "source,target,capacity,cost\na,b,10,1\na,b,30,1\n",
         "step,source,target,demand\n0,a,b,40\n",
         "from,to,link\n",
     )?;
-    assert!(rt; is_of_every_scheme(&text));
+    Ok(is_of_every_scheme(&text))
+}
+
+#[test]
+fn every_scheme_on_two_parallel_links(rt: HostRuntime) -> Result<(), Fail> {
+    assert!(rt; has_every_scheme(rt.alloc())?);
     Ok(())
 }

@@ -25,6 +25,37 @@ pub struct Inputs {
     pub network: Network,
     pub series: Series,
     pub failures: Failures,
+    ghost formed: { IsTrue (is_well_formed network) },
+}
+
+/// The outages in the steps of a series.
+fn read_failures(
+    alloc: Global,
+    network: &Network,
+    series: &Series,
+    outages: &str,
+) -> Result<Failures, Fail>
+    requires network { IsTrue (is_well_formed network.now) }
+    requires series { IsSeries (node_count network.now) series.now }
+{
+    let steps = series.steps.as_slice().len() as u32;
+    let failures = failure::read(alloc, network, steps, outages.as_bytes())?;
+    Ok(failures)
+}
+
+/// The series and the outages of a network.
+fn read_series(
+    alloc: Global,
+    network: &Network,
+    matrices: &str,
+    outages: &str,
+) -> Result<(Series, Failures), Fail>
+    requires { IsTrue (is_well_formed network.now) }
+    ensures { IfOk result (λ r. IsSeries (node_count network.now) r.0) }
+{
+    let series = traffic_matrix::read(alloc, network, matrices.as_bytes())?;
+    let failures = read_failures(alloc, network, &series, outages)?;
+    Ok((series, failures))
 }
 
 /// What the texts of the three files say.
@@ -34,13 +65,10 @@ pub fn read_inputs(
     matrices: &str,
     outages: &str,
 ) -> Result<Inputs, Fail>
-    ensures network { IfOk result (λ i. IsTrue (is_well_formed i.network)) }
-    ensures series { IfOk result (λ i. IsSeries (node_count i.network) i.series) }
+    ensures { IfOk result (λ i. IsSeries (node_count i.network) i.series) }
 {
     let network = topology::read(alloc, topology.as_bytes())?;
-    let series = traffic_matrix::read(alloc, &network, matrices.as_bytes())?;
-    let steps = series.steps.as_slice().len() as u32;
-    let failures = failure::read(alloc, &network, steps, outages.as_bytes())?;
+    let (series, failures) = read_series(alloc, &network, matrices, outages)?;
     Ok(Inputs {
         network,
         series,

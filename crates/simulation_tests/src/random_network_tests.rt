@@ -1,17 +1,25 @@
 //! How many nodes and links a drawn network has.
-use random_network::*;
-use std::test::Fail;
-use te_model::Network;
+ghost use Rattle.std.specs.Prelude.{◌≤◌};
 
-/// Whether the network has so many nodes and links.
-fn has_counts(network: &Network, nodes: u32, links: usize) -> bool {
-    network.names.as_slice().len() == nodes as usize && network.links.as_slice().len() == links
+use random_network::*;
+use std::alloc::Global;
+
+/// Whether the drawn network has so many nodes and links.
+fn has_counts(alloc: Global, nodes: u32, seed: u64, links: usize) -> bool
+    requires some { 2 ≤ nodes }
+    requires few { nodes ≤ 64 }
+{
+    match network(alloc, nodes, seed) {
+        Ok(net) => {
+            (net.names.as_slice().len() == nodes as usize) & (net.links.as_slice().len() == links)
+        }
+        Err(_) => false,
+    }
 }
 
 // Counts of nodes and links: two links for each node of the ring, and with four nodes or more two for each of the first half.
 #[test]
-fn nodes_and_links(rt: HostRuntime) -> Result<(), Fail> {
-    let alloc = rt.alloc();
+fn nodes_and_links(rt: HostRuntime) {
     for (nodes, seed, links) in [
         (2, 0, 4),
         (3, 1, 6),
@@ -19,8 +27,6 @@ fn nodes_and_links(rt: HostRuntime) -> Result<(), Fail> {
         (12, 7, 36),
         (64, u64::MAX, 192),
     ] {
-        let net = network(alloc, nodes, seed)?;
-        assert!(rt; has_counts(&net, nodes, links), "{nodes} nodes");
+        assert!(rt; has_counts(rt.alloc(), nodes, seed, links), "{nodes} nodes");
     }
-    Ok(())
 }
