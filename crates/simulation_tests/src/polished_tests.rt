@@ -4,7 +4,8 @@ ghost use Rattle.te_model.specs.Formats.{limits_of};
 ghost use Rattle.te_model.specs.Network.{is_well_formed, link_count, node_count};
 ghost use Rattle.te_model.specs.Pairs.{IsPairAmong, AreDemands};
 ghost use Rattle.te_model.specs.Shape.{is_shaped_set};
-ghost use Rattle.te_model.specs.Validity.{has_margin_numbers, has_pair_bounds};
+ghost use Rattle.te_model.specs.Validity.{IsValid, has_margin_numbers, has_pair_bounds};
+ghost use Rattle.traffic_matrix.specs.Limits.{IsSeries};
 ghost use Rattle.best_blocks.specs.Conditions.{IsRoutingWithin, IsSetWithin};
 ghost use Rattle.best_blocks.specs.Need.{HasNumbers};
 ghost use Rattle.best_blocks.specs.Sharing.{HasShare};
@@ -13,11 +14,10 @@ use experiment::publish;
 use ratio_certificate::{need, scale};
 use routing::Routing;
 use sample_networks::BACKBONE;
-use scheme::Spf;
+use scheme::{SchemeFault, Spf};
 use shortest_path::{distances, least_path};
 use std::alloc::Global;
-use std::test::Fail;
-use te_model::{Block, DemandSet, Items, Matrix, Memory, Network, Pair};
+use te_model::{Block, Certificate, DemandSet, Items, Matrix, Memory, Network, Pair};
 use traffic_matrix::{Series, gravity, print};
 
 /// How many rounds a link has.
@@ -76,9 +76,10 @@ fn need_under(
         &made.set,
         link,
         weights,
-    )? {
-        Some(block) => Ok(Some(need(&made.network, &block))),
-        None => Ok(None),
+    ) {
+        Ok(Some(block)) => Ok(Some(need(&made.network, &block))),
+        Ok(None) => Ok(None),
+        Err(fault) => Err(fault),
     }
 }
 
@@ -241,19 +242,44 @@ fn next_round(
     }
 }
 
+/// Whether the block needs no more than the best block of each of the rounds of its link that follow on these weights.
+fn is_within_rounds_from(alloc: Global, made: &Made, block: &Block, start: Vec<u64>) -> bool
+    requires numbers { HasNumbers made.now.network block.now }
+    requires share { HasShare made.now.routing.routes block.now.link }
+    requires count { length start.items ≡ link_count made.now.network }
+{
+    let mut weights = start;
+    for _ in 0..ROUNDS {
+        match next_round(alloc, made, block, &weights) {
+            Ok(Some(next)) => weights = next,
+            _ => return false,
+        }
+    }
+    true
+}
+
 /// Whether the block needs no more than the best block of each of the rounds of its link.
-fn is_within_rounds(alloc: Global, made: &Made, block: &Block) -> Result<bool, Memory>
+fn is_within_rounds(alloc: Global, made: &Made, block: &Block) -> bool
     requires numbers { HasNumbers made.now.network block.now }
     requires share { HasShare made.now.routing.routes block.now.link }
 {
-    let mut weights = vec![in alloc; STARTING_WEIGHT; made.network.links.as_slice().len()]?;
-    for _ in 0..ROUNDS {
-        match next_round(alloc, made, block, &weights)? {
-            Some(next) => weights = next,
-            None => return Ok(false),
+    match vec![in alloc; STARTING_WEIGHT; made.network.links.as_slice().len()] {
+        Ok(weights) => is_within_rounds_from(alloc, made, block, weights),
+        Err(_) => false,
+    }
+}
+
+/// Whether each of the blocks is within the rounds of its link.
+fn are_within_rounds(alloc: Global, made: &Made) -> bool
+    requires { All (λ b. HasShare made.now.routing.routes b.link) made.now.blocks }
+{
+    let blocks = made.blocks.as_slice();
+    for block in blocks {
+        if !is_within_rounds(alloc, made, block) {
+            return false;
         }
     }
-    Ok(true)
+    true
 }
 
 /// The place of the first of the blocks that need most, or `None` where there is no block.
@@ -279,74 +305,98 @@ fn is_fine(block: &Block) -> bool {
     block.b >= FINE_B || weights.iter().any(|weight| *weight >= STARTING_WEIGHT)
 }
 
-/// Whether the block needs less with this weight on a link, by a 64th of its need at least.
-fn is_improved(
+/// The weights of a block with this one on a link.
+fn changed(alloc: Global, block: &Block, link: usize, weight: u64) -> Result<Vec<u64>, Memory>
+    requires small { All (λ w. w ≤ 2 ^ 28) block.now.weights }
+    requires link { link < length block.now.weights }
+    requires weight { weight ≤ 2 ^ 28 }
+    ensures count { IfOk result (λ ws. length ws.items ≡ length block.now.weights) }
+    ensures small { IfOk result (λ ws. All (λ w. w ≤ 2 ^ 28) ws.items) }
+{
+    let mut weights = Vec::from_slice(alloc, block.weights.as_slice())?;
+    weights[link] = weight;
+    Ok(weights)
+}
+
+/// What the block needs with this weight on a link, or `None` where there is no best block then.
+fn need_changed(
     alloc: Global,
     made: &Made,
     block: &Block,
     link: usize,
     weight: u64,
-) -> Result<bool, Memory>
+) -> Result<Option<u128>, Memory>
+    requires numbers { HasNumbers made.now.network block.now }
+    requires share { HasShare made.now.routing.routes block.now.link }
+    requires link { link < link_count made.now.network }
+    requires weight { weight ≤ 2 ^ 28 }
+{
+    let weights = changed(alloc, block, link, weight)?;
+    need_under(alloc, made, block.link, &weights)
+}
+
+/// Whether this weight on a link does not improve the block: it does not make it need less, by a 64th of its need at least.
+fn is_no_better(alloc: Global, made: &Made, block: &Block, link: usize, weight: u64) -> bool
     requires numbers { HasNumbers made.now.network block.now }
     requires share { HasShare made.now.routing.routes block.now.link }
     requires link { link < link_count made.now.network }
     requires weight { weight ≤ 2 ^ 28 }
 {
     let least = need(&made.network, block);
-    let mut weights = Vec::from_slice(alloc, block.weights.as_slice())?;
-    weights[link] = weight;
-    match need_under(alloc, made, block.link, &weights)? {
-        Some(other) => Ok(other < least && other <= least - least.div_ceil(64)),
-        None => Ok(false),
+    match need_changed(alloc, made, block, link, weight) {
+        Ok(Some(other)) => other >= least || other > least - least.div_ceil(64),
+        Ok(None) => true,
+        Err(_) => false,
     }
 }
 
 /// Whether the block is improved neither by twice the weight of a link nor by half of it, rounded up.
-fn is_settled_at(alloc: Global, made: &Made, block: &Block, link: usize) -> Result<bool, Memory>
+fn is_settled_at(alloc: Global, made: &Made, block: &Block, link: usize) -> bool
     requires numbers { HasNumbers made.now.network block.now }
     requires share { HasShare made.now.routing.routes block.now.link }
     requires link { link < link_count made.now.network }
 {
     let weight = block.weights.as_slice()[link];
-    if weight >= 1 && weight <= MAX_DOUBLED && is_improved(alloc, made, block, link, 2 * weight)? {
-        return Ok(false);
-    }
-    if weight >= MIN_HALVED && is_improved(alloc, made, block, link, weight.div_ceil(2))? {
-        return Ok(false);
-    }
-    Ok(true)
+    let doubled = weight < 1
+        || weight > MAX_DOUBLED
+        || is_no_better(alloc, made, block, link, 2 * weight);
+    doubled && (weight < MIN_HALVED || is_no_better(alloc, made, block, link, weight.div_ceil(2)))
 }
 
 /// Whether no change of one weight improves the block.
-fn is_settled(alloc: Global, made: &Made, block: &Block) -> Result<bool, Memory>
+fn is_settled(alloc: Global, made: &Made, block: &Block) -> bool
     requires numbers { HasNumbers made.now.network block.now }
     requires share { HasShare made.now.routing.routes block.now.link }
 {
     for link in 0..made.network.links.as_slice().len() {
-        if !is_settled_at(alloc, made, block, link)? {
-            return Ok(false);
+        if !is_settled_at(alloc, made, block, link) {
+            return false;
         }
     }
-    Ok(true)
+    true
 }
 
-/// Whether what is made is polished.
-fn is_polished(alloc: Global, made: &Made) -> Result<bool, Memory>
+/// Whether the block that needs most has fine weights, and no change of one improves it.
+fn is_neediest_settled(alloc: Global, made: &Made) -> bool
     requires { All (λ b. HasShare made.now.routing.routes b.link) made.now.blocks }
 {
-    let blocks = made.blocks.as_slice();
-    for block in blocks {
-        if !is_within_rounds(alloc, made, block)? {
-            return Ok(false);
-        }
-    }
     match neediest(made) {
         Some(k) => {
+            let blocks = made.blocks.as_slice();
             let block = &blocks[k];
-            Ok(is_fine(block) && is_settled(alloc, made, block)?)
+            is_fine(block) && is_settled(alloc, made, block)
         }
-        None => Ok(true),
+        None => true,
     }
+}
+
+/// Whether what is made has so many blocks and is polished.
+fn is_polished(alloc: Global, made: &Made, blocks: usize) -> bool
+    requires { All (λ b. HasShare made.now.routing.routes b.link) made.now.blocks }
+{
+    made.blocks.as_slice().len() == blocks
+        && are_within_rounds(alloc, made)
+        && is_neediest_settled(alloc, made)
 }
 
 /// For which matrices a certificate is made.
@@ -390,42 +440,76 @@ fn demand_set(alloc: Global, demands: Demands, series: &Series) -> Result<Demand
     }
 }
 
-/// The certificate of the least paths by cost, of a network and matrices of it as they stand in files.
-fn certificate_of(
-    alloc: Global,
-    topology: &[u8],
-    matrices: &[u8],
-    demands: Demands,
-) -> Result<Made, Fail>
-    ensures { IfOk result (λ m. All (λ b. HasShare m.routing.routes b.link) m.blocks) }
+/// What the certificate is made of.
+fn made_of(certificate: Certificate) -> Made
+    requires valid { IsValid certificate }
+    requires formed { IsTrue (is_well_formed certificate.head.network) }
+    requires shares { All (λ b. HasShare certificate.head.routes b.link) certificate.blocks }
+    ensures { All (λ b. HasShare result.routing.routes b.link) result.blocks }
 {
-    let network = topology::read(alloc, topology)?;
-    let series = traffic_matrix::read(alloc, &network, matrices)?;
-    let set = demand_set(alloc, demands, &series)?;
-    let certificate = publish(alloc, &Spf, &network, &series.pairs, set, 1)?;
     let head = certificate.head;
     let routing = Routing {
         routes: head.routes,
     };
-    Ok(Made {
+    Made {
         format: head.format,
         network: head.network,
         routing,
         set: head.set,
         blocks: certificate.blocks,
-    })
+    }
 }
 
-/// How many blocks this certificate has, and whether it is polished.
-fn judge(
+/// The certificate of the least paths by cost.
+fn certificate_of(
     alloc: Global,
-    topology: &[u8],
+    network: &Network,
+    series: &Series,
+    demands: Demands,
+) -> Result<Made, SchemeFault>
+    requires formed { IsTrue (is_well_formed network.now) }
+    requires links { 1 ≤ link_count network.now }
+    requires series { IsSeries (node_count network.now) series.now }
+    ensures { IfOk result (λ m. All (λ b. HasShare m.routing.routes b.link) m.blocks) }
+{
+    let set = demand_set(alloc, demands, series)?;
+    let certificate = publish(alloc, &Spf, network, &series.pairs, set, 1)?;
+    Ok(made_of(certificate))
+}
+
+/// Whether this certificate has so many blocks and is polished.
+fn is_polished_of(
+    alloc: Global,
+    network: &Network,
+    series: &Series,
+    demands: Demands,
+    blocks: usize,
+) -> bool
+    requires formed { IsTrue (is_well_formed network.now) }
+    requires links { 1 ≤ link_count network.now }
+    requires series { IsSeries (node_count network.now) series.now }
+{
+    match certificate_of(alloc, network, series, demands) {
+        Ok(made) => is_polished(alloc, &made, blocks),
+        Err(_) => false,
+    }
+}
+
+/// The same of matrices as they stand in a file.
+fn is_polished_for(
+    alloc: Global,
+    network: &Network,
     matrices: &[u8],
     demands: Demands,
-) -> Result<(usize, bool), Fail> {
-    let made = certificate_of(alloc, topology, matrices, demands)?;
-    let polished = is_polished(alloc, &made)?;
-    Ok((made.blocks.as_slice().len(), polished))
+    blocks: usize,
+) -> bool
+    requires formed { IsTrue (is_well_formed network.now) }
+    requires links { 1 ≤ link_count network.now }
+{
+    match traffic_matrix::read(alloc, network, matrices) {
+        Ok(series) => is_polished_of(alloc, network, &series, demands, blocks),
+        Err(_) => false,
+    }
 }
 
 /// Links from a and from b to c, and both ways between a and b.
@@ -438,7 +522,9 @@ const TO_C: &str = "step,source,target,demand\n0,a,c,10\n0,b,c,10\n";
 const TO_B: &str = "step,source,target,demand\n0,a,b,10\n";
 
 /// What the case is, a network, matrices of it, for which the certificate is made, and how many links have a share, and so a block.
-const SMALL: &[(&str, &str, &str, Demands, usize)] = &[
+type Small = (&'static str, &'static str, &'static str, Demands, usize);
+
+const SMALL: &[Small] = &[
     (
         "three nodes, all matrices",
         THREE_NODES,
@@ -484,38 +570,56 @@ const SMALL: &[(&str, &str, &str, Demands, usize)] = &[
     ),
 ];
 
-#[test]
-fn certificates_of_small_networks_are_polished(rt: HostRuntime) -> Result<(), Fail> {
-    for row in SMALL {
-        let (name, topology, matrices, demands, blocks) = *row;
-        let (count, polished) = judge(
-            rt.alloc(),
-            topology.as_bytes(),
-            matrices.as_bytes(),
-            demands,
-        )?;
-        assert!(rt; count == blocks && polished, "{name}");
+/// Whether the certificate of the case is polished, of a network and matrices of it as they stand in files.
+fn is_small_polished(alloc: Global, case: &Small) -> bool {
+    let (_, topology, matrices, demands, blocks) = *case;
+    match topology::read(alloc, topology.as_bytes()) {
+        Ok(network) => is_polished_for(alloc, &network, matrices.as_bytes(), demands, blocks),
+        Err(_) => false,
     }
-    Ok(())
-}
-
-/// A matrix of the backbone in which each pair of its nodes has a demand, as it stands in a file.
-fn backbone_matrix(alloc: Global) -> Result<Vec<u8>, Fail> {
-    let network = topology::read(alloc, BACKBONE.as_bytes())?;
-    let series = gravity(alloc, &network, 11, 1)?;
-    let matrices = print(alloc, &network, &series)?;
-    Ok(matrices)
 }
 
 #[test]
-fn certificates_of_the_backbone_are_polished(rt: HostRuntime) -> Result<(), Fail> {
-    let matrices = backbone_matrix(rt.alloc())?;
-    for (name, demands) in [
-        ("all matrices", Demands::All),
-        ("a margin", Demands::NearFirst),
-    ] {
-        let (count, polished) = judge(rt.alloc(), BACKBONE.as_bytes(), &matrices, demands)?;
-        assert!(rt; count == 28 && polished, "{name}");
+fn certificates_of_small_networks_are_polished(rt: HostRuntime) {
+    for case in SMALL {
+        assert!(rt; is_small_polished(rt.alloc(), case), "{}", case.0);
     }
-    Ok(())
+}
+
+/// A matrix in which each pair of the nodes has a demand, as it stands in a file.
+fn matrix_of_every_pair(alloc: Global, network: &Network) -> Result<Vec<u8>, Memory>
+    requires { IsTrue (is_well_formed network.now) }
+{
+    let series = gravity(alloc, network, 11, 1)?;
+    print(alloc, network, &series)
+}
+
+fn is_polished_for_every_pair(alloc: Global, network: &Network, demands: Demands) -> bool
+    requires formed { IsTrue (is_well_formed network.now) }
+    requires links { 1 ≤ link_count network.now }
+{
+    match matrix_of_every_pair(alloc, network) {
+        Ok(matrices) => is_polished_for(alloc, network, &matrices, demands, 28),
+        Err(_) => false,
+    }
+}
+
+/// Whether the certificate of the backbone, with a demand of each pair of its nodes, is polished.
+fn is_backbone_polished(alloc: Global, demands: Demands) -> bool {
+    match topology::read(alloc, BACKBONE.as_bytes()) {
+        Ok(network) => is_polished_for_every_pair(alloc, &network, demands),
+        Err(_) => false,
+    }
+}
+
+#[test]
+fn certificates_of_the_backbone_are_polished(rt: HostRuntime) {
+    assert!(rt;
+        is_backbone_polished(rt.alloc(), Demands::All),
+        "all matrices"
+    );
+    assert!(rt;
+        is_backbone_polished(rt.alloc(), Demands::NearFirst),
+        "a margin"
+    );
 }

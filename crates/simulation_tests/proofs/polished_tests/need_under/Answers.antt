@@ -7,12 +7,12 @@ scale-requires-clause-set c = set_within (limits_of c.args.made.now.format) _ _ 
 
 pub need-requires-clause-numbers : goal.need-requires-clause-numbers
 need-requires-clause-numbers c =
-    (best_numbers _ _ _ _ _ _ c.args.made.now.formed c.args.made.now.within c.requires.share c.requires.count c.requires.small (rw c.in-Some.is at c.in_ok-block.ensures.best)).numbers
+    (best_numbers _ _ _ _ _ _ c.args.made.now.formed c.args.made.now.within c.requires.share c.requires.count c.requires.small (rw c.in-Ok-Some.field-0-is at (rw c.in-Ok-Some.is at c.scale.ensures.best))).numbers
 
 pub need-requires-clause-small : goal.need-requires-clause-small
 need-requires-clause-small c =
-    (best_numbers _ _ _ _ _ _ c.args.made.now.formed c.args.made.now.within c.requires.share c.requires.count c.requires.small (rw c.in-Some.is at c.in_ok-block.ensures.best)).small
+    (best_numbers _ _ _ _ _ _ c.args.made.now.formed c.args.made.now.within c.requires.share c.requires.count c.requires.small (rw c.in-Ok-Some.field-0-is at (rw c.in-Ok-Some.is at c.scale.ensures.best))).small
 
 pub need-requires-clause-weights : goal.need-requires-clause-weights
 need-requires-clause-weights c =
-    (best_numbers _ _ _ _ _ _ c.args.made.now.formed c.args.made.now.within c.requires.share c.requires.count c.requires.small (rw c.in-Some.is at c.in_ok-block.ensures.best)).weights
+    (best_numbers _ _ _ _ _ _ c.args.made.now.formed c.args.made.now.within c.requires.share c.requires.count c.requires.small (rw c.in-Ok-Some.field-0-is at (rw c.in-Ok-Some.is at c.scale.ensures.best))).weights
