@@ -2,6 +2,8 @@
 #![tactic(auto)]
 
 #[cfg(test)]
+mod demands;
+#[cfg(test)]
 mod experiment_tests;
 #[cfg(test)]
 mod flow_sim_tests;

@@ -2,14 +2,15 @@
 ghost use Rattle.std.specs.Prelude.{◌≡◌, ◌^◌, ◌<◌, ◌≤◌, ℕ, All, IfOk, IfSome, IsTrue, length, true};
 ghost use Rattle.te_model.specs.Formats.{limits_of};
 ghost use Rattle.te_model.specs.Network.{is_well_formed, link_count, node_count};
-ghost use Rattle.te_model.specs.Pairs.{IsPairAmong, AreDemands};
+ghost use Rattle.te_model.specs.Pairs.{IsPairAmong};
 ghost use Rattle.te_model.specs.Shape.{is_shaped_set};
 ghost use Rattle.te_model.specs.Validity.{IsValid, has_margin_numbers, has_pair_bounds};
 ghost use Rattle.traffic_matrix.specs.Limits.{IsSeries};
-ghost use Rattle.best_blocks.specs.Conditions.{IsRoutingWithin, IsSetWithin};
+ghost use Rattle.best_blocks.specs.Conditions.{IsRoutingWithin};
 ghost use Rattle.best_blocks.specs.Need.{HasNumbers};
 ghost use Rattle.best_blocks.specs.Sharing.{HasShare};
 
+use crate::demands::{Demands, demand_set};
 use experiment::publish;
 use ratio_certificate::{need, scale};
 use routing::Routing;
@@ -17,7 +18,7 @@ use sample_networks::BACKBONE;
 use scheme::{SchemeFault, Spf};
 use shortest_path::{distances, least_path};
 use std::alloc::Global;
-use te_model::{Block, Certificate, DemandSet, Items, Matrix, Memory, Network, Pair};
+use te_model::{Block, Certificate, DemandSet, Items, Memory, Network, Pair};
 use traffic_matrix::{Series, gravity, print};
 
 /// How many rounds a link has.
@@ -397,47 +398,6 @@ fn is_polished(alloc: Global, made: &Made, blocks: usize) -> bool
     made.blocks.as_slice().len() == blocks
         && are_within_rounds(alloc, made)
         && is_neediest_settled(alloc, made)
-}
-
-/// For which matrices a certificate is made.
-#[derive(Clone, Copy)]
-enum Demands {
-    /// For all.
-    All,
-    /// For those in which the demands stand to one another as in the first matrix of a series.
-    AsFirst,
-    /// For those within a margin of 2 over 1 of that matrix.
-    NearFirst,
-}
-
-/// The matrices whose demands lie between the first matrix over `num` and `num` times it, up to a common factor.
-fn margin(alloc: Global, num: u64, series: &Series) -> Result<DemandSet, Memory>
-    requires num { (1 ≤ num) × (num ≤ 1000) }
-    requires series { All (λ m. AreDemands (length series.now.pairs.list) m.demand) series.now.steps }
-    ensures set { IfOk result (IsSetWithin (length series.now.pairs.list)) }
-{
-    match series.steps.as_slice().first() {
-        Some(matrix) => {
-            let demand = Vec::from_slice(alloc, matrix.demand.as_slice())?;
-            let base = Matrix {
-                demand: Items::new(demand),
-            };
-            Ok(DemandSet::Margin { num, den: 1, base })
-        }
-        None => Ok(DemandSet::All),
-    }
-}
-
-/// The matrices of a series for which a certificate is made.
-fn demand_set(alloc: Global, demands: Demands, series: &Series) -> Result<DemandSet, Memory>
-    requires { All (λ m. AreDemands (length series.now.pairs.list) m.demand) series.now.steps }
-    ensures set { IfOk result (IsSetWithin (length series.now.pairs.list)) }
-{
-    match demands {
-        Demands::All => Ok(DemandSet::All),
-        Demands::AsFirst => margin(alloc, 1, series),
-        Demands::NearFirst => margin(alloc, 2, series),
-    }
 }
 
 /// What the certificate is made of.
