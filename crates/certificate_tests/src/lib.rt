@@ -6,7 +6,11 @@ mod block_reader_tests;
 #[cfg(test)]
 mod blocks;
 #[cfg(test)]
+mod cases;
+#[cfg(test)]
 mod cert_text_tests;
+#[cfg(test)]
+mod formats;
 #[cfg(test)]
 mod ratio_certificate_tests;
 #[cfg(test)]

@@ -1,6 +1,6 @@
 //! The best blocks of links, what they need, and certificates that are made, each of the straight routes of three nodes.
 ghost use Rattle.std.specs.Prelude.{◌≡◌, ◌^◌, ◌<◌, ◌≤◌, All, IfOk, length};
-ghost use Rattle.te_model.specs.ThreeNodes.{straight_routes};
+ghost use Rattle.te_model.specs.ThreeNodes.{straight_routes, three_nodes};
 ghost use Rattle.best_blocks.specs.Conditions.{IsSetWithin};
 
 use crate::blocks::are_same_blocks;
@@ -9,8 +9,7 @@ use routing::Routing;
 use sample_networks::{matrix, straight_routes, three_nodes};
 use std::alloc::{AllocError, Global};
 use std::process::Abort;
-use std::test::Fail;
-use te_model::{Block, Certificate, DemandSet, Memory, Row};
+use te_model::{Block, Certificate, DemandSet, Memory, Network, Row};
 
 /// The straight routes as a routing.
 fn straight_routing(alloc: Global) -> Result<Routing, AllocError>
@@ -47,29 +46,6 @@ fn set_of(alloc: Global, demands: Demands) -> Result<DemandSet, AllocError>
     }
 }
 
-/// The best block of a link with a share for the weights, and its need.
-fn best_on(
-    alloc: Global,
-    set: &DemandSet,
-    link: u32,
-    weights: &[u64],
-) -> Result<Option<(Block, u128)>, Memory>
-    requires set { IsSetWithin 2 set.now }
-    requires link { link < 2 }
-    requires count { length weights.now ≡ 4 }
-    requires small { All (λ w. w ≤ 2 ^ 28) weights.now }
-{
-    let net = three_nodes(alloc)?;
-    let routing = straight_routing(alloc)?;
-    match scale(alloc, &net, &routing, set, link, weights)? {
-        Some(block) => {
-            let least = need(&net, &block);
-            Ok(Some((block, least)))
-        }
-        None => Ok(None),
-    }
-}
-
 /// Whether the rows have these sources and potentials.
 fn are_rows(rows: &[Row], expected: &[(u32, [u64; 3])]) -> bool {
     if rows.len() != expected.len() {
@@ -86,7 +62,10 @@ fn are_rows(rows: &[Row], expected: &[(u32, [u64; 3])]) -> bool {
     true
 }
 
-/// The best block of the first link for a set and the weights 1, 1, 0 and 0, in which a is one million.
+/// The weights of the best blocks.
+const WEIGHTS: &[u64] = &[1, 1, 0, 0];
+
+/// The best block of the first link for a set and these weights, in which a is one million.
 #[derive(Clone, Copy)]
 struct BestBlock<'a> {
     demands: Demands,
@@ -125,78 +104,149 @@ const BEST_BLOCKS: &[BestBlock] = &[
     },
 ];
 
-/// Whether the block of these weights is the best one.
-fn is_block(block: &Block, weights: &[u64], best: &BestBlock) -> bool {
+/// Whether the block is the best one.
+fn is_block(block: &Block, best: &BestBlock) -> bool {
     let numbers = (block.link == 0) & (block.a == 1_000_000) & (block.b == best.b);
     let rows = are_rows(block.rows.as_slice(), best.rows);
     let counters = (block.plus.as_slice() == best.plus) & (block.minus.as_slice() == best.minus);
-    numbers & rows & counters & (block.weights.as_slice() == weights)
+    numbers & rows & counters & (block.weights.as_slice() == WEIGHTS)
 }
 
-/// Whether the best block for the set is this one, and needs as much.
-fn has_best(alloc: Global, set: &DemandSet, best: &BestBlock) -> bool
-    requires { IsSetWithin 2 set.now }
+/// How much the best block of the first link needs for the set, or none where the weights have none.
+fn need_of(
+    alloc: Global,
+    net: &Network,
+    routing: &Routing,
+    set: &DemandSet,
+    weights: &[u64],
+) -> Result<Option<u128>, Memory>
+    requires network { net.now ≡ three_nodes }
+    requires routes { routing.now.routes ≡ straight_routes }
+    requires set { IsSetWithin 2 set.now }
+    requires count { length weights.now ≡ 4 }
+    requires small { All (λ w. w ≤ 2 ^ 28) weights.now }
 {
-    let weights = [1, 1, 0, 0];
-    match best_on(alloc, set, 0, &weights) {
-        Ok(Some((block, need))) => is_block(&block, &weights, best) && need == best.need,
+    match scale(alloc, net, routing, set, 0, weights)? {
+        Some(block) => {
+            let least = need(net, &block);
+            Ok(Some(least))
+        }
+        None => Ok(None),
+    }
+}
+
+/// Whether the best block of the first link for the set is this one.
+fn has_best(
+    alloc: Global,
+    net: &Network,
+    routing: &Routing,
+    set: &DemandSet,
+    best: &BestBlock,
+) -> bool
+    requires network { net.now ≡ three_nodes }
+    requires routes { routing.now.routes ≡ straight_routes }
+    requires set { IsSetWithin 2 set.now }
+{
+    match scale(alloc, net, routing, set, 0, WEIGHTS) {
+        Ok(Some(block)) => is_block(&block, best),
         _ => false,
     }
 }
 
-/// Whether the best block for these demands is this one.
-fn is_found(alloc: Global, best: &BestBlock) -> Result<bool, AllocError> {
+/// Whether the best block of the first link for the set is this one, and needs as much.
+fn is_best(
+    alloc: Global,
+    net: &Network,
+    routing: &Routing,
+    set: &DemandSet,
+    best: &BestBlock,
+) -> bool
+    requires network { net.now ≡ three_nodes }
+    requires routes { routing.now.routes ≡ straight_routes }
+    requires set { IsSetWithin 2 set.now }
+{
+    let needs = need_of(alloc, net, routing, set, WEIGHTS) == Ok(Some(best.need));
+    needs & has_best(alloc, net, routing, set, best)
+}
+
+/// Whether the best block for these demands is this one, and needs as much.
+fn is_found(
+    alloc: Global,
+    net: &Network,
+    routing: &Routing,
+    best: &BestBlock,
+) -> Result<bool, Memory>
+    requires network { net.now ≡ three_nodes }
+    requires routes { routing.now.routes ≡ straight_routes }
+{
     let set = set_of(alloc, best.demands)?;
-    Ok(has_best(alloc, &set, best))
+    Ok(is_best(alloc, net, routing, &set, best))
 }
 
-fn all_are_found(rt: &impl Abort, alloc: Global, rows: &[BestBlock]) -> Result<(), Fail> {
-    for best in rows {
-        assert!(rt; is_found(alloc, best)?, "{}", best.need);
+/// Best blocks are those found by hand.
+fn all_are_found(rt: &impl Abort, alloc: Global, net: &Network, routing: &Routing)
+    requires network { net.now ≡ three_nodes }
+    requires routes { routing.now.routes ≡ straight_routes }
+{
+    for best in BEST_BLOCKS {
+        assert!(rt;
+            is_found(alloc, net, routing, best) == Ok(true),
+            "{}",
+            best.need
+        );
     }
-    Ok(())
-}
-
-#[test]
-fn best_blocks_are_those_found_by_hand(rt: HostRuntime) -> Result<(), Fail> {
-    all_are_found(&rt, rt.alloc(), BEST_BLOCKS)
 }
 
 /// Whether the best block of the first link needs as much for every matrix, or the weights have none.
-fn is_need(alloc: Global, weights: &[u64], need: Option<u128>) -> bool
+fn is_need(
+    alloc: Global,
+    net: &Network,
+    routing: &Routing,
+    weights: &[u64],
+    need: Option<u128>,
+) -> bool
+    requires network { net.now ≡ three_nodes }
+    requires routes { routing.now.routes ≡ straight_routes }
     requires count { length weights.now ≡ 4 }
     requires small { All (λ w. w ≤ 2 ^ 28) weights.now }
 {
-    match best_on(alloc, &DemandSet::All, 0, weights) {
-        Ok(Some((_, least))) => need == Some(least),
-        Ok(None) => need.is_none(),
-        Err(_) => false,
-    }
+    need_of(alloc, net, routing, &DemandSet::All, weights) == Ok(need)
 }
 
-#[test]
-fn weights_have_these_needs(rt: HostRuntime) {
-    let alloc = rt.alloc();
-    let far = 1 << 20;
-    // Each distance is one weight, and the weights of all four links are paid for.
-    assert!(rt; is_need(alloc, &[far, far, far, far], Some(4_000_000)));
-    // The link from a to b is on no least path, so half its weight leaves the distances as they are.
-    assert!(rt; is_need(alloc, &[far, far, far / 2, far], Some(3_500_000)));
-    // Doubled until the greatest is 2^20, weights need no more than before.
-    assert!(rt; is_need(alloc, &[1, 1, 0, 0], Some(2_000_000)));
-    assert!(rt; is_need(alloc, &[2, 2, 0, 0], Some(2_000_000)));
-    assert!(rt; is_need(alloc, &[far, far, 0, 0], Some(2_000_000)));
-    // Without a weight above 0 there is no block.
-    assert!(rt; is_need(alloc, &[0, 0, 0, 0], None));
-}
+/// The greatest weight, and half of it.
+const FAR: u64 = 1 << 20;
 
-/// The certificate of the straight routes over the set.
-fn made(alloc: Global, set: DemandSet) -> Result<Certificate, Memory>
-    requires { IsSetWithin 2 set }
+const HALF: u64 = 1 << 19;
+
+/// Weights have these needs.
+fn weights_have_these_needs(rt: &impl Abort, alloc: Global, net: &Network, routing: &Routing)
+    requires network { net.now ≡ three_nodes }
+    requires routes { routing.now.routes ≡ straight_routes }
 {
-    let net = three_nodes(alloc)?;
-    let routing = straight_routing(alloc)?;
-    make(alloc, &net, &routing, set)
+    // Each distance is one weight, and the weights of all four links are paid for.
+    assert!(rt; is_need(alloc, net, routing, &[FAR, FAR, FAR, FAR], Some(4_000_000)));
+    // The link from a to b is on no least path, so half its weight leaves the distances as they are.
+    assert!(rt; is_need(alloc, net, routing, &[FAR, FAR, HALF, FAR], Some(3_500_000)));
+    // Doubled until the greatest is 2^20, weights need no more than before.
+    assert!(rt; is_need(alloc, net, routing, &[1, 1, 0, 0], Some(2_000_000)));
+    assert!(rt; is_need(alloc, net, routing, &[2, 2, 0, 0], Some(2_000_000)));
+    assert!(rt; is_need(alloc, net, routing, &[FAR, FAR, 0, 0], Some(2_000_000)));
+    // Without a weight above 0 there is no block.
+    assert!(rt; is_need(alloc, net, routing, &[0, 0, 0, 0], None));
+}
+
+/// The certificate of the routing over these demands.
+fn made(
+    alloc: Global,
+    net: &Network,
+    routing: &Routing,
+    demands: Demands,
+) -> Result<Certificate, Memory>
+    requires network { net.now ≡ three_nodes }
+    requires routes { routing.now.routes ≡ straight_routes }
+{
+    let set = set_of(alloc, demands)?;
+    make(alloc, net, routing, set)
 }
 
 /// Whether both links with a share have a block, and the ratio is one of these.
@@ -210,55 +260,78 @@ fn is_made_between(certificate: &Certificate, least: u64, most: u64) -> bool {
     }
 }
 
-/// The certificate of the straight routes over these demands.
-fn made_for(alloc: Global, demands: Demands) -> Result<Certificate, Memory> {
-    let set = set_of(alloc, demands)?;
-    made(alloc, set)
-}
-
 /// Whether both links have a block in the certificate of these demands, and its ratio is one of these.
 fn has_ratio_between(
     alloc: Global,
+    net: &Network,
+    routing: &Routing,
     demands: Demands,
-    least: u64,
-    most: u64,
-) -> Result<bool, Memory> {
-    let certificate = made_for(alloc, demands)?;
-    Ok(is_made_between(&certificate, least, most))
-}
-
-#[test]
-fn made_certificates_have_nearly_the_least_ratio(rt: HostRuntime) -> Result<(), Fail> {
-    let alloc = rt.alloc();
-    // The routes have the ratio 2 for every matrix and 1 for multiples of one.
-    assert!(rt; has_ratio_between(alloc, Demands::All, 2_000_000, 2_000_200)?);
-    assert!(rt; has_ratio_between(alloc, Demands::Margin, 1_000_000, 1_000_100)?);
-    Ok(())
+    ratios: (u64, u64),
+) -> bool
+    requires network { net.now ≡ three_nodes }
+    requires routes { routing.now.routes ≡ straight_routes }
+{
+    match made(alloc, net, routing, demands) {
+        Ok(certificate) => is_made_between(&certificate, ratios.0, ratios.1),
+        Err(_) => false,
+    }
 }
 
 /// Whether one is of the first format and has a margin, the other of the second and has a box, and ratio and blocks are the same.
 fn are_alike(margin: &Certificate, bounds: &Certificate) -> bool {
-    (margin.head.format, bounds.head.format) == (1, 2)
-        && matches!(&margin.head.set, DemandSet::Margin { .. })
-        && matches!(&bounds.head.set, DemandSet::Box { .. })
-        && margin.head.ratio == bounds.head.ratio
-        && are_same_blocks(margin.blocks.as_slice(), bounds.blocks.as_slice())
+    let formats = (margin.head.format == 1) & (bounds.head.format == 2);
+    let first = matches!(&margin.head.set, DemandSet::Margin { .. });
+    let second = matches!(&bounds.head.set, DemandSet::Box { .. });
+    let ratios = margin.head.ratio == bounds.head.ratio;
+    let blocks = are_same_blocks(margin.blocks.as_slice(), bounds.blocks.as_slice());
+    formats & first & second & ratios & blocks
 }
 
 /// Whether the certificate of the box is like that of the margin.
-fn is_box_like(alloc: Global, margin: &Certificate) -> Result<bool, Memory> {
-    let bounds = made_for(alloc, Demands::Box)?;
-    Ok(are_alike(margin, &bounds))
+fn is_box_like(alloc: Global, net: &Network, routing: &Routing, margin: &Certificate) -> bool
+    requires network { net.now ≡ three_nodes }
+    requires routes { routing.now.routes ≡ straight_routes }
+{
+    match made(alloc, net, routing, Demands::Box) {
+        Ok(bounds) => are_alike(margin, &bounds),
+        Err(_) => false,
+    }
 }
 
-/// Whether the certificates of the margin and of its box are alike.
-fn are_made_alike(alloc: Global) -> Result<bool, Memory> {
-    let margin = made_for(alloc, Demands::Margin)?;
-    is_box_like(alloc, &margin)
+/// Whether the certificates of the margin and of its box have the same blocks.
+fn are_made_alike(alloc: Global, net: &Network, routing: &Routing) -> bool
+    requires network { net.now ≡ three_nodes }
+    requires routes { routing.now.routes ≡ straight_routes }
+{
+    match made(alloc, net, routing, Demands::Margin) {
+        Ok(margin) => is_box_like(alloc, net, routing, &margin),
+        Err(_) => false,
+    }
+}
+
+/// Certificates have nearly the least ratio, which is 2 for every matrix and 1 for multiples of one.
+fn certificates_are_near(rt: &impl Abort, alloc: Global, net: &Network, routing: &Routing)
+    requires network { net.now ≡ three_nodes }
+    requires routes { routing.now.routes ≡ straight_routes }
+{
+    let (all, margin) = ((2_000_000, 2_000_200), (1_000_000, 1_000_100));
+    assert!(rt; has_ratio_between(alloc, net, routing, Demands::All, all));
+    assert!(rt; has_ratio_between(alloc, net, routing, Demands::Margin, margin));
+    assert!(rt; are_made_alike(alloc, net, routing));
+}
+
+/// Best blocks, needs and certificates of the straight routes are as they were found by hand.
+fn straight_routes_are_judged(rt: &impl Abort, alloc: Global, net: &Network)
+    requires { net.now ≡ three_nodes }
+{
+    let routing = straight_routing(alloc).expect(rt, "a routing");
+    all_are_found(rt, alloc, net, &routing);
+    weights_have_these_needs(rt, alloc, net, &routing);
+    certificates_are_near(rt, alloc, net, &routing);
 }
 
 #[test]
-fn a_margin_and_its_box_have_the_same_blocks(rt: HostRuntime) -> Result<(), Fail> {
-    assert!(rt; are_made_alike(rt.alloc())?);
-    Ok(())
+fn blocks_needs_and_certificates_are_those_found_by_hand(rt: HostRuntime) {
+    let net = three_nodes(rt.alloc()).expect(&rt, "a network");
+    straight_routes_are_judged(&rt, rt.alloc(), &net);
 }

@@ -1,17 +1,12 @@
 //! The verdict on certificates that keep the rules, yes or no, on the whole and on its blocks one at a time.
 ghost use Rattle.te_model.specs.Validity.{IsValid};
 
-use cert_text::read;
+use crate::cases::{Case, all_hold};
+use crate::formats::{FIRST, SECOND};
+use cert_text::{CertFault, read};
 use ratio_checker::{Feed, Finding, verdict};
-use std::alloc::Global;
-use std::process::Abort;
-use std::test::Fail;
+use std::alloc::{AllocError, Global};
 use te_model::{Certificate, Memory};
-
-// The first line of each format.
-const FIRST: &str = "yates-ratio 1\n";
-
-const SECOND: &str = "yates-ratio 2\n";
 
 // Two parallel links, each with half of the one pair's demand.
 const PARALLEL: &str =
@@ -43,23 +38,25 @@ const FOR_DOUBLE: &str =
 
 // The first line, the network with its pairs, the set with the ratio, and the blocks of a certificate, and the first inequality
 // that fails, if one does: its link, its number and its place.
-const CERTIFICATES: &[(&str, &str, &str, &str, Option<(u32, u8, u64)>)] = &[
+struct Judged<'a>(&'a str, &'a str, &'a str, &'a str, Option<(u32, u8, u64)>);
+
+const CERTIFICATES: &[Judged] = &[
     // Each of two parallel links has a share, so neither block can be left out.
-    (
+    Judged(
         FIRST,
         PARALLEL,
         "set all\nratio 2000000\n",
         "blocks 2\n0 500000 1 1\n1 1\n0 0 1\n1 500000 1 1\n1 1\n0 0 1\n",
         None,
     ),
-    (
+    Judged(
         FIRST,
         PARALLEL,
         "set all\nratio 2000000\n",
         "blocks 1\n0 500000 1 1\n1 1\n0 0 1\n",
         Some((1, 2, 0)),
     ),
-    (
+    Judged(
         FIRST,
         PARALLEL,
         "set all\nratio 2000000\n",
@@ -67,15 +64,15 @@ const CERTIFICATES: &[(&str, &str, &str, &str, Option<(u32, u8, u64)>)] = &[
         Some((0, 2, 0)),
     ),
     // The ratio of three nodes is 2 for every matrix. A block that is left out fails before a ratio that is too low.
-    (FIRST, STRAIGHT, "set all\nratio 2000000\n", FOR_ALL, None),
-    (
+    Judged(FIRST, STRAIGHT, "set all\nratio 2000000\n", FOR_ALL, None),
+    Judged(
         FIRST,
         STRAIGHT,
         "set all\nratio 1999999\n",
         FOR_ALL,
         Some((0, 4, 0)),
     ),
-    (
+    Judged(
         FIRST,
         STRAIGHT,
         "set all\nratio 1999999\n",
@@ -83,28 +80,28 @@ const CERTIFICATES: &[(&str, &str, &str, &str, Option<(u32, u8, u64)>)] = &[
         Some((0, 2, 0)),
     ),
     // It is 1 for equal demands, as a margin or as a box, and the blocks do not hold for larger sets.
-    (
+    Judged(
         FIRST,
         STRAIGHT,
         "set margin 1 1\nbase 10 10\nratio 1000000\n",
         FOR_EQUAL,
         None,
     ),
-    (
+    Judged(
         FIRST,
         STRAIGHT,
         "set margin 1 1\nbase 10 10\nratio 1000000\n",
         FOR_EQUAL_WITHOUT_MINUS,
         Some((0, 3, 0)),
     ),
-    (
+    Judged(
         SECOND,
         STRAIGHT,
         "set box\nlower 10 10\nupper 10 10\nratio 1000000\n",
         FOR_EQUAL,
         None,
     ),
-    (
+    Judged(
         SECOND,
         STRAIGHT,
         "set box\nlower 10 10\nupper 20 20\nratio 1000000\n",
@@ -112,14 +109,14 @@ const CERTIFICATES: &[(&str, &str, &str, &str, Option<(u32, u8, u64)>)] = &[
         Some((0, 3, 0)),
     ),
     // It is four thirds, rounded up, where neither demand is above twice the other.
-    (
+    Judged(
         SECOND,
         STRAIGHT,
         "set box\nlower 10 10\nupper 20 20\nratio 1333334\n",
         FOR_DOUBLE,
         None,
     ),
-    (
+    Judged(
         SECOND,
         STRAIGHT,
         "set box\nlower 10 10\nupper 20 20\nratio 1333333\n",
@@ -127,14 +124,14 @@ const CERTIFICATES: &[(&str, &str, &str, &str, Option<(u32, u8, u64)>)] = &[
         Some((0, 4, 0)),
     ),
     // The link from z to b has the weight 0, so the potential of z is at least that of b.
-    (
+    Judged(
         FIRST,
         OUT_OF_REACH,
         "set all\nratio 1000000\n",
         "blocks 1\n0 1000000 1 1\n1 0\n0 0 1 0\n",
         Some((0, 1, 2)),
     ),
-    (
+    Judged(
         FIRST,
         OUT_OF_REACH,
         "set all\nratio 1000000\n",
@@ -157,19 +154,6 @@ fn found(alloc: Global, cert: Certificate) -> Result<Option<Finding>, Memory>
     Ok(same.then_some(whole))
 }
 
-// The same of the certificate of these parts.
-fn found_in(
-    alloc: Global,
-    first_line: &str,
-    network: &str,
-    claim: &str,
-    blocks: &str,
-) -> Result<Option<Finding>, Fail> {
-    let text = [first_line, network, claim, blocks, "end\n"].concat(alloc)?;
-    let cert = read(alloc, text.as_bytes())?;
-    Ok(found(alloc, cert)?)
-}
-
 // The finding where this inequality is the first that fails, or where none does.
 fn finding_of(failure: Option<(u32, u8, u64)>) -> Finding {
     match failure {
@@ -178,19 +162,33 @@ fn finding_of(failure: Option<(u32, u8, u64)>) -> Finding {
     }
 }
 
-// A certificate in its parts, and the first inequality of it that fails, if one does.
-type Verdict<'a> = (&'a str, &'a str, &'a str, &'a str, Option<(u32, u8, u64)>);
+// Whether this is found of the certificate of a text.
+fn found_in(alloc: Global, text: &str, failure: Option<(u32, u8, u64)>) -> Result<bool, CertFault> {
+    let cert = read(alloc, text.as_bytes())?;
+    Ok(found(alloc, cert) == Ok(Some(finding_of(failure))))
+}
 
-fn all_are_found(rt: &impl Abort, alloc: Global, rows: &[Verdict<'_>]) -> Result<(), Fail> {
-    for row in rows {
-        let (first_line, network, claim, blocks, failure) = *row;
-        let found = found_in(alloc, first_line, network, claim, blocks)?;
-        assert!(rt; found == Some(finding_of(failure)), "{claim}{blocks}");
+// The certificate of these parts.
+fn certificate_of(
+    alloc: Global,
+    first_line: &str,
+    network: &str,
+    claim: &str,
+    blocks: &str,
+) -> Result<String, AllocError> {
+    [first_line, network, claim, blocks, "end\n"].concat(alloc)
+}
+
+impl Case for Judged<'_> {
+    fn holds(&self, alloc: Global) -> bool {
+        match certificate_of(alloc, self.0, self.1, self.2, self.3) {
+            Ok(text) => found_in(alloc, text.as_str(), self.4) == Ok(true),
+            Err(_) => false,
+        }
     }
-    Ok(())
 }
 
 #[test]
-fn the_first_inequality_that_fails_is_found(rt: HostRuntime) -> Result<(), Fail> {
-    all_are_found(&rt, rt.alloc(), CERTIFICATES)
+fn the_first_inequality_that_fails_is_found(rt: HostRuntime) {
+    all_hold(&rt, rt.alloc(), CERTIFICATES);
 }

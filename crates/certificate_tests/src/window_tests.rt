@@ -1,9 +1,9 @@
 //! A window over files in memory.
 ghost use Rattle.std.specs.Prelude.{◌≤◌};
 
+use crate::cases::{Case, all_hold};
 use block_reader::{State, Window};
 use std::alloc::{AllocError, Global};
-use std::test::Fail;
 use te_ports::{Depot, Entry, MemDepot, RecordDepot};
 
 // How many bytes a window holds, and how many are asked for and passed at once.
@@ -60,42 +60,51 @@ fn are_in_order(reads: &[Entry]) -> bool {
     true
 }
 
-// Whether this text is passed, the file comes to this state, and its reads are in order.
-fn is_passed(
+// Whether this text of a file is passed, and the file comes to this state.
+fn is_passed<D: Depot>(
     alloc: Global,
-    piece: usize,
-    failing: u64,
+    depot: &mut D,
     limit: u8,
     text: &str,
     state: State,
 ) -> Result<bool, AllocError> {
-    let mut depot = file_of(alloc, TEN_BYTES, piece, failing)?;
-    let (passed, last) = pass_all(alloc, &mut depot, limit)?;
-    Ok(passed.as_slice() == text.as_bytes() && last == state && are_in_order(depot.reads()))
+    let (passed, last) = pass_all(alloc, depot, limit)?;
+    Ok((passed.as_slice() == text.as_bytes()) & (last == state))
 }
 
 // The bytes that reads give at once, the read that fails, the limit, what is passed, and what becomes of the file.
-const FILES: &[(usize, u64, u8, &str, State)] = &[
-    (1, NEVER, 11, "ten bytes.", State::Ended),
-    (2, NEVER, 10, "ten bytes.", State::Ended),
-    (64, NEVER, 10, "ten bytes.", State::Ended),
-    (1, NEVER, 9, "ten bytes.", State::TooLong),
-    (3, NEVER, 8, "ten bytes", State::TooLong),
-    (64, NEVER, 0, "t", State::TooLong),
-    (3, 0, 10, "", State::Failed),
-    (3, 1, 10, "ten", State::Failed),
-    (3, 2, 10, "ten b", State::Failed),
-    (3, 3, 10, "ten byte", State::Failed),
+struct Passed<'a>(usize, u64, u8, &'a str, State);
+
+const FILES: &[Passed] = &[
+    Passed(1, NEVER, 11, "ten bytes.", State::Ended),
+    Passed(2, NEVER, 10, "ten bytes.", State::Ended),
+    Passed(64, NEVER, 10, "ten bytes.", State::Ended),
+    Passed(1, NEVER, 9, "ten bytes.", State::TooLong),
+    Passed(3, NEVER, 8, "ten bytes", State::TooLong),
+    Passed(64, NEVER, 0, "t", State::TooLong),
+    Passed(3, 0, 10, "", State::Failed),
+    Passed(3, 1, 10, "ten", State::Failed),
+    Passed(3, 2, 10, "ten b", State::Failed),
+    Passed(3, 3, 10, "ten byte", State::Failed),
 ];
 
-#[test]
-fn a_file_is_passed_piece_by_piece(rt: HostRuntime) -> Result<(), Fail> {
-    for row in FILES {
-        let (piece, failing, limit, text, state) = *row;
-        let passed = is_passed(rt.alloc(), piece, failing, limit, text, state)?;
-        assert!(rt; passed, "{piece} {failing} {limit}");
+// The reads are in order too.
+impl Case for Passed<'_> {
+    fn holds(&self, alloc: Global) -> bool {
+        let Passed(piece, failing, limit, text, state) = *self;
+        match file_of(alloc, TEN_BYTES, piece, failing) {
+            Ok(mut depot) => {
+                let passed = is_passed(alloc, &mut depot, limit, text, state) == Ok(true);
+                passed & are_in_order(depot.reads())
+            }
+            Err(_) => false,
+        }
     }
-    Ok(())
+}
+
+#[test]
+fn a_file_is_passed_piece_by_piece(rt: HostRuntime) {
+    all_hold(&rt, rt.alloc(), FILES);
 }
 
 // Whether a window is in this state and has these bytes ready.
@@ -103,12 +112,18 @@ fn is_at(window: &Window, state: State, ready: &str) -> bool {
     (window.state() == state) & (window.ready() == ready.as_bytes())
 }
 
-#[test]
-fn a_window_at_the_start_is_drained(rt: HostRuntime) -> Result<(), Fail> {
-    let mut depot = file_of(rt.alloc(), TEN_BYTES, 2, NEVER)?;
-    let mut window = Window::at_start(rt.alloc(), &mut depot, "file", &10_u64, WANTED, ROOM)?;
+// Whether a window that is opened at the start of a file is drained.
+fn is_drained<D: Depot>(alloc: Global, depot: &mut D) -> Result<bool, AllocError> {
+    let mut window = Window::at_start(alloc, depot, "file", &10_u64, WANTED, ROOM)?;
     let is_open = is_at(&window, State::Open, "ten ");
-    window.drain(&mut depot, "file");
-    assert!(rt; is_open & is_at(&window, State::Ended, ""));
-    Ok(())
+    window.drain(depot, "file");
+    Ok(is_open & is_at(&window, State::Ended, ""))
+}
+
+#[test]
+fn a_window_at_the_start_is_drained(rt: HostRuntime) {
+    let alloc = rt.alloc();
+    let mut depot = file_of(alloc, TEN_BYTES, 2, NEVER).expect(&rt, "a file in memory");
+    let drained = is_drained(alloc, &mut depot);
+    assert!(rt; drained == Ok(true));
 }
