@@ -1,5 +1,7 @@
 //! Records of a file of comma-separated values, and numbers in their fields.
+use crate::cases::{Case, all_hold};
 use csv_records::*;
+use std::alloc::Global;
 
 // Whether there is a next record, with this second field and so many fields.
 fn next_has(rows: &mut Rows, second: &str, fields: usize) -> bool {
@@ -32,23 +34,25 @@ fn records_in_order(rt: HostRuntime) {
 }
 
 // A field, the least and the greatest number, and the number that the field spells between them.
-const NUMBERS: &[(&str, u64, u64, Option<u64>)] = &[
+struct Spelled<'a>(&'a str, u64, u64, Option<u64>);
+
+const NUMBERS: &[Spelled] = &[
     // The greatest number with leading zeros, and one above it.
-    ("0004294967", 1, 4294967, Some(4294967)),
-    ("4294968", 1, 4294967, None),
+    Spelled("0004294967", 1, 4294967, Some(4294967)),
+    Spelled("4294968", 1, 4294967, None),
     // Eleven digits, none, and a sign.
-    ("00000000001", 0, 9, None),
-    ("", 0, 9, None),
-    ("+1", 0, 9, None),
+    Spelled("00000000001", 0, 9, None),
+    Spelled("", 0, 9, None),
+    Spelled("+1", 0, 9, None),
 ];
+
+impl Case for Spelled<'_> {
+    fn holds(&self, _alloc: Global) -> bool {
+        number_within(self.0.as_bytes(), self.1, self.2) == self.3
+    }
+}
 
 #[test]
 fn numbers_within_bounds(rt: HostRuntime) {
-    for row in NUMBERS {
-        let (text, least, most, number) = *row;
-        assert!(rt;
-            number_within(text.as_bytes(), least, most) == number,
-            "{text}"
-        );
-    }
+    all_hold(&rt, rt.alloc(), NUMBERS);
 }

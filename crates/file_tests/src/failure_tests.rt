@@ -4,6 +4,7 @@ ghost use Rattle.te_model.specs.Network.{is_well_formed};
 
 use failure::*;
 use std::alloc::Global;
+use std::process::Abort;
 use te_model::{Items, Memory, Network};
 
 // The nodes s, t, x and y: a straight link from s to t, a way over x, and a narrow way over y to x.
@@ -14,12 +15,11 @@ fn first_of(failures: &Failures) -> Option<Outage> {
     failures.list.as_slice().first().copied()
 }
 
-// The first outage of a file of the four nodes over two steps, or the file's fault.
-fn first_outage(alloc: Global, text: &str) -> Result<Option<Outage>, FailureFault> {
-    let Ok(net) = topology::read(alloc, FOUR_NODES) else {
-        return Err(FailureFault::Memory);
-    };
-    let failures = read(alloc, &net, 2, text.as_bytes())?;
+// The first outage of a file of a network over two steps, or the file's fault.
+fn first_outage(alloc: Global, net: &Network, text: &str) -> Result<Option<Outage>, FailureFault>
+    requires { IsTrue (is_well_formed net.now) }
+{
+    let failures = read(alloc, net, 2, text.as_bytes())?;
     Ok(first_of(&failures))
 }
 
@@ -46,11 +46,13 @@ const FILES: &[(&str, Result<Option<Outage>, FailureFault>)] = &[
     ),
 ];
 
-#[test]
-fn first_outages_and_faults(rt: HostRuntime) {
+// First outages and faults of files of the four nodes.
+fn first_outages_are_told(rt: &impl Abort, alloc: Global, net: &Network)
+    requires { IsTrue (is_well_formed net.now) }
+{
     for row in FILES {
         let (text, found) = *row;
-        assert!(rt; first_outage(rt.alloc(), text) == found, "{text}");
+        assert!(rt; first_outage(alloc, net, text) == found, "{text}");
     }
 }
 
@@ -62,42 +64,65 @@ fn marks_are(
     alloc: Global,
     net: &Network,
     failures: &Failures,
-    step: u32,
-    wanted: [bool; 5],
+    marks: &Marks,
 ) -> Result<bool, Memory>
     requires { IsTrue (is_well_formed net.now) }
 {
+    let (step, wanted) = *marks;
     let marks = failures.marks(alloc, net, step)?;
     let alone = failures.failed_at(step, 1) == wanted[1];
     Ok(alone & (marks.as_slice() == wanted.as_slice()))
 }
 
-// Whether a series of these steps marks each of them as is wanted, and as the step alone is marked.
+// Whether each step alone is marked as is wanted.
+fn steps_are(alloc: Global, net: &Network, failures: &Failures, wanted: &[Marks]) -> bool
+    requires { IsTrue (is_well_formed net.now) }
+{
+    for marks in wanted {
+        if marks_are(alloc, net, failures, marks) != Ok(true) {
+            return false;
+        }
+    }
+    true
+}
+
+// Whether a series marks each step as is wanted.
+fn are_wanted(series: &[Items<bool>], wanted: &[Marks]) -> bool {
+    if series.len() != wanted.len() {
+        return false;
+    }
+    for place in 0..series.len() {
+        if series[place].as_slice() != wanted[place].1.as_slice() {
+            return false;
+        }
+    }
+    true
+}
+
+// Whether the series of these steps is marked as is wanted.
 fn series_is(
     alloc: Global,
     net: &Network,
     failures: &Failures,
     wanted: &[Marks],
+) -> Result<bool, Memory> {
+    let series = failures.series(alloc, net, wanted.len())?;
+    Ok(are_wanted(series.as_slice(), wanted))
+}
+
+// Whether these outages of a network mark the links so, in a series and in each step alone.
+fn outages_mark(
+    alloc: Global,
+    net: &Network,
+    outages: &[Outage],
+    wanted: &[Marks],
 ) -> Result<bool, Memory>
     requires { IsTrue (is_well_formed net.now) }
 {
-    let series = failures.series(alloc, net, wanted.len())?;
-    let mut are_wanted = series.len() == wanted.len();
-    for (found, row) in series.iter().zip(wanted) {
-        let (step, marks) = *row;
-        let alone = marks_are(alloc, net, failures, step, marks) == Ok(true);
-        are_wanted &= alone & (found.as_slice() == marks.as_slice());
-    }
-    Ok(are_wanted)
-}
-
-// Whether these outages of the four nodes mark the links so.
-fn outages_mark(alloc: Global, outages: &[Outage], wanted: &[Marks]) -> Result<bool, Memory> {
-    let Ok(net) = topology::read(alloc, FOUR_NODES) else {
-        return Err(Memory);
-    };
     let list = Items::new(Vec::from_slice(alloc, outages)?);
-    series_is(alloc, &net, &Failures { list }, wanted)
+    let failures = Failures { list };
+    let alone = steps_are(alloc, net, &failures, wanted);
+    Ok(alone & (series_is(alloc, net, &failures, wanted) == Ok(true)))
 }
 
 // Outages, and the marks of each step.
@@ -154,11 +179,12 @@ const SERIES: &[(&[Outage], &[Marks])] = &[
     ),
 ];
 
-#[test]
-fn outages_of_a_series(rt: HostRuntime) {
+fn outages_of_a_series_mark(rt: &impl Abort, alloc: Global, net: &Network)
+    requires { IsTrue (is_well_formed net.now) }
+{
     for row in SERIES {
         let (outages, wanted) = *row;
-        let found = outages_mark(rt.alloc(), outages, wanted);
+        let found = outages_mark(alloc, net, outages, wanted);
         assert!(rt; found == Ok(true), "{} outages", outages.len());
     }
 }
@@ -170,24 +196,23 @@ fn is_left(left: &Survivor, net: &Network, origin: &[u32]) -> bool {
     second & links & (left.network.names == net.names)
 }
 
-// Whether these links and all nodes are left of the four nodes.
-fn leaves(alloc: Global, failed: &[bool], origin: &[u32]) -> Result<bool, Memory> {
-    let Ok(net) = topology::read(alloc, FOUR_NODES) else {
-        return Err(Memory);
-    };
+// Whether these links and all nodes are left of a network.
+fn leaves(alloc: Global, net: &Network, failed: &[bool], origin: &[u32]) -> Result<bool, Memory>
+    requires { IsTrue (is_well_formed net.now) }
+{
     if failed.len() != net.links.as_slice().len() {
         return Ok(false);
     }
-    let left = surviving(alloc, &net, failed)?;
-    Ok(is_left(&left, &net, origin))
+    let left = surviving(alloc, net, failed)?;
+    Ok(is_left(&left, net, origin))
 }
 
 #[test]
-fn links_that_have_not_failed_are_left(rt: HostRuntime) {
-    let found = leaves(
-        rt.alloc(),
-        &[false, true, false, false, false],
-        &[0, 2, 3, 4],
-    );
-    assert!(rt; found == Ok(true));
+fn outages_of_four_nodes(rt: HostRuntime) {
+    let alloc = rt.alloc();
+    let net = topology::read(alloc, FOUR_NODES).expect(&rt, "four nodes");
+    first_outages_are_told(&rt, alloc, &net);
+    outages_of_a_series_mark(&rt, alloc, &net);
+    let failed = [false, true, false, false, false];
+    assert!(rt; leaves(alloc, &net, &failed, &[0, 2, 3, 4]) == Ok(true));
 }

@@ -2,6 +2,8 @@
 #![tactic(auto)]
 
 #[cfg(test)]
+mod cases;
+#[cfg(test)]
 mod csv_records_tests;
 #[cfg(test)]
 mod failure_tests;

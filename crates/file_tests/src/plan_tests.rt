@@ -1,4 +1,5 @@
 //! Plans: their faults, and what a plan says where a member is left out.
+use crate::cases::{Case, all_hold};
 use plan::*;
 use std::alloc::Global;
 
@@ -8,95 +9,90 @@ fn fault_of(alloc: Global, bytes: &[u8]) -> Option<PlanFault> {
 }
 
 // A plan, and its fault.
-const FAULTS: &[(&str, PlanFault)] = &[
+struct Refused<'a>(&'a str, PlanFault);
+
+const FAULTS: &[Refused] = &[
     // Of the whole plan.
-    ("no json", PlanFault::NotJson),
-    ("[]", PlanFault::Kind(Key::Plan)),
-    (r#"{"plan":1}"#, PlanFault::UnknownKey),
-    ("{}", PlanFault::Missing(Key::Topology)),
-    (r#"{"topology":1}"#, PlanFault::Missing(Key::Matrices)),
-    (
+    Refused("no json", PlanFault::NotJson),
+    Refused("[]", PlanFault::Kind(Key::Plan)),
+    Refused(r#"{"plan":1}"#, PlanFault::UnknownKey),
+    Refused("{}", PlanFault::Missing(Key::Topology)),
+    Refused(r#"{"topology":1}"#, PlanFault::Missing(Key::Matrices)),
+    Refused(
         r#"{"topology":"","matrices":1}"#,
         PlanFault::Range(Key::Topology),
     ),
     // Of numbers and names.
-    (
+    Refused(
         r#"{"topology":"t","matrices":"m","k":0}"#,
         PlanFault::Range(Key::K),
     ),
-    (
+    Refused(
         r#"{"topology":"t","matrices":"m","k":4.0}"#,
         PlanFault::Kind(Key::K),
     ),
-    (
+    Refused(
         r#"{"topology":"t","matrices":"m","seed":18446744073709551616}"#,
         PlanFault::Kind(Key::Seed),
     ),
-    (
+    Refused(
         r#"{"topology":"t","matrices":"m","publish":"smore"}"#,
         PlanFault::SchemeName(Key::Publish),
     ),
-    (
+    Refused(
         r#"{"topology":"t","matrices":"m","recovery":"spare"}"#,
         PlanFault::Range(Key::Recovery),
     ),
     // Of lists.
-    (
+    Refused(
         r#"{"topology":"t","matrices":"m","schemes":[]}"#,
         PlanFault::Range(Key::Schemes),
     ),
-    (
+    Refused(
         r#"{"topology":"t","matrices":"m","schemes":["x",1]}"#,
         PlanFault::Kind(Key::Schemes),
     ),
-    (
+    Refused(
         r#"{"topology":"t","matrices":"m","schemes":["spf","x"]}"#,
         PlanFault::SchemeName(Key::Schemes),
     ),
-    (
+    Refused(
         r#"{"topology":"t","matrices":"m","margin":[2]}"#,
         PlanFault::Kind(Key::Margin),
     ),
-    (
+    Refused(
         r#"{"topology":"t","matrices":"m","margin":[1,2]}"#,
         PlanFault::Range(Key::Margin),
     ),
     // Of the envelope, which may not stand beside a margin.
-    (
+    Refused(
         r#"{"topology":"t","matrices":"m","envelope":1}"#,
         PlanFault::Kind(Key::Envelope),
     ),
-    (
+    Refused(
         r#"{"topology":"t","matrices":"m","envelope":"true","margin":[2,1]}"#,
         PlanFault::Kind(Key::Envelope),
     ),
-    (
+    Refused(
         r#"{"topology":"t","matrices":"m","envelope":true,"margin":[2,1]}"#,
         PlanFault::Range(Key::Envelope),
     ),
-    (
+    Refused(
         r#"{"topology":"t","matrices":"m","envelope":1,"seed":-1}"#,
         PlanFault::Kind(Key::Seed),
     ),
 ];
 
-#[test]
-fn first_faults(rt: HostRuntime) {
-    for row in FAULTS {
-        let (text, fault) = *row;
-        assert!(rt;
-            fault_of(rt.alloc(), text.as_bytes()) == Some(fault),
-            "{text}"
-        );
+impl Case for Refused<'_> {
+    fn holds(&self, alloc: Global) -> bool {
+        fault_of(alloc, self.0.as_bytes()) == Some(self.1)
     }
-    assert!(rt; fault_of(rt.alloc(), b"\"\xff\"") == Some(PlanFault::NotJson));
 }
 
-// Whether a plan reads the files t and m, whether it has a file of failures, and whether it compares these schemes.
-fn files_and_schemes(plan: &Experiment, schemes: &[SchemeName]) -> (bool, bool, bool) {
-    let reads = plan.topology.as_str() == "t" && plan.matrices.as_str() == "m";
-    let compares = plan.schemes.as_slice() == schemes;
-    (reads, plan.failures.is_some(), compares)
+#[test]
+fn first_faults(rt: HostRuntime) {
+    all_hold(&rt, rt.alloc(), FAULTS);
+    assert!(rt; fault_of(rt.alloc(), b"\"\xff\"") == Some(PlanFault::NotJson));
 }
 
 // The recovery of a plan, the scheme that it publishes, its margin, and whether it asks for the envelope.
@@ -105,36 +101,26 @@ type Choices = (Recovery, SchemeName, Option<(u64, u64)>, bool);
 // The numbers of a plan: k, the budget, the trees and the seed.
 type Numbers = (u32, u32, u32, u64);
 
-// What a plan says: its files and schemes, its choices and its numbers.
-fn said(
-    alloc: Global,
-    text: &str,
-    schemes: &[SchemeName],
-) -> Result<((bool, bool, bool), Choices, Numbers), PlanFault> {
-    let plan = read_plan(alloc, text.as_bytes())?;
-    let choices = (plan.recovery, plan.publish, plan.margin, plan.envelope);
-    let numbers = (plan.k, plan.budget, plan.trees, plan.seed);
-    Ok((files_and_schemes(&plan, schemes), choices, numbers))
-}
-
 // A plan, the schemes that it compares, whether it has a file of failures, its choices and its numbers.
-const PLANS: &[(&str, &[SchemeName], bool, Choices, Numbers)] = &[
+struct Planned<'a>(&'a str, &'a [SchemeName], bool, Choices, Numbers);
+
+const PLANS: &[Planned] = &[
     // Nothing but the two files.
-    (
+    Planned(
         r#"{"topology":"t","matrices":"m"}"#,
         &SchemeName::ALL,
         false,
         (Recovery::Keep, SchemeName::Racke, None, false),
         (4, 4, 8, 0),
     ),
-    (
+    Planned(
         r#"{"topology":"t","matrices":"m","failures":"f","schemes":["smore"],"recovery":"bypass","publish":"ksp","margin":[3,2],"seed":18446744073709551615}"#,
         &[SchemeName::Smore],
         true,
         (Recovery::Bypass, SchemeName::Ksp, Some((3, 2)), false),
         (4, 4, 8, u64::MAX),
     ),
-    (
+    Planned(
         r#"{"envelope":true,"topology":"t","matrices":"m"}"#,
         &SchemeName::ALL,
         false,
@@ -142,7 +128,7 @@ const PLANS: &[(&str, &[SchemeName], bool, Choices, Numbers)] = &[
         (4, 4, 8, 0),
     ),
     // A key that stands twice, first with a fault.
-    (
+    Planned(
         r#"{"topology":"t","matrices":"m","k":0,"k":32}"#,
         &SchemeName::ALL,
         false,
@@ -150,7 +136,7 @@ const PLANS: &[(&str, &[SchemeName], bool, Choices, Numbers)] = &[
         (32, 4, 8, 0),
     ),
     // No envelope, beside a margin.
-    (
+    Planned(
         r#"{"topology":"t","matrices":"m","envelope":false,"margin":[2,1]}"#,
         &SchemeName::ALL,
         false,
@@ -159,14 +145,30 @@ const PLANS: &[(&str, &[SchemeName], bool, Choices, Numbers)] = &[
     ),
 ];
 
+// Whether a plan reads the files t and m, has a file of failures or none, and compares the schemes of the row.
+fn has_files_and_schemes(plan: &Experiment, row: &Planned) -> bool {
+    let reads = (plan.topology.as_str() == "t") & (plan.matrices.as_str() == "m");
+    let compares = plan.schemes.as_slice() == row.1;
+    reads & compares & (plan.failures.is_some() == row.2)
+}
+
+// Whether a plan says what the row says.
+fn is_said(plan: &Experiment, row: &Planned) -> bool {
+    let choices = (plan.recovery, plan.publish, plan.margin, plan.envelope) == row.3;
+    let numbers = (plan.k, plan.budget, plan.trees, plan.seed) == row.4;
+    has_files_and_schemes(plan, row) & choices & numbers
+}
+
+impl Case for Planned<'_> {
+    fn holds(&self, alloc: Global) -> bool {
+        match read_plan(alloc, self.0.as_bytes()) {
+            Ok(plan) => is_said(&plan, self),
+            Err(_) => false,
+        }
+    }
+}
+
 #[test]
 fn defaults_and_values(rt: HostRuntime) {
-    for row in PLANS {
-        let (text, schemes, fails, choices, numbers) = *row;
-        let found = said(rt.alloc(), text, schemes);
-        assert!(rt;
-            found == Ok(((true, fails, true), choices, numbers)),
-            "{text}"
-        );
-    }
+    all_hold(&rt, rt.alloc(), PLANS);
 }

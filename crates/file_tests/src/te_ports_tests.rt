@@ -1,11 +1,19 @@
 //! Each public call once, with ample memory.
 ghost use Rattle.std.specs.Prelude.{◌≤◌, if◌then◌else◌, nat_eq, slice_index_or};
 
+use crate::cases::{Case, all_hold};
 use std::alloc::{AllocError, Global};
 use std::cell::Cell;
 use std::io::{self, Cursor, ErrorKind, Read, Seek, SeekFrom, Write};
-use std::test::Fail;
+use std::process::Abort;
 use te_ports::*;
+
+// Gives the file another text and then this one. The read of that number fails.
+fn fill(files: &mut MemDepot, text: &str, failing: u64) -> Result<(), AllocError> {
+    files.add("file", b"other")?;
+    files.add("file", text.as_bytes())?;
+    files.fail_at(failing)
+}
 
 // A depot that gives the text of one file in pieces of so many bytes. The file had another text before, and the read of
 // that number fails.
@@ -13,10 +21,21 @@ fn file_of(alloc: Global, text: &str, piece: usize, failing: u64) -> Result<MemD
     requires { 1 ≤ piece }
 {
     let mut files = MemDepot::new(alloc, piece)?;
-    files.add("file", b"other")?;
-    files.add("file", text.as_bytes())?;
-    files.fail_at(failing)?;
+    fill(&mut files, text, failing)?;
     Ok(files)
+}
+
+// The same depot, which records its reads.
+fn record_of(
+    alloc: Global,
+    text: &str,
+    piece: usize,
+    failing: u64,
+) -> Result<RecordDepot<MemDepot>, AllocError>
+    requires { 1 ≤ piece }
+{
+    let files = file_of(alloc, text, piece, failing)?;
+    Ok(RecordDepot::new(alloc, files))
 }
 
 // Whether a file is loaded as this text, or why it is not loaded.
@@ -42,25 +61,33 @@ const LOADS: &[(&str, u8, &str, Result<bool, LoadFault>)] = &[
     ("file", 5, "bytes", Ok(true)),
 ];
 
-#[test]
-fn files_are_loaded_up_to_a_limit(rt: HostRuntime) -> Result<(), Fail> {
-    let mut depot = file_of(rt.alloc(), "bytes", 2, 9)?;
+fn all_are_loaded(rt: &impl Abort, alloc: Global, depot: &mut MemDepot) {
     for row in LOADS {
         let (name, limit, text, answer) = *row;
-        let found = loads_as(rt.alloc(), &mut depot, name, limit, text);
+        let found = loads_as(alloc, depot, name, limit, text);
         assert!(rt; found == answer, "{name} {limit}");
     }
-    Ok(())
 }
 
 #[test]
-fn every_file_of_a_depot_without_faults_is_loaded(rt: HostRuntime) -> Result<(), Fail> {
-    let mut depot = SureDepot::new(rt.alloc())?;
+fn files_are_loaded_up_to_a_limit(rt: HostRuntime) {
+    let mut depot = file_of(rt.alloc(), "bytes", 2, 9).expect(&rt, "a file in memory");
+    all_are_loaded(&rt, rt.alloc(), &mut depot);
+}
+
+// Whether a file that is added is loaded as it is, and one that is not known as empty.
+fn loads_every_file(alloc: Global, depot: &mut SureDepot) -> bool {
     let added = depot.add("file", b"bytes").is_ok();
-    let known = loads_as(rt.alloc(), &mut depot, "file", 5, "bytes") == Ok(true);
-    let unknown = loads_as(rt.alloc(), &mut depot, "none", 0, "") == Ok(true);
-    assert!(rt; added & known & unknown);
-    Ok(())
+    let known = loads_as(alloc, depot, "file", 5, "bytes") == Ok(true);
+    let unknown = loads_as(alloc, depot, "none", 0, "") == Ok(true);
+    added & known & unknown
+}
+
+#[test]
+fn every_file_of_a_depot_without_faults_is_loaded(rt: HostRuntime) {
+    let mut depot = SureDepot::new(rt.alloc()).expect(&rt, "files in memory");
+    let loaded = loads_every_file(rt.alloc(), &mut depot);
+    assert!(rt; loaded);
 }
 
 // Whether a read of the file gave this text at this place.
@@ -87,15 +114,18 @@ fn two_more_are_no_reads(depot: &mut RecordDepot<MemDepot>) -> bool {
     failed & nothing & (depot.reads().len() == 4)
 }
 
-#[test]
-fn a_record_holds_a_file_from_its_start_to_its_end(rt: HostRuntime) -> Result<(), Fail> {
-    let files = file_of(rt.alloc(), "bytes", 2, 4)?;
-    let mut depot = RecordDepot::new(rt.alloc(), files);
-    let loaded = loads_as(rt.alloc(), &mut depot, "file", 5, "bytes") == Ok(true);
+// Whether the file is loaded, the record holds it from its start to its end, and no more.
+fn is_recorded(alloc: Global, depot: &mut RecordDepot<MemDepot>) -> bool {
+    let loaded = loads_as(alloc, depot, "file", 5, "bytes") == Ok(true);
     let recorded = are_reads_of_file(depot.reads());
-    let no_more = two_more_are_no_reads(&mut depot);
-    assert!(rt; loaded & recorded & no_more);
-    Ok(())
+    loaded & recorded & two_more_are_no_reads(depot)
+}
+
+#[test]
+fn a_record_holds_a_file_from_its_start_to_its_end(rt: HostRuntime) {
+    let mut depot = record_of(rt.alloc(), "bytes", 2, 4).expect(&rt, "a file in memory");
+    let recorded = is_recorded(rt.alloc(), &mut depot);
+    assert!(rt; recorded);
 }
 
 // Three bytes, or six for a file whose second byte is `!`.
@@ -134,43 +164,40 @@ fn loads_within(
     Ok(bytes.as_slice() == text.as_bytes())
 }
 
-// Whether a file of this text in pieces of so many bytes is loaded as it is, or is not loaded for this cause, and its
-// reads end there.
-fn is_loaded_in_pieces(
-    alloc: Global,
-    piece: usize,
-    text: &str,
-    answer: Result<bool, LoadFault>,
-    end: u64,
-) -> Result<bool, AllocError>
+// A file, whether it is loaded, and where its reads end, which is one byte past the limit at the latest.
+struct Limited<'a>(&'a str, Result<bool, LoadFault>, u64);
+
+const LIMITS: &[Limited] = &[
+    Limited("", Ok(true), 0),
+    Limited("a", Ok(true), 1),
+    Limited("abc", Ok(true), 3),
+    Limited("abcdefgh", Err(LoadFault::TooLong), 4),
+    Limited("!bcdefgh", Err(LoadFault::TooLong), 4),
+    Limited("a!cdef", Ok(true), 6),
+    Limited("a!cdefgh", Err(LoadFault::TooLong), 7),
+];
+
+// Whether the file of a row in pieces of so many bytes is loaded as it is, or is not loaded for its cause, and its reads end
+// there.
+fn is_loaded_in_pieces(alloc: Global, piece: usize, row: &Limited) -> Result<bool, AllocError>
     requires { 1 ≤ piece }
 {
-    let files = file_of(alloc, text, piece, u64::MAX)?;
-    let mut depot = RecordDepot::new(alloc, files);
-    let loaded = loads_within(alloc, &mut depot, text) == answer;
-    Ok(loaded & (end_of_reads(depot.reads()) == Some(end)))
+    let mut depot = record_of(alloc, row.0, piece, u64::MAX)?;
+    let loaded = loads_within(alloc, &mut depot, row.0) == row.1;
+    Ok(loaded & (end_of_reads(depot.reads()) == Some(row.2)))
 }
 
-// A file, whether it is loaded, and where its reads end, which is one byte past the limit at the latest.
-const LIMITS: &[(&str, Result<bool, LoadFault>, u64)] = &[
-    ("", Ok(true), 0),
-    ("a", Ok(true), 1),
-    ("abc", Ok(true), 3),
-    ("abcdefgh", Err(LoadFault::TooLong), 4),
-    ("!bcdefgh", Err(LoadFault::TooLong), 4),
-    ("a!cdef", Ok(true), 6),
-    ("a!cdefgh", Err(LoadFault::TooLong), 7),
-];
+impl Case for Limited<'_> {
+    fn holds(&self, alloc: Global) -> bool {
+        let by_one = is_loaded_in_pieces(alloc, 1, self) == Ok(true);
+        let by_two = is_loaded_in_pieces(alloc, 2, self) == Ok(true);
+        by_one & by_two & (is_loaded_in_pieces(alloc, 64, self) == Ok(true))
+    }
+}
 
 #[test]
 fn a_limit_may_hang_on_the_first_bytes(rt: HostRuntime) {
-    for row in LIMITS {
-        let (text, answer, end) = *row;
-        let by_one = is_loaded_in_pieces(rt.alloc(), 1, text, answer, end) == Ok(true);
-        let by_two = is_loaded_in_pieces(rt.alloc(), 2, text, answer, end) == Ok(true);
-        let whole = is_loaded_in_pieces(rt.alloc(), 64, text, answer, end) == Ok(true);
-        assert!(rt; by_one & by_two & whole, "{text}");
-    }
+    all_hold(&rt, rt.alloc(), LIMITS);
 }
 
 // Whether the text is taken whole, or is not, as is said, and whether the sink then holds these bytes.
@@ -179,38 +206,40 @@ fn is_put(sink: &mut MemSink, text: &str, whole: bool, held: &str) -> bool {
     (answer.is_ok() == whole) & (sink.bytes() == held.as_bytes())
 }
 
-// Whether a sink with so much room does not take all ten bytes, takes the last six of them then, or does not, as is said,
-// and holds these bytes after each. The call of that number fails.
-fn is_put_twice(
-    alloc: Global,
-    room: usize,
-    failing: u64,
-    held: [&str; 2],
-    takes_last: bool,
-) -> Result<bool, AllocError> {
-    let [held_first, held_last] = held;
+// A sink with so much room. The call of that number fails.
+fn sink_of(alloc: Global, room: usize, failing: u64) -> Result<MemSink, AllocError> {
     let mut sink = MemSink::new(alloc, room, 4)?;
     sink.fail_at(failing)?;
-    let first = is_put(&mut sink, "ten bytes.", false, held_first);
-    let last = is_put(&mut sink, "bytes.", takes_last, held_last);
-    Ok(first & last)
+    Ok(sink)
 }
 
 // The room, the call that fails, what the sink holds after each text, and whether it takes the last one whole.
-const SINKS: &[(usize, u64, [&str; 2], bool)] = &[
+struct Filled<'a>(usize, u64, [&'a str; 2], bool);
+
+const SINKS: &[Filled] = &[
     // No room for more than six bytes.
-    (6, 99, ["ten by", "ten by"], false),
+    Filled(6, 99, ["ten by", "ten by"], false),
     // The second call fails, and none after it.
-    (10, 1, ["ten ", "ten bytes."], true),
+    Filled(10, 1, ["ten ", "ten bytes."], true),
 ];
+
+// The sink does not take all ten bytes, and takes the last six of them then, or does not.
+impl Case for Filled<'_> {
+    fn holds(&self, alloc: Global) -> bool {
+        let Filled(room, failing, [held_first, held_last], takes_last) = *self;
+        match sink_of(alloc, room, failing) {
+            Ok(mut sink) => {
+                let first = is_put(&mut sink, "ten bytes.", false, held_first);
+                first & is_put(&mut sink, "bytes.", takes_last, held_last)
+            }
+            Err(_) => false,
+        }
+    }
+}
 
 #[test]
 fn a_text_is_written_up_to_a_failure_and_as_far_as_there_is_room(rt: HostRuntime) {
-    for row in SINKS {
-        let (room, failing, held, takes_last) = *row;
-        let found = is_put_twice(rt.alloc(), room, failing, held, takes_last);
-        assert!(rt; found == Ok(true), "{room}");
-    }
+    all_hold(&rt, rt.alloc(), SINKS);
 }
 
 #[test]
@@ -263,42 +292,45 @@ impl Disk for OneFile<'_> {
     }
 }
 
-// Whether the first load of a file gives this answer without a seek, and the second one the text, with so many seeks.
-fn is_loaded_twice(
+// How many reads a signal interrupts, what the first load answers, and the count of seeks after the second.
+struct Interrupted(u8, Result<bool, LoadFault>, u8);
+
+const INTERRUPTED: &[Interrupted] = &[
+    Interrupted(0, Ok(true), 1),
+    Interrupted(99, Ok(true), 1),
+    Interrupted(100, Err(LoadFault::Failed), 0),
+];
+
+// Whether the first load of a file gives the answer of the row without a seek, and the second one the text, with so many seeks.
+fn loads_twice(
     alloc: Global,
-    text: &str,
-    interrupted: u8,
-    answer: Result<bool, LoadFault>,
-    seeks_after: u8,
+    depot: &mut RealDepot<OneFile<'_>>,
+    seeks: &Cell<u8>,
+    row: &Interrupted,
 ) -> bool {
-    let seeks = Cell::new(0);
-    let file = SlowFile {
-        bytes: Cursor::new(text.as_bytes()),
-        interrupted,
-        seeks: &seeks,
-    };
-    let file = OpenFile::new(String::new(alloc), file);
-    let mut depot = RealDepot::over(OneFile { file });
-    let first = loads_as(alloc, &mut depot, "file", 10, text) == answer;
+    let first = loads_as(alloc, depot, "file", 10, "ten bytes.") == row.1;
     let without_seek = seeks.get() == 0;
-    let second = loads_as(alloc, &mut depot, "file", 10, text) == Ok(true);
-    first & without_seek & second & (seeks.get() == seeks_after)
+    let second = loads_as(alloc, depot, "file", 10, "ten bytes.") == Ok(true);
+    first & without_seek & second & (seeks.get() == row.2)
 }
 
-// How many reads a signal interrupts, what the first load answers, and the count of seeks after the second.
-const INTERRUPTED: &[(u8, Result<bool, LoadFault>, u8)] = &[
-    (0, Ok(true), 1),
-    (99, Ok(true), 1),
-    (100, Err(LoadFault::Failed), 0),
-];
+impl Case for Interrupted {
+    fn holds(&self, alloc: Global) -> bool {
+        let seeks = Cell::new(0);
+        let file = SlowFile {
+            bytes: Cursor::new(b"ten bytes."),
+            interrupted: self.0,
+            seeks: &seeks,
+        };
+        let file = OpenFile::new(String::new(alloc), file);
+        let mut depot = RealDepot::over(OneFile { file });
+        loads_twice(alloc, &mut depot, &seeks, self)
+    }
+}
 
 #[test]
 fn a_file_is_read_in_order(rt: HostRuntime) {
-    for row in INTERRUPTED {
-        let (interrupted, first, seeks) = *row;
-        let loaded = is_loaded_twice(rt.alloc(), "ten bytes.", interrupted, first, seeks);
-        assert!(rt; loaded, "{interrupted}");
-    }
+    all_hold(&rt, rt.alloc(), INTERRUPTED);
 }
 
 // A stream that takes so many bytes a write and in all, after so many writes that a signal interrupts.
@@ -327,32 +359,36 @@ impl Write for SlowStream {
     }
 }
 
+// How many bytes a stream takes at once and in all, how many writes a signal interrupts, and what it then holds.
+struct Taken<'a>(usize, usize, u8, &'a str);
+
+const STREAMS: &[Taken] = &[
+    Taken(4, 10, 0, "ten bytes."),
+    Taken(1, 20, 99, "ten bytes."),
+    Taken(4, 6, 0, "ten by"),
+    Taken(0, 10, 0, ""),
+    Taken(4, 10, 100, ""),
+];
+
 // Whether a stream takes these bytes of the text, and says whether they are all of its ten.
-fn is_put_in_parts(alloc: Global, piece: usize, room: usize, interrupted: u8, taken: &str) -> bool {
-    let mut stream = SlowStream {
-        bytes: Vec::new(alloc),
-        piece,
-        room,
-        interrupted,
-    };
-    let answer = put_all(&mut RealSink::new(&mut stream), b"ten bytes.");
-    (answer.is_ok() == (taken.len() == 10)) & (stream.bytes.as_slice() == taken.as_bytes())
+fn takes(stream: &mut SlowStream, taken: &str) -> bool {
+    let whole = put_all(&mut RealSink::new(&mut *stream), b"ten bytes.").is_ok();
+    (whole == (taken.len() == 10)) & (stream.bytes.as_slice() == taken.as_bytes())
 }
 
-// How many bytes a stream takes at once and in all, how many writes a signal interrupts, and what it then holds.
-const STREAMS: &[(usize, usize, u8, &str)] = &[
-    (4, 10, 0, "ten bytes."),
-    (1, 20, 99, "ten bytes."),
-    (4, 6, 0, "ten by"),
-    (0, 10, 0, ""),
-    (4, 10, 100, ""),
-];
+impl Case for Taken<'_> {
+    fn holds(&self, alloc: Global) -> bool {
+        let mut stream = SlowStream {
+            bytes: Vec::new(alloc),
+            piece: self.0,
+            room: self.1,
+            interrupted: self.2,
+        };
+        takes(&mut stream, self.3)
+    }
+}
 
 #[test]
 fn a_stream_takes_a_text_in_parts(rt: HostRuntime) {
-    for row in STREAMS {
-        let (piece, room, interrupted, taken) = *row;
-        let put = is_put_in_parts(rt.alloc(), piece, room, interrupted, taken);
-        assert!(rt; put, "{piece} {room} {interrupted}");
-    }
+    all_hold(&rt, rt.alloc(), STREAMS);
 }

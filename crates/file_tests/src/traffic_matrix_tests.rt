@@ -4,6 +4,7 @@ ghost use Rattle.te_model.specs.Network.{is_well_formed, node_count};
 ghost use Rattle.traffic_matrix.specs.Limits.{IsSeries};
 
 use std::alloc::Global;
+use std::process::Abort;
 use te_model::{Matrix, Network, Pair};
 use traffic_matrix::*;
 
@@ -12,12 +13,15 @@ const NODES: &[u8] = b"source,target,capacity,cost\na,b,10,1\nb,c,10,1\n";
 
 // Whether the steps have these demands, one list for each step.
 fn are_demands(steps: &[Matrix], lists: &[&[u64]]) -> bool {
-    for (step, list) in steps.iter().zip(lists) {
-        if step.demand.as_slice() != *list {
+    if steps.len() != lists.len() {
+        return false;
+    }
+    for place in 0..steps.len() {
+        if steps[place].demand.as_slice() != lists[place] {
             return false;
         }
     }
-    steps.len() == lists.len()
+    true
 }
 
 // Whether a series has these pairs, and these demands in each step.
@@ -25,17 +29,17 @@ fn has_pairs_and_demands(series: &Series, pairs: &[Pair], demands: &[&[u64]]) ->
     (series.pairs.list.as_slice() == pairs) & are_demands(series.steps.as_slice(), demands)
 }
 
-// Whether a file of these nodes is read as these pairs and these demands of each step, or its fault.
+// Whether a file of a network is read as these pairs and these demands of each step, or its fault.
 fn is_read_as(
     alloc: Global,
+    net: &Network,
     text: &str,
     pairs: &[Pair],
     demands: &[&[u64]],
-) -> Result<bool, MatrixFault> {
-    let Ok(net) = topology::read(alloc, NODES) else {
-        return Err(MatrixFault::Memory);
-    };
-    let series = read(alloc, &net, text.as_bytes())?;
+) -> Result<bool, MatrixFault>
+    requires { IsTrue (is_well_formed net.now) }
+{
+    let series = read(alloc, net, text.as_bytes())?;
     Ok(has_pairs_and_demands(&series, pairs, demands))
 }
 
@@ -79,12 +83,13 @@ const FAULTS: &[(&str, MatrixFault)] = &[
     ),
 ];
 
-#[test]
-fn first_faults(rt: HostRuntime) {
+fn first_faults_are_told(rt: &impl Abort, alloc: Global, net: &Network)
+    requires { IsTrue (is_well_formed net.now) }
+{
     for row in FAULTS {
         let (text, fault) = *row;
         assert!(rt;
-            is_read_as(rt.alloc(), text, &[], &[]) == Err(fault),
+            is_read_as(alloc, net, text, &[], &[]) == Err(fault),
             "{text}"
         );
     }
@@ -108,12 +113,13 @@ const SERIES: &[(&str, &[Pair], &[&[u64]])] = &[
     ),
 ];
 
-#[test]
-fn steps_and_declared_pairs(rt: HostRuntime) {
+fn steps_and_pairs_are_read(rt: &impl Abort, alloc: Global, net: &Network)
+    requires { IsTrue (is_well_formed net.now) }
+{
     for row in SERIES {
         let (text, pairs, demands) = *row;
         assert!(rt;
-            is_read_as(rt.alloc(), text, pairs, demands) == Ok(true),
+            is_read_as(alloc, net, text, pairs, demands) == Ok(true),
             "{text}"
         );
     }
@@ -139,32 +145,51 @@ fn are_same(one: &Series, other: &Series) -> bool {
     }
 }
 
+// Whether a file of a network is read as this series.
+fn is_text_of(
+    alloc: Global,
+    net: &Network,
+    text: &[u8],
+    series: &Series,
+) -> Result<bool, MatrixFault>
+    requires { IsTrue (is_well_formed net.now) }
+{
+    let again = read(alloc, net, text)?;
+    Ok(are_same(&again, series))
+}
+
 // Whether the file of a series is read as the same series.
 fn is_read_back(alloc: Global, net: &Network, series: &Series) -> Result<bool, MatrixFault>
     requires network { IsTrue (is_well_formed net.now) }
     requires series { IsSeries (node_count net.now) series.now }
 {
     let text = print(alloc, net, series)?;
-    let again = read(alloc, net, text.as_slice())?;
-    Ok(are_same(&again, series))
+    is_text_of(alloc, net, text.as_slice(), series)
+}
+
+// Whether there are two steps, with such demands in the first.
+fn are_drawn(steps: &[Matrix]) -> bool {
+    match steps {
+        [first, _] => are_products(first.demand.as_slice()),
+        _ => false,
+    }
 }
 
 // Whether a series that is drawn over two steps has all six pairs and such demands, and is read back.
-fn is_drawn(alloc: Global) -> Result<bool, MatrixFault> {
-    let Ok(net) = topology::read(alloc, NODES) else {
-        return Err(MatrixFault::Memory);
-    };
-    let series = gravity(alloc, &net, 7, 2)?;
-    let same = is_read_back(alloc, &net, &series) == Ok(true);
+fn is_drawn(alloc: Global, net: &Network) -> Result<bool, MatrixFault>
+    requires { IsTrue (is_well_formed net.now) }
+{
+    let series = gravity(alloc, net, 7, 2)?;
     let pairs = series.pairs.list.as_slice().len() == 6;
-    let products = match series.steps.as_slice() {
-        [first, _] => are_products(first.demand.as_slice()),
-        _ => false,
-    };
-    Ok(pairs & products & same)
+    let drawn = are_drawn(series.steps.as_slice());
+    Ok(pairs & drawn & (is_read_back(alloc, net, &series) == Ok(true)))
 }
 
 #[test]
-fn drawn_series_read_back(rt: HostRuntime) {
-    assert!(rt; is_drawn(rt.alloc()) == Ok(true));
+fn files_of_three_nodes(rt: HostRuntime) {
+    let alloc = rt.alloc();
+    let net = topology::read(alloc, NODES).expect(&rt, "three nodes");
+    first_faults_are_told(&rt, alloc, &net);
+    steps_and_pairs_are_read(&rt, alloc, &net);
+    assert!(rt; is_drawn(alloc, &net) == Ok(true));
 }
