@@ -2,9 +2,9 @@
 
 ghost use Rattle.std.specs.Prelude.{◌≡◌, ◌≢◌, ◌≤◌, ◌∷◌, OnOk, IfErr, Ok, Err, IfOk, IsTrue};
 ghost use Rattle.te_model.specs.Network.{is_well_formed, link_count};
-ghost use Rattle.csv_records.specs.Rows.{fold_rows, fold_table};
+ghost use Rattle.csv_records.specs.Rows.{and_then, fold_rows, fold_table};
 ghost use Rattle.topology.specs.declared.fault.TopologyFault.TheVariants as fault;
-ghost use Rattle.topology.specs.Topology.{topology_of, with_link_row, is_topology_header, no_links};
+ghost use Rattle.topology.specs.Topology.{topology_of, closed_network, with_link_row, is_topology_header, no_links};
 
 use crate::draft::Draft;
 use crate::entry::read_entry;
@@ -27,9 +27,18 @@ pub fn read(alloc: Global, bytes: &[u8]) -> Result<Network, TopologyFault>
     ensures refused { IfErr result (λ e. e ≢ fault.Memory → topology_of bytes.now ≡ Err e) }
 {
     let mut rows = Rows::new(alloc, bytes);
-    read_header(&mut rows)?;
+    read_table(alloc, &mut rows)
+}
+
+// Reads the header and the rows, of which none has been read.
+fn read_table(alloc: Global, rows: &mut Rows<'_>) -> Result<Network, TopologyFault>
+    ensures network { IfOk result (λ net. and_then closed_network (fold_table is_topology_header fault.Header with_link_row no_links rows.old.rest) ≡ Ok net) }
+    ensures refused { IfErr result (λ e. e ≢ fault.Memory →
+        and_then closed_network (fold_table is_topology_header fault.Header with_link_row no_links rows.old.rest) ≡ Err e) }
+{
+    read_header(rows)?;
     let mut draft = Draft::new(alloc);
-    read_links(alloc, &mut rows, &mut draft)?;
+    read_links(alloc, rows, &mut draft)?;
     draft.close(alloc)
 }
 
