@@ -1,8 +1,10 @@
 //! The summary of a drawn network.
-ghost use Rattle.std.specs.Prelude.{◌≤◌, IfOk, IsTrue};
+ghost use Rattle.std.specs.Prelude.{◌≡◌, ◌≤◌, ℕ, IfOk, IsTrue};
 ghost use Rattle.te_model.specs.Network.{is_well_formed, link_count, node_count};
 ghost use Rattle.te_model.specs.Pairs.{AscendPairs};
 ghost use Rattle.scheme.specs.Reach.{AllReached, ArePairsOf};
+ghost use Rattle.random_network.specs.Drawn.{IsConnected, network_of};
+ghost use Rattle.traffic_matrix.specs.Gravity.{gravity_of};
 ghost use Rattle.traffic_matrix.specs.Limits.{IsSeries};
 ghost use Rattle.generation.specs.Summary.{IsJudgedDraw, IsSummary, IsTotal};
 
@@ -55,6 +57,45 @@ fn offered_and_delivered(
     Ok((offered_in(rows.as_slice()), delivered_in(rows.as_slice())))
 }
 
+/// The summary of a network and a series that were drawn from the seed.
+fn summary_over(
+    alloc: Global,
+    network: &Network,
+    series: &Series,
+    seed: u64,
+) -> Result<Vec<u8>, Memory>
+    requires network { IsTrue (is_well_formed network.now) }
+    requires links { 1 ≤ link_count network.now }
+    requires connected { IsConnected network.now }
+    requires series { IsSeries (node_count network.now) series.now }
+    ensures { IfOk result (λ text. (n : ℕ) → network.now ≡ network_of n seed → series.now ≡ gravity_of (node_count network.now) seed 3 →
+        IsSummary n seed text.items) }
+{
+    let (ratio, finding) = ratio_and_finding(alloc, network, &series.pairs, seed)?;
+    let (offered, delivered) = offered_and_delivered(alloc, network, series)?;
+    let summary = Summary {
+        nodes: network.names.as_slice().len(),
+        links: network.links.as_slice().len(),
+        pairs: series.pairs.list.as_slice().len(),
+        ratio,
+        finding,
+        offered,
+        delivered,
+    };
+    print_lines(alloc, &summary)
+}
+
+/// The summary of a network that was drawn from the seed, over three matrices of the same seed.
+fn summary_of(alloc: Global, network: &Network, seed: u64) -> Result<Vec<u8>, Memory>
+    requires network { IsTrue (is_well_formed network.now) }
+    requires links { 1 ≤ link_count network.now }
+    requires connected { IsConnected network.now }
+    ensures { IfOk result (λ text. (n : ℕ) → network.now ≡ network_of n seed → IsSummary n seed text.items) }
+{
+    let series = gravity(alloc, network, seed, 3)?;
+    summary_over(alloc, network, &series, seed)
+}
+
 /// Draws a network of 2 to 64 nodes and three matrices by the gravity model from the seed, publishes a routing over four trees of the
 /// seed, reads the certificate's file back and judges it, and simulates least paths over the three matrices, in which no link fails.
 ///
@@ -66,18 +107,5 @@ pub fn summary(alloc: Global, nodes: u32, seed: u64) -> Result<Vec<u8>, Memory>
     ensures { IfOk result (λ text. IsSummary nodes seed text.items) }
 {
     let network = network(alloc, nodes, seed)?;
-    let series = gravity(alloc, &network, seed, 3)?;
-    let (ratio, finding) = ratio_and_finding(alloc, &network, &series.pairs, seed)?;
-    let (offered, delivered) = offered_and_delivered(alloc, &network, &series)?;
-    let summary = Summary {
-        nodes: network.names.as_slice().len(),
-        links: network.links.as_slice().len(),
-        pairs: series.pairs.list.as_slice().len(),
-        ratio,
-        finding,
-        offered,
-        delivered,
-    };
-    let text = print_lines(alloc, &summary)?;
-    Ok(text)
+    summary_of(alloc, &network, seed)
 }
