@@ -1,5 +1,6 @@
 -- How the answer of a command comes from the reading of one file and the rest.
-use Rattle.std.proofs.Common.{◌≡◌, ℕ, List, Result, Ok, Err, inl, inr, refl, ◌∙◌, subst, arith}
+use Rattle.std.proofs.Common.{◌≡◌, ℕ, List, Result, Ok, Err, inl, inr, refl, sym, ◌∙◌, subst, arith}
+use Rattle.std.specs.Prelude.{IfOk, IfErr}
 use Rattle.te_ports.specs.Ports.{Rose}
 use Rattle.te_ports.specs.Record.{Grows}
 use Rattle.te_ports.proofs.Giving.{read_kept}
@@ -80,3 +81,9 @@ ends a s answer is = record { means = is; failed = tt; steady = λ other. refl; 
 
 pub falls_short : (r : Reading) (s : Shown) → Follows r s s (Err Memory)
 falls_short r s = record { means = tt; failed = tt; steady = λ other. refl; may = no_change s }
+
+-- one of the two
+pub ends_or_falls_short : (a : Answers) (s : Shown) (result : Result Answer Fault) → IfOk result (λ answer. a.text (status_of answer) (answer_text answer)) →
+    IfErr result (λ fault. fault ≡ Memory) → Follows (answers a) s s result
+ends_or_falls_short a s (Ok answer) is short = ends a s answer is
+ends_or_falls_short a s (Err fault) is short = subst (λ f. Follows (answers a) s s (Err f)) (sym short) (falls_short (answers a) s)

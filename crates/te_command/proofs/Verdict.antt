@@ -1,5 +1,5 @@
 -- The line of what was found of a certificate is the answer on it.
-use Rattle.std.proofs.Common.{◌≡◌, Option, Some, None, Result, Ok, Err, IfOk, inl, inr, refl}
+use Rattle.std.proofs.Common.{◌≡◌, ◌≢◌, Option, Some, None, Result, Ok, Err, IfOk, inl, inr, refl}
 use Rattle.te_model.specs.declared.memory.Memory.{Memory}
 use Rattle.te_model.specs.declared.certificate.Certificate.{Certificate}
 use Rattle.te_model.specs.declared.network.Network.{Network}
@@ -7,7 +7,7 @@ use Rattle.te_model.specs.Inequalities.{LinkFailure, first_failure}
 use Rattle.ratio_checker.specs.Finding.{finding_of}
 use Rattle.ratio_checker.specs.declared.finding.Finding.{Finding}
 use Rattle.te_command.specs.declared.answer.Answer.{Answer}
-use Rattle.te_command.specs.Check.{IsVerdict, IsNetworkVerdict}
+use Rattle.te_command.specs.Check.{IsVerdict, IsNetworkVerdict, no_network_line}
 use Rattle.te_command.specs.Outcome.{IsLineOf, status_of, answer_text}
 
 -- what the first failure gives
@@ -27,3 +27,10 @@ pub network_found : (c : Certificate) (network : Network) (r : Result Answer Mem
     IfOk r (λ answer. IsNetworkVerdict c network (status_of answer) (answer_text answer))
 network_found c network (Ok answer) same is = inl (same, is)
 network_found c network (Err e) same is = is
+
+-- and that on a certificate of another network
+pub other_network : (c : Certificate) (network : Network) (r : Result Answer Memory) → c.head.network ≢ network →
+    IfOk r (λ answer. (status_of answer ≡ 1) × (answer_text answer ≡ no_network_line)) →
+    IfOk r (λ answer. IsNetworkVerdict c network (status_of answer) (answer_text answer))
+other_network c network (Ok answer) other is = inr (other, is.0, is.1)
+other_network c network (Err e) other is = is

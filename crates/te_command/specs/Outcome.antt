@@ -1,5 +1,5 @@
 -- What the functions of the program answer of the files that they read.
-use Rattle.std.specs.Prelude.{◌≡◌, ◌≢◌, ◌≤◌, ℕ, List, string_bytes, Option, Some, None, Result, Ok, Err}
+use Rattle.std.specs.Prelude.{◌≡◌, ◌≢◌, ◌≤◌, ℕ, ◌↔◌, List, Bool, IsTrue, string_bytes, Option, Some, None, Result, Ok, Err}
 use Rattle.te_ports.specs.Ports.{Rose}
 use Rattle.te_ports.specs.Record.{Grows}
 use Rattle.te_ports.specs.Shown.{Shown}
@@ -94,6 +94,12 @@ pub record ReadsFile {A : Type 0} (kind : Kind A) (file : List ℕ) (old new : S
   pub failed : OnRead result (Rose (old.faults file) (new.faults file))
   pub steady : result ≢ Err Read → new.faults ≡ old.faults
   pub may : KeepsDepot old new
+
+-- whether a file gives this network, or it is refused or not read
+abbrev pub ReadsSame : Network → List ℕ → Shown → Shown → Result Bool Fault → Type 0
+ReadsSame network file old new (Ok same) =
+    (read : Network) × ReadsFile topologies file old new (Ok read) × (IsTrue same ↔ (network ≡ read))
+ReadsSame network file old new (Err fault) = ReadsFile topologies file old new (Err fault)
 
 -- the status and the text are what is meant, unless a read failed or memory was short
 abbrev pub Meant : (ℕ → List ℕ → Type 0) → Result Answer Fault → Type 0

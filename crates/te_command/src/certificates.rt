@@ -1,6 +1,7 @@
 //! Reading the file of a certificate one block at a time: what is found of it, or the line that refuses it.
-ghost use Rattle.std.specs.Prelude.{◌≡◌, [], OnOk};
-ghost use Rattle.block_reader.specs.Blocks.{name_of};
+ghost use Rattle.std.specs.Prelude.{◌≡◌, [], None, OnOk};
+ghost use Rattle.te_model.specs.Validity.{IsValidHead};
+ghost use Rattle.block_reader.specs.Blocks.{HasRead, last_link, name_of};
 ghost use Rattle.ratio_checker.specs.Feeds.{head_of_feed};
 ghost use Rattle.te_command.specs.Blocks.{FeedsFile, IsFed, IsFedWhole, IsAnswerTo, ReadsOn};
 ghost use Rattle.te_ports.specs.Shown.{shown_by};
@@ -11,6 +12,7 @@ use crate::refusal::Refusal;
 use block_reader::{BlockReader, StreamFault};
 use ratio_checker::Feed;
 use std::alloc::Global;
+use te_model::Head;
 use te_ports::Depot;
 
 // What is answered where the file has this fault.
@@ -43,20 +45,23 @@ fn feed_blocks<D: Depot>(
     Ok(())
 }
 
-// The feed, which was given the head, with each block of the file.
-fn feed_rest<D: Depot>(
+// The feed of the head, with each block of the file, of which the reader has read the head alone.
+fn feed_from<D: Depot>(
     alloc: Global,
     depot: &mut D,
     file: &str,
-    mut reader: BlockReader,
-    mut feed: Feed,
+    reader: &mut BlockReader,
+    head: Head,
 ) -> Result<Feed, Fault>
-    requires fed { IsFed (D.gave depot.old (name_of reader)) reader feed (head_of_feed feed) [] }
-    requires name { name_of reader ≡ file.now }
+    requires head { HasRead (D.gave depot.old file.now) reader.old head [] }
+    requires valid { IsValidHead head }
+    requires start { last_link reader.old ≡ None }
+    requires name { name_of reader.old ≡ file.now }
     ensures { FeedsFile file.now (shown_by D.content D.gave D.faults depot.old)
         (shown_by D.content D.gave D.faults depot.new) result }
 {
-    match feed_blocks(depot, &mut reader, &mut feed) {
+    let mut feed = Feed::new(alloc, head)?;
+    match feed_blocks(depot, reader, &mut feed) {
         Ok(()) => Ok(feed),
         Err(fault) => Err(answer_to(alloc, file, fault)),
     }
@@ -70,10 +75,8 @@ pub fn feed_in<D: Depot>(alloc: Global, depot: &mut D, file: &str) -> Result<Fee
     ensures { FeedsFile file.now (shown_by D.content D.gave D.faults depot.old)
         (shown_by D.content D.gave D.faults depot.new) result }
 {
-    let (reader, head) = match BlockReader::open(alloc, depot, file) {
-        Ok(opened) => opened,
-        Err(fault) => return Err(answer_to(alloc, file, fault)),
-    };
-    let feed = Feed::new(alloc, head)?;
-    feed_rest(alloc, depot, file, reader, feed)
+    match BlockReader::open(alloc, depot, file) {
+        Ok((mut reader, head)) => feed_from(alloc, depot, file, &mut reader, head),
+        Err(fault) => Err(answer_to(alloc, file, fault)),
+    }
 }

@@ -1,10 +1,12 @@
 //! `check CERT TOPOLOGY`: the same, and whether the certificate's network is that of a topology.
-ghost use Rattle.std.specs.Prelude.{List, IfOk};
+ghost use Rattle.std.specs.Prelude.{◌≡◌, ◌↔◌, List, IfOk, IsTrue};
 ghost use Rattle.te_model.specs.declared.certificate.Block.{Block};
 ghost use Rattle.te_model.specs.declared.certificate.Head.{Head};
+ghost use Rattle.te_model.specs.declared.network.Network.{Network};
 ghost use Rattle.ratio_checker.specs.Feeds.{StandsFor};
-ghost use Rattle.te_command.specs.Check.{IsNetworkVerdict};
-ghost use Rattle.te_command.specs.Outcome.{status_of, answer_text};
+ghost use Rattle.te_ports.specs.Shown.{shown_by};
+ghost use Rattle.te_command.specs.Check.{IsNetworkVerdict, no_network_line};
+ghost use Rattle.te_command.specs.Outcome.{ReadsSame, status_of, answer_text};
 
 use super::check::judge;
 use crate::answer::{Answer, Fault};
@@ -31,22 +33,45 @@ impl<'a> Ask for CheckNetwork<'a> {
 
     fn answer<D: Depot>(&self, alloc: Global, depot: &mut D) -> Result<Answer, Fault> {
         let feed = feed_in(alloc, depot, self.certificate)?;
-        let network = value_in(alloc, depot, &Topologies, self.topology)?;
-        Ok(compare(alloc, feed, &network)?)
+        let same = is_network_of(alloc, depot, &feed.head().network, self.topology)?;
+        Ok(judge_on(alloc, feed, same)?)
     }
 }
 
-// The answer on the certificate whose head and blocks the feed was given, and which is to be of this network.
-fn compare(alloc: Global, feed: Feed, network: &Network) -> Result<Answer, Memory>
+// Whether the network is that of the topology in the file of this name.
+fn is_network_of<D: Depot>(
+    alloc: Global,
+    depot: &mut D,
+    network: &Network,
+    topology: &str,
+) -> Result<bool, Fault>
+    ensures { ReadsSame network.now topology.now (shown_by D.content D.gave D.faults depot.old)
+        (shown_by D.content D.gave D.faults depot.new) result }
+{
+    let read = value_in(alloc, depot, &Topologies, topology)?;
+    Ok(same_network(network, &read))
+}
+
+// The answer on a certificate of another network.
+fn no_network(alloc: Global) -> Result<Answer, Memory>
+    ensures { IfOk result (λ answer. (status_of answer ≡ 1) × (answer_text answer ≡ no_network_line)) }
+{
+    let line = format!(in alloc; "no network\n")?;
+    Ok(Answer::No(line.into_bytes()))
+}
+
+// The answer on the certificate whose head and blocks the feed was given, and whose network is the one that is asked for
+// or another one.
+#[tactic(auto, using(crate::proofs::Verdict::other_network))]
+fn judge_on(alloc: Global, feed: Feed, same: bool) -> Result<Answer, Memory>
     requires { (head : Head) × (blocks : List Block) × StandsFor feed head blocks }
     ensures { (head : Head) → (blocks : List Block) → StandsFor feed head blocks →
-        IfOk result (λ answer. IsNetworkVerdict (record { head = head; blocks = blocks }) network.now
-        (status_of answer) (answer_text answer)) }
+        (network : Network) → (IsTrue same ↔ (head.network ≡ network)) →
+        IfOk result (λ answer. IsNetworkVerdict (record { head = head; blocks = blocks }) network (status_of answer) (answer_text answer)) }
 {
-    if same_network(&feed.head().network, network) {
+    if same {
         judge(alloc, feed)
     } else {
-        let line = format!(in alloc; "no network\n")?;
-        Ok(Answer::No(line.into_bytes()))
+        no_network(alloc)
     }
 }

@@ -1,5 +1,6 @@
 //! `convert CERT`: the certificate in a file, as a file of the second format.
-ghost use Rattle.std.specs.Prelude.{IfOk};
+ghost use Rattle.std.specs.Prelude.{◌≡◌, IfOk};
+ghost use Rattle.te_model.specs.Text.{text};
 ghost use Rattle.te_model.specs.Validity.{IsValid};
 ghost use Rattle.te_command.specs.Convert.{conversion_of};
 ghost use Rattle.te_command.specs.Outcome.{status_of, answer_text};
@@ -30,12 +31,19 @@ impl<'a> Ask for Convert<'a> {
     }
 }
 
+// The file of the certificate.
+fn file_of(alloc: Global, certificate: &Certificate) -> Result<Answer, Memory>
+    ensures { IfOk result (λ answer. (status_of answer ≡ 0) × (answer_text answer ≡ text certificate.now)) }
+{
+    let file = print(alloc, certificate)?;
+    Ok(Answer::Done(file))
+}
+
 // The file of the certificate in the second format.
 fn upgraded_file(alloc: Global, certificate: Certificate) -> Result<Answer, Memory>
     requires { IsValid certificate }
     ensures { IfOk result (λ answer. (conversion_of certificate).text (status_of answer) (answer_text answer)) }
 {
     let upgraded = upgrade(alloc, certificate)?;
-    let file = print(alloc, &upgraded)?;
-    Ok(Answer::Done(file))
+    file_of(alloc, &upgraded)
 }

@@ -1,17 +1,20 @@
 //! `run PLAN`: the report of the schemes that a plan compares.
-ghost use Rattle.std.specs.Prelude.{IsTrue};
+ghost use Rattle.std.specs.Prelude.{◌≡◌, IfErr, IfOk, IsTrue};
 ghost use Rattle.te_model.specs.Network.{is_well_formed, node_count};
 ghost use Rattle.traffic_matrix.specs.Limits.{IsSeries};
 ghost use Rattle.plan.specs.Plan.{InRange};
+ghost use Rattle.experiment.specs.Report.{IsReport};
+ghost use Rattle.te_command.specs.declared.answer.Fault.TheVariants.{Memory as OutOfMemory};
 ghost use Rattle.te_ports.specs.Shown.{shown_by};
 ghost use Rattle.te_command.specs.Reading.{answers};
 ghost use Rattle.te_command.specs.Report.{report_of};
 ghost use Rattle.te_command.specs.Commands.{with_failures};
-ghost use Rattle.te_command.specs.Outcome.{Follows};
+ghost use Rattle.te_command.specs.Outcome.{Follows, status_of, answer_text};
 
 use crate::answer::{Answer, Fault};
 use crate::ask::Ask;
 use crate::inputs::{Inputs, inputs_in, outages_in};
+use failure::Failures;
 use std::alloc::Global;
 use te_ports::Depot;
 
@@ -32,6 +35,25 @@ impl<'a> Ask for RunPlan<'a> {
     }
 }
 
+// The report on these inputs and failures.
+fn report_with(alloc: Global, inputs: &Inputs, failures: &Failures) -> Result<Answer, Fault>
+    requires plan { InRange inputs.now.plan }
+    requires network { IsTrue (is_well_formed inputs.now.network) }
+    requires series { IsSeries (node_count inputs.now.network) inputs.now.series }
+    ensures answer { IfOk result (λ answer. (status_of answer ≡ 0)
+        × IsReport inputs.now.plan inputs.now.network inputs.now.series failures.now (answer_text answer)) }
+    ensures memory { IfErr result (λ fault. fault ≡ OutOfMemory) }
+{
+    let text = experiment::report(
+        alloc,
+        &inputs.plan,
+        &inputs.network,
+        &inputs.series,
+        failures,
+    )?;
+    Ok(Answer::Done(text))
+}
+
 // The report on these inputs, for which the failures are read.
 fn report_on<D: Depot>(alloc: Global, depot: &mut D, inputs: &Inputs) -> Result<Answer, Fault>
     requires plan { InRange inputs.now.plan }
@@ -42,12 +64,5 @@ fn report_on<D: Depot>(alloc: Global, depot: &mut D, inputs: &Inputs) -> Result<
         (shown_by D.content D.gave D.faults depot.old) (shown_by D.content D.gave D.faults depot.new) result }
 {
     let failures = outages_in(alloc, depot, inputs)?;
-    let text = experiment::report(
-        alloc,
-        &inputs.plan,
-        &inputs.network,
-        &inputs.series,
-        &failures,
-    )?;
-    Ok(Answer::Done(text))
+    report_with(alloc, inputs, &failures)
 }

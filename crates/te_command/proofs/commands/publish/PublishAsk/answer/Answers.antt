@@ -1,22 +1,9 @@
-use Rattle.std.proofs.Common.{◌≡◌, Result, Ok, Err, sym, subst}
-use Rattle.std.specs.Prelude.{IfOk, IfErr}
 use Rattle.std.proofs.lemmas.Result.{err_from_is_err_and}
-use Rattle.te_ports.specs.Shown.{Shown}
-use Rattle.te_command.specs.declared.answer.Answer.{Answer}
-use Rattle.te_command.specs.declared.answer.Fault.{Fault}
-use Rattle.te_command.specs.declared.answer.Fault.TheVariants.{Memory}
-use Rattle.te_command.specs.Outcome.{Follows, status_of, answer_text}
-use Rattle.te_command.specs.Reading.{Answers, answers}
+use Rattle.te_command.specs.Reading.{answers}
 use Rattle.te_command.specs.Publish.{publication_of}
-use Rattle.te_command.proofs.Following.{ends, falls_short}
+use Rattle.te_command.proofs.Following.{ends_or_falls_short}
 use Rattle.te_command.proofs.Plans.{plan_stops, plan_goes_on}
 use Rattle.te_command.proofs.commands.publish.PublishAsk.answer.Goals as goal
-
--- all files were read, and this is the answer, or memory was short for it
-ends_or_falls_short : (a : Answers) (s : Shown) (result : Result Answer Fault) → IfOk result (λ answer. a.text (status_of answer) (answer_text answer)) →
-    IfErr result (λ fault. fault ≡ Memory) → Follows (answers a) s s result
-ends_or_falls_short a s (Ok answer) is short = ends a s answer is
-ends_or_falls_short a s (Err fault) is short = subst (λ f. Follows (answers a) s s (Err f)) (sym short) (falls_short (answers a) s)
 
 pub returns-in_err-inputs : goal.returns-in_err-inputs
 returns-in_err-inputs g c =

@@ -1,0 +1,6 @@
+use Rattle.te_command.proofs.Verdict.{network_found}
+use Rattle.te_command.proofs.commands.check_network.judge_on.Goals as goal
+
+pub returns-then-same : goal.returns-then-same
+returns-then-same c = λ head blocks stands network is.
+    network_found (record { head = head; blocks = blocks }) network _ (is.0 c.if-same.true) (c.judge.ensures head blocks stands)
