@@ -8,8 +8,9 @@ ghost use Rattle.ratio_certificate.specs.Form.{IsFormatFor};
 ghost use Rattle.ratio_certificate.specs.Made.{IsMade, IsMadeIn};
 ghost use Rattle.ratio_certificate.specs.Making.{head_with, AreBlocksOf, AreMadeBlocks, ArePaidBy, AreSharedLinks};
 ghost use Rattle.ratio_certificate.specs.Polished.{IsPolished};
-ghost use Rattle.ratio_certificate.specs.Problems.{AreLinksOf, AreWeightingsOf, IsDoneOf, IsLinkOf, IsProblem, IsWeightingOf};
+ghost use Rattle.ratio_certificate.specs.Problems.{AreLinksOf, AreWeightingsOf, IsDoneOf, IsLinkOf, IsMetricOf, IsProblem, IsWeightingOf};
 ghost use Rattle.ratio_certificate.specs.Rising.{AreBestRounds};
+ghost use Rattle.ratio_certificate.specs.Weighting.{AreWeights};
 
 use crate::form::{made_format, set_in};
 use crate::polish::{metric_by, polish};
@@ -17,7 +18,7 @@ use crate::problem::Problem;
 use crate::rounds::best_round;
 use crate::search::search;
 use crate::weighting::Weighting;
-use best_blocks::{SharedLink, best_block, greatest_need, shared_link};
+use best_blocks::{Metric, SharedLink, best_block, greatest_need, shared_link};
 use routing::{Routing, Shares};
 use std::alloc::Global;
 use te_model::{Block, Certificate, DemandSet, Head, Items, Memory, Network, copy_network};
@@ -107,7 +108,33 @@ fn no_block(alloc: Global) -> Block {
     }
 }
 
-/// The best block of the weights, of which there is one, since they are 1 and more.
+/// The best block under the metric, of which there is one, since its weights are 1 and more.
+fn block_under(
+    alloc: Global,
+    problem: &Problem,
+    shared: &SharedLink,
+    metric: &Metric,
+) -> Result<Block, Memory>
+    requires problem { IsProblem problem.now }
+    requires shared { IsLinkOf problem.now shared.now }
+    requires metric { IsMetricOf problem.now shared.now metric.now }
+    requires weights { AreWeights problem.now.net.now metric.now.weights }
+    ensures { IfOk result (IsBestBlock problem.now.net.now problem.now.routing.now.routes problem.now.set.now shared.now.link metric.now.weights) }
+{
+    match best_block(
+        alloc,
+        problem.net,
+        problem.routing,
+        problem.set,
+        shared,
+        metric,
+    )? {
+        Some(block) => Ok(block),
+        None => Ok(no_block(alloc)),
+    }
+}
+
+/// The best block of the weights.
 fn block_of(
     alloc: Global,
     problem: &Problem,
@@ -121,17 +148,7 @@ fn block_of(
     ensures { IfOk result (IsBestBlock problem.now.net.now problem.now.routing.now.routes problem.now.set.now weighting.now.link weighting.now.weights) }
 {
     let metric = metric_by(alloc, problem, shared, weighting)?;
-    match best_block(
-        alloc,
-        problem.net,
-        problem.routing,
-        problem.set,
-        shared,
-        &metric,
-    )? {
-        Some(block) => Ok(block),
-        None => Ok(no_block(alloc)),
-    }
+    block_under(alloc, problem, shared, &metric)
 }
 
 /// The best block of each of the weights.

@@ -4,9 +4,10 @@ ghost use Rattle.te_model.specs.Network.{link_count};
 ghost use Rattle.ratio_certificate.specs.Places.{weighting_at};
 ghost use Rattle.ratio_certificate.specs.Polished.{IsFine, IsWorst};
 ghost use Rattle.ratio_certificate.specs.Problems.{AreLinksOf, AreWeightingsOf, IsDoneOf, IsLinkOf, IsMetricOf, IsProblem, IsProgressOf, IsSettledOf, IsWeightingOf};
+ghost use Rattle.ratio_certificate.specs.Steps.{IsImprovement, IsSettledAt};
 ghost use Rattle.ratio_certificate.specs.Weighting.{AreDoubled, AreWeights};
 
-use crate::changes::Changes;
+use crate::changes::{Change, Changes};
 use crate::problem::Problem;
 use crate::weighting::{Weighting, weighting_of};
 use best_blocks::{Metric, SharedLink, metric_of};
@@ -119,6 +120,33 @@ fn double(
     weighting_of(alloc, problem, shared, &metric)
 }
 
+/// A change of one of the weights that improves what they need, sought from the link `from` on and then from the first.
+fn find_change(
+    alloc: Global,
+    problem: &Problem,
+    shared: &SharedLink,
+    weighting: &Weighting,
+    from: usize,
+) -> Result<Option<Change>, Memory>
+    requires problem { IsProblem problem.now }
+    requires shared { IsLinkOf problem.now shared.now }
+    requires weights { AreWeights problem.now.net.now weighting.now.weights }
+    requires from { from ≤ link_count problem.now.net.now }
+    ensures some { IfOk result (λ o. IfSome o (λ c. IsImprovement problem.now.net.now problem.now.routing.now.routes problem.now.set.now shared.now.link weighting.now.need c.weighting)) }
+    ensures link { IfOk result (λ o. IfSome o (λ c. c.link < link_count problem.now.net.now)) }
+    ensures none { IfOk result (λ o. IfNone o ((h : ℕ) → h < link_count problem.now.net.now →
+        IsSettledAt problem.now.net.now problem.now.routing.now.routes problem.now.set.now shared.now.link weighting.now.need weighting.now.weights h)) }
+{
+    let metric = metric_by(alloc, problem, shared, weighting)?;
+    let changes = Changes {
+        problem: *problem,
+        shared,
+        metric: &metric,
+        need: weighting.need,
+    };
+    changes.find(alloc, from)
+}
+
 /// A step of the polish: other weights at a place of the list, and the link from which the next change is sought.
 #[derive(Drop)]
 struct Step {
@@ -155,14 +183,7 @@ fn step_at(
             from,
         }));
     }
-    let metric = metric_by(alloc, problem, shared, weighting)?;
-    let changes = Changes {
-        problem: *problem,
-        shared,
-        metric: &metric,
-        need: weighting.need,
-    };
-    match changes.find(alloc, from)? {
+    match find_change(alloc, problem, shared, weighting, from)? {
         Some(change) => Ok(Some(Step {
             place,
             weighting: change.weighting,
