@@ -1,12 +1,13 @@
 //! Routings over all paths by sweeps.
-ghost use Rattle.std.specs.Prelude.{◌≡◌, ◌^◌, ◌<◌, ◌≤◌, List, IfOk, IsTrue, length};
+ghost use Rattle.std.specs.Prelude.{◌≡◌, ◌^◌, ◌<◌, ◌≤◌, List, IfOk, IsTrue, length, map};
 ghost use Rattle.te_model.specs.declared.route.PairRoutes.{PairRoutes};
-ghost use Rattle.te_model.specs.Network.{is_well_formed};
+ghost use Rattle.te_model.specs.Network.{is_well_formed, link_count};
 ghost use Rattle.routing.specs.Routes.{AreDemands, HasFewPaths, IsRoutingOf};
 ghost use Rattle.routing.specs.Utilisation.{parts};
 ghost use Rattle.scheme.specs.Reach.{AllReached, ArePairsOf};
+ghost use Rattle.centred_steps.specs.Weights.{AreWeightsUpTo};
 ghost use Rattle.rate_sweeps.specs.Descents.{BothKeep, IsDescent};
-ghost use Rattle.rate_sweeps.specs.Sweeps.{AreRates};
+ghost use Rattle.rate_sweeps.specs.Sweeps.{ArePathsOfPairs, AreRates, links_in};
 ghost use Rattle.mcf_lengths.specs.Rounds.{AreLengths};
 ghost use Rattle.mcf_lengths.specs.Sweeps.{AreCommodities, AreLeastSweeps, IsFewRouting, IsNoWorse};
 
@@ -19,7 +20,7 @@ use rate_sweeps::{
 };
 use routing::Routing;
 use std::alloc::Global;
-use te_model::{Items, Matrix, Memory, Network, Pairs};
+use te_model::{Items, Matrix, Memory, Network, Pairs, Path};
 
 /// How many paths of a pair the moves start from at most.
 const STARTING_PATHS: u32 = 28;
@@ -72,6 +73,27 @@ impl<'a> Commodities<'a> {
         Ok(best)
     }
 
+    /// The lengths of the next turn, which are offered, and the least paths by them.
+    fn least_turn(
+        &self,
+        alloc: Global,
+        descent: &Descent,
+        rates: &mut Rates,
+    ) -> Result<(Vec<u64>, Vec<Path>), Memory>
+        requires commodities { AreCommodities self.now }
+        requires routing { IsRoutingOf self.now.net.now self.now.pairs.now.list descent.now.routing.routes }
+        requires rates { AreRates self.now.net.now rates.old }
+        ensures count { IfOk result (λ x. length x.0.items ≡ link_count self.now.net.now) }
+        ensures lengths { IfOk result (λ x. AreWeightsUpTo (2 ^ 27) x.0.items) }
+        ensures paths { IfOk result (λ x. ArePathsOfPairs self.now.net.now descent.now.routing.routes (map links_in x.1.items)) }
+        ensures rates { AreRates self.now.net.now rates.new }
+    {
+        let lengths = next_lengths(alloc, self.net, self.matrix, descent)?;
+        let paths = least_paths(alloc, self.net, self.pairs, self.wanted, &lengths)?;
+        offer(alloc, self.net, self.matrix, &paths, &lengths, rates)?;
+        Ok((lengths, paths))
+    }
+
     /// The descent after a turn to the least paths. Their lengths are offered.
     fn turn(&self, alloc: Global, descent: Descent, rates: &mut Rates) -> Result<Descent, Memory>
         requires commodities { AreCommodities self.now }
@@ -82,9 +104,7 @@ impl<'a> Commodities<'a> {
         ensures rates { AreRates self.now.net.now rates.new }
     {
         let limit = STARTING_PATHS as usize;
-        let lengths = next_lengths(alloc, self.net, self.matrix, &descent)?;
-        let paths = least_paths(alloc, self.net, self.pairs, self.wanted, &lengths)?;
-        offer(alloc, self.net, self.matrix, &paths, &lengths, rates)?;
+        let (lengths, paths) = self.least_turn(alloc, &descent, rates)?;
         take_turn(
             alloc,
             self.net,
