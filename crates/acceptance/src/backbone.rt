@@ -1,9 +1,9 @@
 //! The laboratory on the backbone, 11 nodes and 14 fibres, with matrices that are drawn.
-ghost use Rattle.std.specs.Prelude.{IsTrue};
+ghost use Rattle.std.specs.Prelude.{IfOk, IsTrue};
 ghost use Rattle.te_model.specs.Network.{is_well_formed, node_count};
 ghost use Rattle.traffic_matrix.specs.Limits.{IsSeries};
 
-use crate::call::{Command, published_ratio, written_over};
+use crate::call::{published_ratio, written_over};
 use rand::RngExt;
 use rand_chacha::ChaCha8Rng;
 use rand_core::SeedableRng;
@@ -16,17 +16,9 @@ use te_model::Network;
 use te_ports::MemDepot;
 use traffic_matrix::{Series, gravity, print};
 
-const PUBLISH: Command<'static> = Command {
-    words: &["publish", "plan.json"],
-    names: &["plan.json", "net.csv", "tm.csv"],
-    publishes: true,
-};
+const PUBLISH: &[&str] = &["publish", "plan.json"];
 
-const RUN: Command<'static> = Command {
-    words: &["run", "plan.json"],
-    names: &["plan.json", "net.csv", "tm.csv"],
-    publishes: false,
-};
+const RUN: &[&str] = &["run", "plan.json"];
 
 /// How a plan begins.
 const START: &str = "{\"topology\":\"net.csv\",\"matrices\":\"tm.csv\"";
@@ -38,24 +30,29 @@ const PLAN: &[&str] = &[
 
 const BEST: &[&str] = &[START, ",\"schemes\":[\"mcf\"]}"];
 
-/// The matrices that are published for: those of the gravity model of seed 7, in 24 steps.
-fn gravity_matrices(alloc: Global) -> Result<String, Fail> {
-    let network = topology::read(alloc, BACKBONE.as_bytes())?;
-    let series = gravity(alloc, &network, 7, 24)?;
-    Ok(String::from_utf8(print(alloc, &network, &series)?)?)
+fn backbone(alloc: Global) -> Result<Network, Fail>
+    ensures { IfOk result (λ net. IsTrue (is_well_formed net)) }
+{
+    Ok(topology::read(alloc, BACKBONE.as_bytes())?)
 }
 
-/// The files of a plan on the backbone and these matrices.
-fn files_of(alloc: Global, plan: &[&str], matrices: &str) -> Result<MemDepot, Fail> {
-    let mut files = MemDepot::new(alloc, 64)?;
-    files.add("plan.json", plan.concat(alloc)?.as_bytes())?;
-    files.add("net.csv", BACKBONE.as_bytes())?;
-    files.add("tm.csv", matrices.as_bytes())?;
-    Ok(files)
+fn gravity_text(alloc: Global, network: &Network) -> Result<Vec<u8>, Fail>
+    requires network { IsTrue (is_well_formed network.now) }
+{
+    let series = gravity(alloc, network, 7, 24)?;
+    Ok(print(alloc, network, &series)?)
+}
+
+/// The matrices that are published for: those of the gravity model of seed 7, in 24 steps.
+fn gravity_matrices(alloc: Global) -> Result<String, Fail> {
+    let network = backbone(alloc)?;
+    Ok(String::from_utf8(gravity_text(alloc, &network)?)?)
 }
 
 /// A plan on the backbone, the set of its certificate, and a ratio that it may not reach.
-const PUBLISHED: &[(&[&str], &str, u64)] = &[
+type Published<'a> = (&'a [&'a str], &'a str, u64);
+
+const PUBLISHED: &[Published<'static>] = &[
     (PLAN, "all", 26_500_000),
     (
         &[START, ",\"publish\":\"racke\",\"trees\":8,\"seed\":7}"],
@@ -77,36 +74,78 @@ const PUBLISHED: &[(&[&str], &str, u64)] = &[
     ),
 ];
 
-#[test]
-fn backbone_has_lower_ratios(rt: HostRuntime) -> Result<(), Fail> {
-    let alloc = rt.alloc();
-    let matrices = gravity_matrices(alloc)?;
-    for row in PUBLISHED {
+fn add_files(
+    alloc: Global,
+    depot: &mut MemDepot,
+    plan: &[&str],
+    matrices: &str,
+) -> Result<(), Fail> {
+    let text = plan.concat(alloc)?;
+    depot.add("plan.json", text.as_bytes())?;
+    depot.add("net.csv", BACKBONE.as_bytes())?;
+    depot.add("tm.csv", matrices.as_bytes())?;
+    Ok(())
+}
+
+/// The files of a plan on the backbone and these matrices.
+fn files_of(alloc: Global, plan: &[&str], matrices: &str) -> Result<MemDepot, Fail> {
+    let mut depot = MemDepot::new(alloc, 64)?;
+    add_files(alloc, &mut depot, plan, matrices)?;
+    Ok(depot)
+}
+
+fn ratio_on_backbone(
+    rt: &impl Abort,
+    alloc: Global,
+    plan: &[&str],
+    matrices: &str,
+    set: &str,
+) -> Result<u64, Fail> {
+    let mut depot = files_of(alloc, plan, matrices)?;
+    published_ratio(rt, alloc, PUBLISH, &mut depot, set)
+}
+
+fn have_lower_ratios(
+    rt: &impl Abort,
+    alloc: Global,
+    rows: &[Published<'_>],
+    matrices: &str,
+) -> Result<(), Fail> {
+    for row in rows {
         let (plan, set, bound) = *row;
-        let mut files = files_of(alloc, plan, &matrices)?;
-        let ratio = published_ratio(&rt, alloc, PUBLISH, &mut files, set)?;
+        let ratio = ratio_on_backbone(rt, alloc, plan, matrices, set)?;
         assert!(rt; ratio < bound, "{ratio} is not below {bound}");
     }
     Ok(())
 }
 
-/// What the command writes of a plan on the backbone and these matrices.
+#[test]
+fn backbone_has_lower_ratios(rt: HostRuntime) -> Result<(), Fail> {
+    let matrices = gravity_matrices(rt.alloc())?;
+    have_lower_ratios(&rt, rt.alloc(), PUBLISHED, &matrices)
+}
+
+/// What the words write of a plan on the backbone and these matrices.
 fn on_backbone(
     rt: &impl Abort,
     alloc: Global,
-    command: Command<'_>,
+    words: &[&str],
     plan: &[&str],
     matrices: &str,
 ) -> Result<String, Fail> {
-    let mut files = files_of(alloc, plan, matrices)?;
-    written_over(rt, alloc, command, &mut files)
+    let mut depot = files_of(alloc, plan, matrices)?;
+    written_over(rt, alloc, words, &mut depot)
+}
+
+fn is_report_of_six_schemes(report: &str) -> bool {
+    report.lines().count() == 151 && report.ends_with('\n')
 }
 
 #[test]
 fn schemes_are_compared_on_the_backbone(rt: HostRuntime) -> Result<(), Fail> {
     let matrices = gravity_matrices(rt.alloc())?;
     let report = on_backbone(&rt, rt.alloc(), RUN, PLAN, &matrices)?;
-    assert!(rt; report.lines().count() == 151 && report.ends_with('\n'));
+    assert!(rt; is_report_of_six_schemes(&report));
     Ok(())
 }
 
@@ -115,32 +154,70 @@ const NODES: &[&str] = &[
     "sea", "sfo", "den", "lax", "hou", "kan", "ind", "atl", "chi", "nyc", "was",
 ];
 
-/// Twenty matrices, each demand from 0 to 10000.
+/// The row of a pair of two nodes, with a demand from 0 to 10000.
+fn draw_demand(
+    text: &mut String,
+    rng: &mut ChaCha8Rng,
+    step: u32,
+    source: &str,
+    target: &str,
+) -> Result<(), Fail> {
+    if source == target {
+        return Ok(());
+    }
+    let demand = rng.random_range(0..=10_000u32);
+    write!(text, "{step},{source},{target},{demand}\n")?;
+    Ok(())
+}
+
+fn draw_demands_of(
+    text: &mut String,
+    rng: &mut ChaCha8Rng,
+    step: u32,
+    source: &str,
+) -> Result<(), Fail> {
+    for target in NODES {
+        draw_demand(text, rng, step, source, target)?;
+    }
+    Ok(())
+}
+
+fn draw_matrix(text: &mut String, rng: &mut ChaCha8Rng, step: u32) -> Result<(), Fail> {
+    for source in NODES {
+        draw_demands_of(text, rng, step, source)?;
+    }
+    Ok(())
+}
+
+/// Twenty matrices.
 fn drawn_matrices(alloc: Global) -> Result<String, Fail> {
     let mut rng = ChaCha8Rng::seed_from_u64(7);
     let mut text = "step,source,target,demand\n".to_string(alloc)?;
     for step in 0..20 {
-        for source in NODES {
-            for target in NODES {
-                if source != target {
-                    let demand = rng.random_range(0..=10_000u32);
-                    write!(text, "{step},{source},{target},{demand}\n")?;
-                }
-            }
-        }
+        draw_matrix(&mut text, &mut rng, step)?;
     }
     Ok(text)
 }
 
-/// The column `parts` of the report on the best routings for these matrices.
-fn best_parts(rt: &impl Abort, alloc: Global, matrices: &str) -> Result<Vec<u64>, Fail> {
-    let report = on_backbone(rt, alloc, RUN, BEST, matrices)?;
+fn add_parts(list: &mut Vec<u64>, line: &str) -> Result<(), Fail> {
+    let parts = line.split(',').nth(8).unwrap_or("");
+    list.push(parts.parse::<u64>()?)?;
+    Ok(())
+}
+
+/// The column `parts` of a report.
+fn all_parts(alloc: Global, report: &str) -> Result<Vec<u64>, Fail> {
     let mut list = Vec::new(alloc);
     for line in report.lines().skip(1) {
-        let parts = line.split(',').nth(8).unwrap_or("");
-        list.push(parts.parse::<u64>()?)?;
+        add_parts(&mut list, line)?;
     }
     Ok(list)
+}
+
+/// The utilisations by the best routings for these matrices.
+fn best_parts(rt: &impl Abort, alloc: Global, matrices: &str) -> Result<Vec<u64>, Fail> {
+    let report = on_backbone(rt, alloc, RUN, BEST, matrices)?;
+    all_parts(alloc, &report)
 }
 
 /// The routing of a certificate, and its ratio.
@@ -188,17 +265,42 @@ fn keeps_ratio(
     true
 }
 
-/// The routing of the certificate does so.
 fn certificate_keeps_ratio(
     alloc: Global,
     file: &str,
+    network: &Network,
+    series: &Series,
+    best: &[u64],
+) -> Result<bool, Fail>
+    requires network { IsTrue (is_well_formed network.now) }
+    requires series { IsSeries (node_count network.now) series.now }
+{
+    let (routing, ratio) = routing_in(alloc, file.as_bytes())?;
+    Ok(keeps_ratio(&routing, ratio, network, series, best))
+}
+
+fn matrices_keep_ratio(
+    alloc: Global,
+    file: &str,
+    network: &Network,
     matrices: &str,
     best: &[u64],
+) -> Result<bool, Fail>
+    requires network { IsTrue (is_well_formed network.now) }
+{
+    let series = traffic_matrix::read(alloc, network, matrices.as_bytes())?;
+    certificate_keeps_ratio(alloc, file, network, &series, best)
+}
+
+fn drawn_keep_ratio(
+    rt: &impl Abort,
+    alloc: Global,
+    file: &str,
+    matrices: &str,
 ) -> Result<bool, Fail> {
-    let (routing, ratio) = routing_in(alloc, file.as_bytes())?;
-    let network = topology::read(alloc, BACKBONE.as_bytes())?;
-    let series = traffic_matrix::read(alloc, &network, matrices.as_bytes())?;
-    Ok(keeps_ratio(&routing, ratio, &network, &series, best))
+    let best = best_parts(rt, alloc, matrices)?;
+    let network = backbone(alloc)?;
+    matrices_keep_ratio(alloc, file, &network, matrices, &best)
 }
 
 /// The certificate that the plan publishes.
@@ -207,12 +309,18 @@ fn published(rt: &impl Abort, alloc: Global) -> Result<String, Fail> {
     on_backbone(rt, alloc, PUBLISH, PLAN, &matrices)
 }
 
+fn certificate_keeps_ratio_on_drawn(
+    rt: &impl Abort,
+    alloc: Global,
+    file: &str,
+) -> Result<bool, Fail> {
+    let drawn = drawn_matrices(alloc)?;
+    drawn_keep_ratio(rt, alloc, file, &drawn)
+}
+
 #[test]
 fn drawn_matrices_keep_the_ratio(rt: HostRuntime) -> Result<(), Fail> {
-    let alloc = rt.alloc();
-    let file = published(&rt, alloc)?;
-    let drawn = drawn_matrices(alloc)?;
-    let best = best_parts(&rt, alloc, &drawn)?;
-    assert!(rt; certificate_keeps_ratio(alloc, &file, &drawn, &best)?);
+    let file = published(&rt, rt.alloc())?;
+    assert!(rt; certificate_keeps_ratio_on_drawn(&rt, rt.alloc(), &file)?);
     Ok(())
 }

@@ -94,6 +94,28 @@ pub fn says<'a>(command: Command<'a>, row: Row<'a>) -> Call<'a> {
     }
 }
 
+fn add_file(alloc: Global, depot: &mut MemDepot, name: &str, parts: &[&str]) -> Result<(), Fail> {
+    if parts.is_empty() {
+        return Ok(());
+    }
+    let text = parts.concat(alloc)?;
+    Ok(depot.add(name, text.as_bytes())?)
+}
+
+fn add_files(
+    alloc: Global,
+    depot: &mut MemDepot,
+    names: &[&str],
+    files: Files<'_>,
+) -> Result<(), Fail> {
+    for place in 0..names.len() {
+        if place < files.len() {
+            add_file(alloc, depot, names[place], files[place])?;
+        }
+    }
+    Ok(())
+}
+
 /// The files that are there, which are given in pieces of so many bytes.
 pub fn depot_of(
     alloc: Global,
@@ -104,11 +126,7 @@ pub fn depot_of(
     requires { 1 ≤ piece }
 {
     let mut depot = MemDepot::new(alloc, piece)?;
-    for (name, parts) in names.iter().zip(files) {
-        if !parts.is_empty() {
-            depot.add(name, parts.concat(alloc)?.as_bytes())?;
-        }
-    }
+    add_files(alloc, &mut depot, names, files)?;
     Ok(depot)
 }
 
@@ -122,139 +140,169 @@ fn depot_for(alloc: Global, call: &Call<'_>, piece: usize) -> Result<MemDepot, F
     Ok(depot)
 }
 
-/// An `out` with so much room, which takes 4 bytes at once.
-fn out_for(alloc: Global, call: &Call<'_>, room: usize) -> Result<MemSink, Fail> {
-    let mut out = MemSink::new(alloc, room, 4)?;
+/// An `out` which takes 4 bytes at once.
+fn out_for(alloc: Global, call: &Call<'_>) -> Result<MemSink, Fail> {
+    let mut out = MemSink::new(alloc, 2000, 4)?;
     if let Some(put) = call.failing_put {
         out.fail_at(put)?;
     }
     Ok(out)
 }
 
-/// The status that the program answers to the words.
-fn status_of<D: Depot>(
-    alloc: Global,
-    words: &[&str],
-    depot: &mut D,
-    out: &mut MemSink,
-    err: &mut MemSink,
-) -> Result<u8, Fail> {
+fn strings_of(alloc: Global, words: &[&str]) -> Result<Vec<String>, Fail> {
     let mut all = Vec::new(alloc);
     for word in words {
         all.push(String::from_str(alloc, word)?)?;
     }
-    Ok(run(alloc, &all, depot, out, err))
+    Ok(all)
 }
 
-fn outcome_over<D: Depot>(
+/// What the words leave over this depot, in an `out` and an `err` with so much room.
+fn outcome_of<D: Depot>(
     alloc: Global,
-    call: &Call<'_>,
+    words: &[&str],
     depot: &mut D,
-    room: usize,
+    mut out: MemSink,
+    room_of_err: usize,
 ) -> Result<Outcome, Fail> {
-    let mut out = out_for(alloc, call, room)?;
-    let mut err = MemSink::new(alloc, call.room_of_err, 200)?;
-    let status = status_of(alloc, call.command.words, depot, &mut out, &mut err)?;
+    let mut err = MemSink::new(alloc, room_of_err, 200)?;
+    let words = strings_of(alloc, words)?;
+    let status = run(alloc, &words, depot, &mut out, &mut err);
     Ok(Outcome { status, out, err })
 }
 
-/// What the command writes to `out` over this depot, and that it ends with 0.
-pub fn written_over<D: Depot>(
-    rt: &impl Abort,
-    alloc: Global,
-    command: Command<'_>,
-    depot: &mut D,
-) -> Result<String, Fail> {
-    let call = says(command, (&[], 0, 0, ""));
-    let left = outcome_over(alloc, &call, depot, 1_000_000)?;
-    assert_eq!(rt; left.status, 0);
+fn text_in(alloc: Global, left: &Outcome) -> Result<String, Fail> {
     Ok(str::from_utf8(left.out.bytes())?.to_string(alloc)?)
 }
 
-/// What the command writes to `out` over these files, and that it ends with 0.
-pub fn written<'a>(
+/// What the words write to `out` over this depot, and that they end with 0.
+pub fn written_over<D: Depot>(
     rt: &impl Abort,
     alloc: Global,
-    command: Command<'a>,
-    files: Files<'a>,
+    words: &[&str],
+    depot: &mut D,
 ) -> Result<String, Fail> {
-    let mut depot = depot_of(alloc, command.names, files, 64)?;
-    written_over(rt, alloc, command, &mut depot)
+    let out = MemSink::new(alloc, 1_000_000, 4)?;
+    let left = outcome_of(alloc, words, depot, out, 200)?;
+    assert!(rt; left.status == 0);
+    text_in(alloc, &left)
 }
 
 /// What `check` leaves of the certificate.
 fn outcome_of_check(alloc: Global, certificate: &str) -> Result<Outcome, Fail> {
     let mut depot = MemDepot::new(alloc, 64)?;
     depot.add("c", certificate.as_bytes())?;
-    outcome_over(alloc, &says(CHECK, (&[], 1, 0, "")), &mut depot, 200)
+    let out = MemSink::new(alloc, 200, 4)?;
+    outcome_of(alloc, CHECK.words, &mut depot, out, 200)
 }
 
 /// `check` says yes to the certificate, by this line.
-pub fn is_accepted_with(alloc: Global, certificate: &str, line: &str) -> Result<bool, Fail> {
+fn is_accepted_with(alloc: Global, certificate: &str, line: &str) -> Result<bool, Fail> {
     let left = outcome_of_check(alloc, certificate)?;
-    let says_it = left.out.bytes() == line.as_bytes() && left.err.bytes().is_empty();
-    Ok(left.status == 0 && says_it)
+    let says_it = (left.out.bytes() == line.as_bytes()) & left.err.bytes().is_empty();
+    Ok((left.status == 0) & says_it)
 }
 
-/// The ratio of the certificate that a command publishes over this depot, each time the same. `check` says yes to it, for
+fn is_accepted_for(alloc: Global, certificate: &str, ratio: u64, set: &str) -> Result<bool, Fail> {
+    let line = format!(in alloc; "yes ratio {ratio} set {set}\n")?;
+    is_accepted_with(alloc, certificate, &line)
+}
+
+fn ratio_of(alloc: Global, certificate: &str) -> Result<u64, Fail> {
+    Ok(cert_text::read(alloc, certificate.as_bytes())?.head.ratio)
+}
+
+fn is_written_again(
+    rt: &impl Abort,
+    alloc: Global,
+    words: &[&str],
+    depot: &mut MemDepot,
+    file: &str,
+) -> Result<bool, Fail> {
+    Ok(written_over(rt, alloc, words, depot)?.as_str() == file)
+}
+
+/// The ratio of the certificate that the words publish over this depot, each time the same. `check` says yes to it, for
 /// this set.
 pub fn published_ratio(
     rt: &impl Abort,
     alloc: Global,
-    command: Command<'_>,
+    words: &[&str],
     depot: &mut MemDepot,
     set: &str,
 ) -> Result<u64, Fail> {
-    let file = written_over(rt, alloc, command, depot)?;
-    let again = written_over(rt, alloc, command, depot)?;
-    assert!(rt; file == again);
-    let ratio = cert_text::read(alloc, file.as_bytes())?.head.ratio;
-    let line = format!(in alloc; "yes ratio {ratio} set {set}\n")?;
-    assert!(rt; is_accepted_with(alloc, &file, &line)?);
+    let file = written_over(rt, alloc, words, depot)?;
+    let is_the_same = is_written_again(rt, alloc, words, depot, &file)?;
+    let ratio = ratio_of(alloc, &file)?;
+    assert!(rt; is_the_same & is_accepted_for(alloc, &file, ratio, set)?);
     Ok(ratio)
 }
 
-fn is_accepted(alloc: Global, certificate: &str) -> Result<bool, Fail> {
-    Ok(outcome_of_check(alloc, certificate)?.status == 0)
+/// `check` says yes to what was published, and this text stands in it.
+fn is_certificate_with(alloc: Global, out: &[u8], part: &str) -> Result<bool, Fail> {
+    let text = str::from_utf8(out)?;
+    let left = outcome_of_check(alloc, text)?;
+    Ok(text.contains(part) & (left.status == 0))
 }
 
 /// The call left what it has to.
 fn is_due(alloc: Global, call: &Call<'_>, left: &Outcome) -> Result<bool, Fail> {
-    if left.status != call.status || left.err.bytes() != call.err.as_bytes() {
-        return Ok(false);
+    let is_told = (left.status == call.status) & (left.err.bytes() == call.err.as_bytes());
+    let out = left.out.bytes();
+    if call.command.publishes & (call.status == 0) {
+        return Ok(is_told & is_certificate_with(alloc, out, call.out)?);
     }
-    let text = str::from_utf8(left.out.bytes())?;
-    if call.command.publishes && call.status == 0 {
-        return Ok(text.contains(call.out) && is_accepted(alloc, text)?);
-    }
-    Ok(text == call.out)
+    Ok(is_told & (out == call.out.as_bytes()))
 }
 
 /// The call over this depot leaves what it has to.
 pub fn leaves_over<D: Depot>(alloc: Global, call: &Call<'_>, depot: &mut D) -> Result<bool, Fail> {
-    let left = outcome_over(alloc, call, depot, 2000)?;
+    let out = out_for(alloc, call)?;
+    let left = outcome_of(alloc, call.command.words, depot, out, call.room_of_err)?;
     is_due(alloc, call, &left)
 }
 
 /// The call over files that are told, in pieces of so many bytes, leaves what it has to.
-pub fn leaves_over_told(alloc: Global, call: &Call<'_>, piece: usize) -> Result<bool, Fail>
+fn leaves_over_told(alloc: Global, call: &Call<'_>, piece: usize) -> Result<bool, Fail>
     requires { 1 ≤ piece }
 {
     let mut depot = depot_for(alloc, call, piece)?;
     leaves_over(alloc, call, &mut depot)
 }
 
-/// The call over files that are not told, of which the reads are on record, leaves what it has to.
-fn leaves_over_record(alloc: Global, call: &Call<'_>) -> Result<bool, Fail> {
-    let mut depot = RecordDepot::new(alloc, depot_for(alloc, call, 64)?);
-    Ok(leaves_over(alloc, call, &mut depot)? && are_reads_of(alloc, call, depot.reads())?)
+/// The call over these files leaves what it has to, and reads what it has to.
+fn leaves_on_record(
+    alloc: Global,
+    call: &Call<'_>,
+    depot: &mut RecordDepot<MemDepot>,
+) -> Result<bool, Fail> {
+    Ok(leaves_over(alloc, call, depot)? && are_reads_of(alloc, call, depot.reads())?)
 }
 
-/// The read gave bytes of the file, or nothing at its end.
+/// The call over files that are not told, of which the reads are on record.
+fn leaves_over_record(alloc: Global, call: &Call<'_>) -> Result<bool, Fail> {
+    let mut depot = RecordDepot::new(alloc, depot_for(alloc, call, 64)?);
+    leaves_on_record(alloc, call, &mut depot)
+}
+
+/// The read gave bytes of the text, or nothing at its end.
+fn is_piece_of(text: &[u8], read: &Entry) -> bool {
+    let rest = text.get(read.at as usize..).unwrap_or(&[]);
+    rest.starts_with(&read.bytes) & (read.bytes.is_empty() == rest.is_empty())
+}
+
 fn is_read_of(alloc: Global, parts: &[&str], read: &Entry) -> Result<bool, Fail> {
     let text = parts.concat(alloc)?;
-    let rest = text.as_bytes().get(read.at as usize..).unwrap_or(&[]);
-    Ok(rest.starts_with(&read.bytes) && read.bytes.is_empty() == rest.is_empty())
+    Ok(is_piece_of(text.as_bytes(), read))
+}
+
+/// The read gave bytes of the file at this place of those of the call, or nothing at its end.
+fn is_read_at(alloc: Global, call: &Call<'_>, place: usize, read: &Entry) -> Result<bool, Fail> {
+    let (names, files) = (call.command.names, call.files);
+    if place >= names.len() || place >= files.len() {
+        return Ok(false);
+    }
+    Ok((read.name.as_str() == names[place]) & is_read_of(alloc, files[place], read)?)
 }
 
 /// Each read begins where the read before ended: at the start of a file where that gave nothing.
@@ -278,11 +326,7 @@ fn are_reads_of(alloc: Global, call: &Call<'_>, reads: &[Entry]) -> Result<bool,
     let mut read_files: usize = 0;
     let mut is_between_files = true;
     for read in reads {
-        let mut files = call.command.names.iter().zip(call.files);
-        let Some((name, parts)) = files.nth(read_files) else {
-            return Ok(false);
-        };
-        if read.name.as_str() != *name || !is_read_of(alloc, parts, read)? {
+        if !is_read_at(alloc, call, read_files, read)? {
             return Ok(false);
         }
         is_between_files = read.bytes.is_empty();
@@ -290,8 +334,8 @@ fn are_reads_of(alloc: Global, call: &Call<'_>, reads: &[Entry]) -> Result<bool,
             read_files = read_files.saturating_add(1);
         }
     }
-    let are_whole = is_between_files || call.status == 4;
-    Ok(read_files == call.read && are_whole && follow_each_other(reads))
+    let are_whole = is_between_files | (call.status == 4);
+    Ok((read_files == call.read) & are_whole & follow_each_other(reads))
 }
 
 /// Makes the call over files that are told, and again over files of which the reads are on record.
@@ -310,30 +354,21 @@ pub fn all_leave(rt: &impl Abort, alloc: Global, calls: &[Call<'_>]) -> Result<(
     Ok(())
 }
 
-/// Makes the call of each row.
-pub fn all_say(
-    rt: &impl Abort,
-    alloc: Global,
-    command: Command<'_>,
-    rows: &[Row<'_>],
-) -> Result<(), Fail> {
-    for row in rows {
-        leaves(rt, alloc, &says(command, *row))?;
-    }
+fn says_each_way(rt: &impl Abort, alloc: Global, call: &Call<'_>) -> Result<(), Fail> {
+    leaves(rt, alloc, call)?;
+    let (out, err) = (call.out, call.err);
+    assert!(rt; leaves_over_told(alloc, call, 1)?, "{out}{err}");
     Ok(())
 }
 
-/// Makes the call of each row over files that are given byte by byte.
-pub fn all_say_byte_by_byte(
+/// Makes the call of each command and row, and again over files that are given byte by byte.
+pub fn all_say(
     rt: &impl Abort,
     alloc: Global,
-    command: Command<'_>,
-    rows: &[Row<'_>],
+    calls: &[(Command<'_>, Row<'_>)],
 ) -> Result<(), Fail> {
-    for row in rows {
-        let call = says(command, *row);
-        let (out, err) = (call.out, call.err);
-        assert!(rt; leaves_over_told(alloc, &call, 1)?, "{out}{err}");
+    for (command, row) in calls {
+        says_each_way(rt, alloc, &says(*command, *row))?;
     }
     Ok(())
 }

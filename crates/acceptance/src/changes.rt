@@ -1,9 +1,10 @@
 //! Files that change while they are read, and files without an end. What is answered is what the reads on record gave.
 use crate::call::{
-    CHECK, Call, Command, Files, PUBLISH, depot_of, follow_each_other, leaves_over, says,
+    CHECK, Call, Command, Files, PUBLISH, Row, depot_of, follow_each_other, leaves_over, says,
 };
-use crate::certificates::{SMALLEST, SMALLEST_WITH_LESS};
+use crate::texts::{SMALLEST, SMALLEST_WITH_LESS};
 use std::alloc::Global;
+use std::process::Abort;
 use std::test::Fail;
 use te_ports::{Depot, Entry, Failed, MemDepot, RecordDepot};
 
@@ -63,17 +64,27 @@ impl Depot for EndlessDepot {
     }
 }
 
+fn add_read(depot: &mut MemDepot, bytes: &mut Vec<u8>, read: &Entry) -> Result<(), Fail> {
+    bytes.extend_from_slice(&read.bytes)?;
+    if read.bytes.is_empty() {
+        depot.add(&read.name, bytes)?;
+        bytes.clear();
+    }
+    Ok(())
+}
+
+fn add_files_on_record(alloc: Global, depot: &mut MemDepot, reads: &[Entry]) -> Result<(), Fail> {
+    let mut bytes: Vec<u8> = Vec::new(alloc);
+    for read in reads {
+        add_read(depot, &mut bytes, read)?;
+    }
+    Ok(())
+}
+
 /// The files that the reads gave, each to its end. A file that was not read to its end is not there.
 fn files_on_record(alloc: Global, reads: &[Entry]) -> Result<MemDepot, Fail> {
     let mut depot = MemDepot::new(alloc, 64)?;
-    let mut bytes: Vec<u8> = Vec::new(alloc);
-    for read in reads {
-        bytes.extend_from_slice(&read.bytes)?;
-        if read.bytes.is_empty() {
-            depot.add(&read.name, &bytes)?;
-            bytes.clear();
-        }
-    }
+    add_files_on_record(alloc, &mut depot, reads)?;
     Ok(depot)
 }
 
@@ -82,43 +93,40 @@ const SPF: &str = "{\"topology\":\"t\",\"matrices\":\"m\",\"publish\":\"spf\"}";
 /// A demand from a to c.
 const DEMAND: &str = "step,source,target,demand\n0,a,c,1\n";
 
-/// A command, the versions of its files at one read after the other, and the status and text that they leave. A read gives at
-/// most 64 bytes, and the ratio of a certificate stands in its second piece.
-const CHANGES: &[(Command<'static>, &[Files<'static>], u8, &str)] = &[
+/// A command, the versions of its files at one read after the other, and the status and text that they leave.
+type Change<'a> = (Command<'a>, &'a [Files<'a>], Row<'a>);
+
+/// A read gives at most 64 bytes, and the ratio of a certificate stands in its second piece.
+const CHANGES: &[Change<'static>] = &[
     // The file is replaced by another, either way.
     (
         CHECK,
         &[&[&[SMALLEST]], &[SMALLEST_WITH_LESS]],
-        1,
-        "no link 0 rule I4 place 0\n",
+        (&[], 0, 1, "no link 0 rule I4 place 0\n"),
     ),
     (
         CHECK,
         &[&[SMALLEST_WITH_LESS], &[&[SMALLEST]]],
-        0,
-        "yes ratio 1000000 set all\n",
+        (&[], 0, 0, "yes ratio 1000000 set all\n"),
     ),
     // It is replaced by a shorter one, and back: the last byte is read twice.
     (
         CHECK,
         &[&[&[SMALLEST]], &[SMALLEST_WITH_LESS], &[&[SMALLEST]]],
-        3,
-        "refused: c: shape at line 17\n",
+        (&[], 0, 3, "refused: c: shape at line 17\n"),
     ),
     // It is cut, written late, or deleted.
     (
         CHECK,
         &[&[&[SMALLEST]], &[&[""]]],
-        3,
-        "refused: c: shape at line 9\n",
+        (&[], 0, 3, "refused: c: shape at line 9\n"),
     ),
     (
         CHECK,
         &[&[&[""]], &[&[SMALLEST]]],
-        3,
-        "refused: c: shape at line 1\n",
+        (&[], 0, 3, "refused: c: shape at line 1\n"),
     ),
-    (CHECK, &[&[&[SMALLEST]], &[]], 4, "fault: read\n"),
+    (CHECK, &[&[&[SMALLEST]], &[]], (&[], 0, 4, "fault: read\n")),
     // The topology is replaced once the plan is read: the way from a to c is gone.
     (
         PUBLISH,
@@ -134,10 +142,21 @@ const CHANGES: &[(Command<'static>, &[Files<'static>], u8, &str)] = &[
                 &[DEMAND],
             ],
         ],
-        7,
-        "no path: a c\n",
+        (&[], 0, 7, "no path: a c\n"),
     ),
 ];
+
+fn versions_of(
+    alloc: Global,
+    names: &[&str],
+    all_files: &[Files<'_>],
+) -> Result<Vec<MemDepot>, Fail> {
+    let mut versions = Vec::new(alloc);
+    for files in all_files {
+        versions.push(depot_of(alloc, names, files, 64)?)?;
+    }
+    Ok(versions)
+}
 
 /// Files with these names that change so, of which the reads are on record.
 fn changing_files(
@@ -145,12 +164,8 @@ fn changing_files(
     names: &[&str],
     all_files: &[Files<'_>],
 ) -> Result<RecordDepot<ChangingDepot>, Fail> {
-    let mut versions = Vec::new(alloc);
-    for files in all_files {
-        versions.push(depot_of(alloc, names, files, 64)?)?;
-    }
     let changing = ChangingDepot {
-        versions,
+        versions: versions_of(alloc, names, all_files)?,
         reads: 0,
         faults: 0,
     };
@@ -163,32 +178,49 @@ fn leaves_over_reads(alloc: Global, call: &Call<'_>, reads: &[Entry]) -> Result<
     Ok(follow_each_other(reads) && leaves_over(alloc, call, &mut depot)?)
 }
 
-/// The call leaves what it has to over files that change so, and again over what the reads gave.
-fn answers_reads(alloc: Global, call: &Call<'_>, all_files: &[Files<'_>]) -> Result<bool, Fail> {
-    let mut depot = changing_files(alloc, call.command.names, all_files)?;
-    Ok(leaves_over(alloc, call, &mut depot)? && leaves_over_reads(alloc, call, depot.reads())?)
+/// The call leaves what it has to over these files, and again over what the reads gave.
+fn answers_reads(
+    alloc: Global,
+    call: &Call<'_>,
+    depot: &mut RecordDepot<ChangingDepot>,
+) -> Result<bool, Fail> {
+    Ok(leaves_over(alloc, call, depot)? && leaves_over_reads(alloc, call, depot.reads())?)
 }
 
-#[test]
-fn what_reads_gave_is_answered(rt: HostRuntime) -> Result<(), Fail> {
-    for row in CHANGES {
-        let (command, all_files, status, text) = *row;
-        let call = says(command, (&[], 0, status, text));
-        assert!(rt; answers_reads(rt.alloc(), &call, all_files)?, "{text}");
+fn is_answered(alloc: Global, change: Change<'_>) -> Result<bool, Fail> {
+    let (command, all_files, row) = change;
+    let mut depot = changing_files(alloc, command.names, all_files)?;
+    answers_reads(alloc, &says(command, row), &mut depot)
+}
+
+fn all_are_answered(rt: &impl Abort, alloc: Global, changes: &[Change<'_>]) -> Result<(), Fail> {
+    for change in changes {
+        let text = change.2.3;
+        assert!(rt; is_answered(alloc, *change)?, "{text}");
     }
     Ok(())
 }
 
 #[test]
-fn a_file_without_an_end_is_too_long(rt: HostRuntime) -> Result<(), Fail> {
+fn what_reads_gave_is_answered(rt: HostRuntime) -> Result<(), Fail> {
+    all_are_answered(&rt, rt.alloc(), CHANGES)
+}
+
+/// The command says that its file is too long where that has no end.
+fn is_too_long(alloc: Global, word: &str) -> Result<bool, Fail> {
+    let words = [word, "f"];
+    let command = Command {
+        words: &words,
+        ..CHECK
+    };
     let mut depot = EndlessDepot { faults: 0 };
-    for word in ["publish", "check"] {
-        let command = Command {
-            words: &[word, "f"],
-            ..CHECK
-        };
-        let call = says(command, (&[], 0, 3, "refused: f: too long\n"));
-        assert!(rt; leaves_over(rt.alloc(), &call, &mut depot)?, "{word}");
-    }
+    let call = says(command, (&[], 0, 3, "refused: f: too long\n"));
+    leaves_over(alloc, &call, &mut depot)
+}
+
+#[test]
+fn a_file_without_an_end_is_too_long(rt: HostRuntime) -> Result<(), Fail> {
+    assert!(rt; is_too_long(rt.alloc(), "publish")?, "publish");
+    assert!(rt; is_too_long(rt.alloc(), "check")?, "check");
     Ok(())
 }

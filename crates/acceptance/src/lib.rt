@@ -7,22 +7,12 @@ mod backbone;
 #[cfg(test)]
 mod call;
 #[cfg(test)]
-mod certificates;
-#[cfg(test)]
-mod chain;
-#[cfg(test)]
 mod changes;
 #[cfg(test)]
-mod check;
+mod commands;
 #[cfg(test)]
-mod convert;
-#[cfg(test)]
-mod generate;
+mod faults;
 #[cfg(test)]
 mod gravity;
 #[cfg(test)]
-mod publish;
-#[cfg(test)]
-mod report;
-#[cfg(test)]
-mod usage;
+mod texts;

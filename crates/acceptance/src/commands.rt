@@ -1,0 +1,153 @@
+//! A few calls of each command over files that are told, that are on record, and that come byte by byte. The tables of all
+//! calls are data, `tools/lab/calls.py`, on which the built program is run.
+use crate::call::{CHECK, Command, PUBLISH, RUN, Row, all_say};
+use crate::texts::{
+    DEMAND, ENVELOPE, FAILURE, LEADING_ZERO, LINE, LINK, PLAN, SMALL_BOX, SMALLEST,
+    SMALLEST_IN_SECOND, SMALLEST_WITH_LESS, SPF, TWELVE, TWICE_A_NAME, WAYS,
+};
+use std::test::Fail;
+
+const CHECK_NETWORK: Command<'static> = Command {
+    words: &["check", "c", "t"],
+    names: &["c", "t"],
+    publishes: false,
+};
+
+const CHECK_TWICE: Command<'static> = Command {
+    words: &["check", "c", "c"],
+    names: &["c", "c"],
+    publishes: false,
+};
+
+const CONVERT: Command<'static> = Command {
+    words: &["convert", "c"],
+    names: &["c"],
+    publishes: false,
+};
+
+const NO_FORM: Command<'static> = Command {
+    words: &["check", "c", "t", "t"],
+    names: &["c", "t"],
+    publishes: false,
+};
+
+/// Certificates.
+const JUDGED: &[(Command<'static>, Row<'static>)] = &[
+    (CHECK, (&[&[SMALLEST]], 1, 0, "yes ratio 1000000 set all\n")),
+    (
+        CHECK,
+        (&[SMALLEST_WITH_LESS], 1, 1, "no link 0 rule I4 place 0\n"),
+    ),
+    (
+        CHECK,
+        (&[&[SMALL_BOX]], 1, 0, "yes ratio 1000000 set box\n"),
+    ),
+    (CHECK, (&[TWICE_A_NAME], 1, 3, "refused: c: rule V1 at 1\n")),
+    (
+        CHECK,
+        (&[LEADING_ZERO], 1, 3, "refused: c: shape at line 11\n"),
+    ),
+    (
+        CHECK_NETWORK,
+        (&[&[SMALLEST], &[LINE]], 2, 1, "no network\n"),
+    ),
+    (CHECK_NETWORK, (&[&[SMALLEST]], 1, 4, "fault: read\n")),
+    // One file for both words is read twice, and is no topology.
+    (
+        CHECK_TWICE,
+        (&[&[SMALLEST], &[SMALLEST]], 2, 3, "refused: c: header\n"),
+    ),
+    (CONVERT, (&[&[SMALLEST]], 1, 0, SMALLEST_IN_SECOND)),
+    (
+        CONVERT,
+        (&[TWICE_A_NAME], 1, 3, "refused: c: rule V1 at 1\n"),
+    ),
+    (NO_FORM, (&[&[SMALLEST], &[LINK]], 0, 2, "usage\n")),
+];
+
+#[test]
+fn certificates_are_judged(rt: HostRuntime) -> Result<(), Fail> {
+    all_say(&rt, rt.alloc(), JUDGED)
+}
+
+/// Plans.
+const PLANS: &[(Command<'static>, Row<'static>)] = &[
+    (
+        PUBLISH,
+        (
+            &[
+                &[ENVELOPE],
+                &[LINK],
+                &["step,source,target,demand\n0,a,b,5\n1,a,b,9\n"],
+            ],
+            3,
+            0,
+            "yates-ratio 2\nnodes 2\na\nb\nlinks 1\n0 1 10 1\npairs 1\n0 1 1\n1000000 1 0\nset box\nlower 5\nupper 9\nratio 1000000\nblocks 1\n",
+        ),
+    ),
+    (
+        PUBLISH,
+        (
+            &[
+                &[SPF],
+                &[LINE],
+                &["step,source,target,demand\n0,c,a,1\n0,b,a,1\n"],
+            ],
+            3,
+            7,
+            "no path: b a\n",
+        ),
+    ),
+    (
+        PUBLISH,
+        (
+            &[&["{}"], &[LINE], &[DEMAND]],
+            1,
+            3,
+            "refused: p: missing topology\n",
+        ),
+    ),
+    (PUBLISH, (&[&[SPF], &[], &[DEMAND]], 1, 4, "fault: read\n")),
+    (
+        RUN,
+        (
+            &[
+                &[
+                    "{\"topology\":\"t\",\"matrices\":\"m\",\"failures\":\"f\",\"schemes\":[\"ksp\"],\"k\":2,\"recovery\":\"none\"}",
+                ],
+                &[WAYS],
+                &[TWELVE],
+                &[FAILURE],
+            ],
+            4,
+            0,
+            "scheme,step,offered,delivered,lost_full,lost_failed,lost_no_path,peak,parts,low\n\
+         ksp,0,12,12,0,0,0,600000,600000,-\n\
+         ksp,1,12,6,0,6,0,600000,600000,-\n\
+         ksp,total,24,18,0,6,0,600000,600000,-\n",
+        ),
+    ),
+    (
+        RUN,
+        (
+            &[&[PLAN], &[WAYS], &[WAYS], &[FAILURE]],
+            3,
+            3,
+            "refused: m: header\n",
+        ),
+    ),
+    (
+        RUN,
+        (
+            &[&[PLAN], &[WAYS], &[TWELVE], &[FAILURE, "1,1\n"]],
+            4,
+            3,
+            "refused: f: fields at row 2\n",
+        ),
+    ),
+];
+
+#[test]
+fn plans_are_carried_out(rt: HostRuntime) -> Result<(), Fail> {
+    all_say(&rt, rt.alloc(), PLANS)
+}

@@ -1,0 +1,180 @@
+//! Reads and writes that fail, in each command.
+use crate::call::{CHECK, Call, Command, PUBLISH, RUN, SECOND_READ_FAILS, all_leave, leaves};
+use crate::texts::{DEMAND, FAILURE, LINE, PLAN, SMALLEST, SPF, TWELVE, WAYS};
+use std::test::Fail;
+
+const YES: &str = "yes ratio 1000000 set all\n";
+
+/// The smallest certificate is judged. The read and the write after the last would fail.
+const JUDGED: Call<'static> = Call {
+    command: CHECK,
+    files: &[&[SMALLEST]],
+    read: 1,
+    failing_fetch: Some(3),
+    failing_put: Some(7),
+    room_of_err: 200,
+    status: 0,
+    out: YES,
+    err: "",
+};
+
+/// A read of it fails.
+const JUDGED_UNREAD: Call<'static> = Call {
+    read: 0,
+    status: 4,
+    out: "",
+    err: "fault: read\n",
+    ..JUDGED
+};
+
+const FAULTS_OF_CHECK: &[Call<'static>] = &[
+    JUDGED,
+    Call {
+        failing_fetch: Some(0),
+        ..JUDGED_UNREAD
+    },
+    // The read that would find the end.
+    Call {
+        failing_fetch: Some(2),
+        ..JUDGED_UNREAD
+    },
+    Call {
+        command: Command {
+            words: &["check", "d"],
+            ..CHECK
+        },
+        ..JUDGED_UNREAD
+    },
+    // The line is written in part.
+    Call {
+        failing_put: Some(1),
+        status: 5,
+        out: "yes ",
+        err: "fault: write\n",
+        ..JUDGED
+    },
+    // A failed write of the message changes no status.
+    Call {
+        failing_fetch: Some(0),
+        room_of_err: 0,
+        err: "",
+        ..JUDGED_UNREAD
+    },
+    Call {
+        command: Command {
+            words: &[],
+            ..CHECK
+        },
+        read: 0,
+        room_of_err: 3,
+        status: 2,
+        err: "usa",
+        ..JUDGED_UNREAD
+    },
+];
+
+#[test]
+fn faults_of_check_are_told(rt: HostRuntime) -> Result<(), Fail> {
+    all_leave(&rt, rt.alloc(), FAULTS_OF_CHECK)
+}
+
+/// The first read fails that would find the end of a file, the plan's. Each file has two reads.
+const PUBLISHED_UNREAD: Call<'static> = Call {
+    command: PUBLISH,
+    files: &[&[SPF], &[LINE], &[DEMAND]],
+    ..SECOND_READ_FAILS
+};
+
+const FAULTS_OF_PUBLISH: &[Call<'static>] = &[
+    PUBLISHED_UNREAD,
+    Call {
+        failing_fetch: Some(3),
+        read: 1,
+        ..PUBLISHED_UNREAD
+    },
+    Call {
+        failing_fetch: Some(5),
+        read: 2,
+        ..PUBLISHED_UNREAD
+    },
+    // The first line is written in part.
+    Call {
+        failing_fetch: None,
+        failing_put: Some(2),
+        read: 3,
+        status: 5,
+        out: "yates-ra",
+        err: "fault: write\n",
+        ..PUBLISHED_UNREAD
+    },
+];
+
+#[test]
+fn faults_of_publish_are_told(rt: HostRuntime) -> Result<(), Fail> {
+    all_leave(&rt, rt.alloc(), FAULTS_OF_PUBLISH)
+}
+
+/// The first read fails that would find the end of a file, the plan's. The topology has three reads, and each other file two.
+const REPORTED_UNREAD: Call<'static> = Call {
+    command: RUN,
+    files: &[&[PLAN], &[WAYS], &[TWELVE], &[FAILURE]],
+    ..SECOND_READ_FAILS
+};
+
+const FAULTS_OF_RUN: &[Call<'static>] = &[
+    REPORTED_UNREAD,
+    Call {
+        failing_fetch: Some(4),
+        read: 1,
+        ..REPORTED_UNREAD
+    },
+    Call {
+        failing_fetch: Some(6),
+        read: 2,
+        ..REPORTED_UNREAD
+    },
+    Call {
+        failing_fetch: Some(8),
+        read: 3,
+        ..REPORTED_UNREAD
+    },
+    // The header is written in part.
+    Call {
+        failing_fetch: None,
+        failing_put: Some(3),
+        read: 4,
+        status: 5,
+        out: "scheme,step,",
+        err: "fault: write\n",
+        ..REPORTED_UNREAD
+    },
+];
+
+#[test]
+fn faults_of_run_are_told(rt: HostRuntime) -> Result<(), Fail> {
+    all_leave(&rt, rt.alloc(), FAULTS_OF_RUN)
+}
+
+const TWO_NODES: Command<'static> = Command {
+    words: &["gen", "2", "0"],
+    names: &[],
+    publishes: false,
+};
+
+/// No file is there, so a read would fail.
+const CUT: Call<'static> = Call {
+    command: TWO_NODES,
+    files: &[],
+    read: 0,
+    failing_fetch: None,
+    failing_put: Some(3),
+    room_of_err: 200,
+    status: 5,
+    out: "nodes 2\nlink",
+    err: "fault: write\n",
+};
+
+#[test]
+fn lines_are_written_in_part(rt: HostRuntime) -> Result<(), Fail> {
+    leaves(&rt, rt.alloc(), &CUT)
+}
