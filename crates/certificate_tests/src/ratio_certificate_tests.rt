@@ -135,24 +135,6 @@ fn need_of(
     }
 }
 
-/// Whether the best block of the first link for the set is this one.
-fn has_best(
-    alloc: Global,
-    net: &Network,
-    routing: &Routing,
-    set: &DemandSet,
-    best: &BestBlock,
-) -> bool
-    requires network { net.now ≡ three_nodes }
-    requires routes { routing.now.routes ≡ straight_routes }
-    requires set { IsSetWithin 2 set.now }
-{
-    match scale(alloc, net, routing, set, 0, WEIGHTS) {
-        Ok(Some(block)) => is_block(&block, best),
-        _ => false,
-    }
-}
-
 /// Whether the best block of the first link for the set is this one, and needs as much.
 fn is_best(
     alloc: Global,
@@ -166,7 +148,10 @@ fn is_best(
     requires set { IsSetWithin 2 set.now }
 {
     let needs = need_of(alloc, net, routing, set, WEIGHTS) == Ok(Some(best.need));
-    needs & has_best(alloc, net, routing, set, best)
+    match scale(alloc, net, routing, set, 0, WEIGHTS) {
+        Ok(Some(block)) => needs & is_block(&block, best),
+        _ => false,
+    }
 }
 
 /// Whether the best block for these demands is this one, and needs as much.

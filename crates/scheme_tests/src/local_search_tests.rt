@@ -27,6 +27,23 @@ fn balance(alloc: Global) -> Result<Routing, AllocError>
     Ok(Routing { routes })
 }
 
+/// Where moves begin.
+#[derive(Clone, Copy)]
+enum Start {
+    NarrowAlone,
+    Balance,
+}
+
+/// The routing at which moves begin.
+fn routing_at(alloc: Global, start: Start) -> Result<Routing, AllocError>
+    ensures { IfOk result (λ r. IsRoutingOf parallel_links (pair_of (0, 1) ∷ []) r.routes) }
+{
+    match start {
+        Start::NarrowAlone => narrow_alone(alloc),
+        Start::Balance => balance(alloc),
+    }
+}
+
 /// The routing after moves, both links being candidates.
 fn settled(
     alloc: Global,
@@ -58,10 +75,11 @@ fn parts(commodities: &Commodities, routing: &Routing) -> u128
     routing.parts(&commodities.net, &commodities.matrix)
 }
 
-/// The routing after moves from the narrow link.
-fn settled_from_narrow(
+/// The routing after moves from this start.
+fn settled_from(
     alloc: Global,
     commodities: &Commodities,
+    start: Start,
     candidates: &Routing,
 ) -> Result<Routing, Memory>
     requires net { commodities.now.net ≡ parallel_links }
@@ -69,38 +87,8 @@ fn settled_from_narrow(
     requires candidates { IsRoutingOf parallel_links (pair_of (0, 1) ∷ []) candidates.now.routes }
     ensures { IfOk result (λ r. IsRoutingOf parallel_links (pair_of (0, 1) ∷ []) r.routes) }
 {
-    let routing = narrow_alone(alloc)?;
+    let routing = routing_at(alloc, start)?;
     settled(alloc, commodities, routing, candidates)
-}
-
-/// Whether the moves from the narrow link end where no move helps.
-fn ends_stable(alloc: Global, commodities: &Commodities, candidates: &Routing) -> bool
-    requires net { commodities.now.net ≡ parallel_links }
-    requires matrix { commodities.now.matrix.demand ≡ 40 ∷ [] }
-    requires candidates { IsRoutingOf parallel_links (pair_of (0, 1) ∷ []) candidates.now.routes }
-{
-    match settled_from_narrow(alloc, commodities, candidates) {
-        // No stable split of this demand has more.
-        Ok(routing) => parts(commodities, &routing) <= 1_010_740,
-        Err(_) => false,
-    }
-}
-
-fn narrow_ends_stable(alloc: Global, commodities: &Commodities) -> bool
-    requires net { commodities.now.net ≡ parallel_links }
-    requires matrix { commodities.now.matrix.demand ≡ 40 ∷ [] }
-{
-    match balance(alloc) {
-        Ok(candidates) => ends_stable(alloc, commodities, &candidates),
-        Err(_) => false,
-    }
-}
-
-fn weight_leaves_narrow_link(alloc: Global) -> bool {
-    match on_parallel_links(alloc) {
-        Ok(commodities) => narrow_ends_stable(alloc, &commodities),
-        Err(_) => false,
-    }
 }
 
 /// Whether the routing is the balance, with links as full as they are at best.
@@ -116,52 +104,52 @@ fn is_balance(commodities: &Commodities, routing: &Routing) -> bool
     routes & (parts(commodities, routing) == 1_000_000)
 }
 
-/// The routing after moves from the balance.
-fn settled_from_balance(
-    alloc: Global,
-    commodities: &Commodities,
-    candidates: &Routing,
-) -> Result<Routing, Memory>
+/// Whether the moves end at this routing: where no move helps, from the narrow link, and at once, from the balance.
+fn is_end(commodities: &Commodities, start: Start, routing: &Routing) -> bool
     requires net { commodities.now.net ≡ parallel_links }
     requires matrix { commodities.now.matrix.demand ≡ 40 ∷ [] }
-    requires candidates { IsRoutingOf parallel_links (pair_of (0, 1) ∷ []) candidates.now.routes }
-    ensures { IfOk result (λ r. IsRoutingOf parallel_links (pair_of (0, 1) ∷ []) r.routes) }
+    requires routing { IsRoutingOf parallel_links (pair_of (0, 1) ∷ []) routing.now.routes }
 {
-    let routing = balance(alloc)?;
-    settled(alloc, commodities, routing, candidates)
+    match start {
+        // No stable split of this demand has more.
+        Start::NarrowAlone => parts(commodities, routing) <= 1_010_740,
+        Start::Balance => is_balance(commodities, routing),
+    }
 }
 
-/// Whether no move is made from the balance.
-fn stays(alloc: Global, commodities: &Commodities, candidates: &Routing) -> bool
+/// Whether the moves from this start end where they have to.
+fn ends_well(alloc: Global, commodities: &Commodities, start: Start, candidates: &Routing) -> bool
     requires net { commodities.now.net ≡ parallel_links }
     requires matrix { commodities.now.matrix.demand ≡ 40 ∷ [] }
     requires candidates { IsRoutingOf parallel_links (pair_of (0, 1) ∷ []) candidates.now.routes }
 {
-    match settled_from_balance(alloc, commodities, candidates) {
-        Ok(routing) => is_balance(commodities, &routing),
+    match settled_from(alloc, commodities, start, candidates) {
+        Ok(routing) => is_end(commodities, start, &routing),
         Err(_) => false,
     }
 }
 
-fn balance_stays(alloc: Global, commodities: &Commodities) -> bool
+/// The same with both links as candidates.
+fn ends_well_on_both(alloc: Global, commodities: &Commodities, start: Start) -> bool
     requires net { commodities.now.net ≡ parallel_links }
     requires matrix { commodities.now.matrix.demand ≡ 40 ∷ [] }
 {
     match balance(alloc) {
-        Ok(candidates) => stays(alloc, commodities, &candidates),
+        Ok(candidates) => ends_well(alloc, commodities, start, &candidates),
         Err(_) => false,
     }
 }
 
-fn stable_routing_stays(alloc: Global) -> bool {
+/// The same on two parallel links.
+fn ends_well_on_parallel_links(alloc: Global, start: Start) -> bool {
     match on_parallel_links(alloc) {
-        Ok(commodities) => balance_stays(alloc, &commodities),
+        Ok(commodities) => ends_well_on_both(alloc, &commodities, start),
         Err(_) => false,
     }
 }
 
 #[test]
 fn moves_end_where_none_helps(rt: HostRuntime) {
-    assert!(rt; weight_leaves_narrow_link(rt.alloc()));
-    assert!(rt; stable_routing_stays(rt.alloc()));
+    assert!(rt; ends_well_on_parallel_links(rt.alloc(), Start::NarrowAlone));
+    assert!(rt; ends_well_on_parallel_links(rt.alloc(), Start::Balance));
 }

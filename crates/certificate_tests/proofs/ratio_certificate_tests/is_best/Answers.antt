@@ -3,7 +3,7 @@ use Rattle.te_model.specs.declared.route.PairRoutes.{PairRoutes}
 use Rattle.best_blocks.specs.Conditions.{IsSetWithin}
 use Rattle.best_blocks.specs.Sharing.{HasShare}
 use Rattle.certificate_tests.proofs.RatioCertificateLaws.{sample_within, straight_shares}
-use Rattle.certificate_tests.proofs.ratio_certificate_tests.has_best.Goals as goal
+use Rattle.certificate_tests.proofs.ratio_certificate_tests.is_best.Goals as goal
 
 pub scale-requires-clause-routing : goal.scale-requires-clause-routing
 scale-requires-clause-routing c = sample_within _ _ c.requires.network c.requires.routes
