@@ -111,13 +111,15 @@ impl BlockReader {
     {
         let limits = limits_of(head.format);
         let counts = counts_of_head(head);
+        let size = block_size(&limits, &counts);
+        let name = String::from_str(alloc, name)?;
         let room = Room::new(alloc, &limits, &counts)?;
         Ok(BlockReader {
             blocks: Blocks {
-                name: String::from_str(alloc, name)?,
+                name,
                 lines,
                 room,
-                size: block_size(&limits, &counts),
+                size,
                 left: count,
                 place: 0,
                 before: None,

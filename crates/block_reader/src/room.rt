@@ -89,9 +89,9 @@ fn empty_block(alloc: Global, counts: &Counts) -> Result<Block, AllocError>
         a: 0,
         b: 0,
         weights: zeros(alloc, counts.links)?,
-        rows: Items::new(Vec::new(alloc)),
         plus: zeros(alloc, sides)?,
         minus: zeros(alloc, sides)?,
+        rows: Items::new(Vec::new(alloc)),
     })
 }
 
@@ -107,11 +107,11 @@ impl Room {
         ensures counts { IfOk result (λ room. room.counts ≡ counts.now) }
     {
         Ok(Room {
-            block: empty_block(alloc, counts)?,
             spare: empty_row(alloc, counts.nodes)?,
+            shelves: shelves(alloc, limits.nodes, counts.nodes)?,
+            block: empty_block(alloc, counts)?,
             limits: *limits,
             counts: *counts,
-            shelves: shelves(alloc, limits.nodes, counts.nodes)?,
             lent: 0,
         })
     }
