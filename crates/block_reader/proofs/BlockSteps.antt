@@ -1,7 +1,6 @@
 -- Reading of a block, step by step.
-use Rattle.std.proofs.Common.{◌≡◌, ◌∙◌, ℕ, Bool, true, List, [], Result, Ok, Err, refl, sym, ap}
+use Rattle.std.proofs.Common.{◌≡◌, ◌∙◌, ℕ, Bool, true, List, [], Result, Ok, Err, refl, sym, ap, subst}
 use Rattle.std.specs.Prelude.{codes}
-use Rattle.te_model.specs.declared.limits.Limits.{Limits}
 use Rattle.te_model.specs.declared.certificate.Row.{Row}
 use Rattle.te_model.specs.declared.certificate.Block.{Block}
 use Rattle.cert_text.specs.declared.limits.Counts.{Counts}
@@ -9,10 +8,12 @@ use Rattle.cert_text.specs.declared.cursor.Cursor.{Ghosts}
 use Rattle.cert_text.specs.declared.reader.Reader.{Reader}
 use Rattle.cert_text.specs.declared.fault.Stop.{Stop}
 use Rattle.cert_text.specs.declared.fault.Stop.TheVariants as stops
-use Rattle.cert_text.specs.Place.{Place, place, Stops, Reads, ReadsViewed, Passes, ◌>>=◌, with_front}
-use Rattle.cert_text.specs.Reading.{narrow_number, read_word, read_narrow, read_next_number, read_next_count, read_line_end, read_many}
-use Rattle.cert_text.specs.Grammar.{read_listing, read_number_line, read_row, read_sides, read_block}
+use Rattle.cert_text.specs.Place.{Place, place, Stops, ReadsViewed, Passes, ◌>>=◌, with_front}
+use Rattle.cert_text.specs.Reading.{narrow_number, read_word, read_next_number, read_line_end, read_many}
+use Rattle.cert_text.specs.Grammar.{read_listing, read_number_line, read_row, read_sides}
+use Rattle.cert_text.specs.BlockRest.{read_block_rest}
 use Rattle.cert_text.specs.Takes.{Takes}
+use Rattle.cert_text.proofs.Steps.{one_stopped}
 use Rattle.block_reader.specs.Room.{sides_of}
 use Rattle.block_reader.proofs.Placing.{ended_as, none_before}
 
@@ -61,22 +62,22 @@ rows_and_sides counts link a b n weights p = do
   sides ← read_sides counts.bounded counts.pairs rows.1
   Ok (record { link = link; a = a; b = b; weights = weights; rows = rows.0; plus = sides.0.0; minus = sides.0.1 }, sides.1)
 
-pub block_opened : {C : Type 0} {cursor : Ghosts C} (limits : Limits) (counts : Counts) (m link a b n : ℕ) (weights : List ℕ) (u v : Unit {0}) (r0 r1 r2 r3 r4 r5 r6 : Reader C cursor) →
-    m ≡ counts.links → Takes r0 r1 (Reads (Ok link)) (read_narrow narrow_number) → Takes r1 r2 (Reads (Ok a)) read_next_number →
-    Takes r2 r3 (Reads (Ok b)) read_next_number → Takes r3 r4 (Reads (Ok n)) (read_next_count 0 limits.nodes) → Takes r4 r5 (Passes (Ok u)) read_line_end →
-    Takes r5 r6 (ReadsViewed (λ _. weights) (Ok v)) (read_number_line m) →
-    Takes r0 r6 (λ p whole. whole ≡ rows_and_sides counts link a b n weights p) (read_block limits narrow_number counts)
-unfolding read_block
-block_opened {cursor = cursor} limits counts m link a b n weights u v r0 r1 r2 r3 r4 r5 r6 same s1 s2 s3 s4 s5 s6 = record {
-  told = λ t. s1.told (s2.told (s3.told (s4.told (s5.told (s6.told t)))));
+pub weights_stop : {C : Type 0} {cursor : Ghosts C} (counts : Counts) (m link a b n : ℕ) (e : Stop) (r0 r1 : Reader C cursor) →
+    m ≡ counts.links → Takes {R = Result (List ℕ × Place) ℕ} r0 r1 (λ after read. Stops e read) (read_number_line m) →
+    Takes {R = Result (Block × Place) ℕ} r0 r1 (λ after read. Stops e read) (read_block_rest narrow_number counts link a b n)
+unfolding read_block_rest
+weights_stop counts m link a b n e r0 r1 same one =
+    one_stopped e _ (subst (λ k. Takes {R = Result (List ℕ × Place) ℕ} r0 r1 (λ after read. Stops e read) (read_number_line k)) same one)
+
+pub weights_read : {C : Type 0} {cursor : Ghosts C} (counts : Counts) (m link a b n : ℕ) (weights : List ℕ) (u : Unit {0}) (r0 r1 : Reader C cursor) →
+    m ≡ counts.links → Takes r0 r1 (ReadsViewed (λ _. weights) (Ok u)) (read_number_line m) →
+    Takes r0 r1 (λ p whole. whole ≡ rows_and_sides counts link a b n weights p) (read_block_rest narrow_number counts link a b n)
+unfolding read_block_rest
+weights_read {cursor = cursor} counts m link a b n weights u r0 r1 same one = record {
+  told = one.told;
   reads = λ t.
-      let t5 = s6.told t in
-      let t4 = s5.told t5 in
-      let t3 = s4.told t4 in
-      let t2 = s3.told t3 in
-      let t1 = s2.told t2 in
-      let last = ap (λ k. read_number_line k (place r5.line (cursor.rest r5.source))) (sym same) ∙ s6.reads t in
-      rw (s1.reads t1, s2.reads t2, s3.reads t3, s4.reads t4, s5.reads t5, last) refl;
+      let first = ap (λ k. read_number_line k (place r0.line (cursor.rest r0.source))) (sym same) ∙ one.reads t in
+      rw first refl;
 }
 
 module _ (counts held : Counts) (link a b n : ℕ) (weights : List ℕ) (p : Place) (m width : ℕ) (whole : Result (Block × Place) ℕ)

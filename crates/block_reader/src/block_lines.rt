@@ -1,10 +1,12 @@
 //! Reading the lines of a block in place.
-ghost use Rattle.std.specs.Prelude.{◌≡◌, ◌≢◌, ◌≤◌, ◌-◌, length, take, OnOk, Err};
+ghost use Rattle.std.specs.Prelude.{◌≡◌, ◌≢◌, ◌≤◌, ◌-◌, length, take, OnOk, Err, true};
 ghost use Rattle.std.specs.List.{AllByRecursion};
+ghost use Rattle.te_model.specs.Shape.{is_count};
 ghost use Rattle.cert_text.specs.Place.{ReadsViewed, Appends};
 ghost use Rattle.cert_text.specs.Takes.{Takes};
 ghost use Rattle.cert_text.specs.Reading.{narrow_number, read_many, read_next_number};
 ghost use Rattle.cert_text.specs.Grammar.{read_number_line, read_listing, read_row, read_sides, read_block};
+ghost use Rattle.cert_text.specs.BlockRest.{read_block_rest};
 ghost use Rattle.cert_text.specs.Fits.{AreWords, FitsList, FitsRow, FitsSides, FitsBlock};
 ghost use Rattle.block_reader.specs.Room.{HasWidth, IsShelf, sides_of};
 
@@ -114,6 +116,39 @@ fn sides<C: Cursor>(
     Ok(())
 }
 
+// The lines of a block behind its first line, whose numbers these are.
+fn rest_of_block<C: Cursor>(
+    r: &mut Reader<C>,
+    room: &mut Room,
+    link: u32,
+    a: u64,
+    b: u64,
+    count: u64,
+) -> Result<(), Stop>
+    requires { is_count 0 room.old.limits.nodes count ≡ true }
+    ensures limits { room.new.limits ≡ room.old.limits }
+    ensures counts { room.new.counts ≡ room.old.counts }
+    ensures fits { OnOk result (FitsBlock room.old.limits room.old.counts room.new.block) }
+    ensures room { result ≢ Err Stop.Memory }
+    ensures takes { Takes r.old r.new (ReadsViewed (λ _. room.new.block) result)
+        (read_block_rest narrow_number room.old.counts link a b count) }
+{
+    room.block.link = link;
+    room.block.a = a;
+    room.block.b = b;
+    number_line(r, &mut room.block.weights)?;
+    room.lend(count as usize);
+    rows(r, &mut room.block.rows, &mut room.spare)?;
+    let counts = room.counts;
+    sides(
+        r,
+        counts.bounded,
+        counts.pairs,
+        &mut room.block.plus,
+        &mut room.block.minus,
+    )
+}
+
 /// A block, in the place of the one that was there.
 ///
 /// # Errors
@@ -128,20 +163,10 @@ pub(crate) fn block<C: Cursor>(r: &mut Reader<C>, room: &mut Room) -> Result<(),
     ensures takes { Takes r.old r.new (ReadsViewed (λ _. room.new.block) result)
         (read_block room.old.limits narrow_number room.old.counts) }
 {
-    room.block.link = r.narrow()?;
-    room.block.a = r.next_number()?;
-    room.block.b = r.next_number()?;
+    let link = r.narrow()?;
+    let a = r.next_number()?;
+    let b = r.next_number()?;
     let count = r.next_count(0, room.limits.nodes)?;
     r.end_line()?;
-    number_line(r, &mut room.block.weights)?;
-    room.lend(count as usize);
-    rows(r, &mut room.block.rows, &mut room.spare)?;
-    let counts = room.counts;
-    sides(
-        r,
-        counts.bounded,
-        counts.pairs,
-        &mut room.block.plus,
-        &mut room.block.minus,
-    )
+    rest_of_block(r, room, link, a, b, count)
 }

@@ -1,33 +1,22 @@
 use Rattle.std.proofs.lemmas.Result.{err_from_is_err_and}
-use Rattle.block_reader.proofs.BlockSteps.{block_opened, rows_stop, sides_read}
+use Rattle.cert_text.specs.BlockRest.{read_block_rest}
+use Rattle.cert_text.specs.Grammar.{read_block}
+use Rattle.cert_text.proofs.Steps.{one_passed, one_read, one_stopped}
 use Rattle.block_reader.proofs.block_lines.block.Goals as goal
 
-pub returns-in_err-rows-clause-takes : goal.returns-in_err-rows-clause-takes
-returns-in_err-rows-clause-takes g c =
-    let room = c.args.room.now in
-    let p = err_from_is_err_and c.from_residual-in_err-rows.result c.from_residual-in_err-rows.ensures.1 in
-    let opened = block_opened room.limits room.counts _ _ _ _ _ _ _ _ _ _ _ _ _ _ _ room.weights c.in_ok-room.ensures.takes c.in_ok-room-2.ensures.takes c.in_ok-room-3.ensures.takes
-    c.in_ok-count.ensures.takes c.in_ok-end_line.ensures.takes c.in_ok-number_line.ensures.takes in
-    let rows = c.in_err-rows.ensures.takes in
-    rw (p.1, p.2) (record {
-      told = λ t. opened.told (rows.told t);
-      reads = λ t.
-          rows_stop room.counts c.lend.new.self.counts _ _ _ _ _ _ _ _ _ c.lend.ensures.counts c.lend.ensures.rows c.lend.new.self.width (opened.reads (rows.told t))
-          c.in_err-rows.field-0.0 (rows.reads t);
-    })
+pub returns-in_err-count-clause-takes : goal.returns-in_err-count-clause-takes
+unfolding read_block
+returns-in_err-count-clause-takes g c =
+    let p = err_from_is_err_and c.from_residual-in_err-count.result c.from_residual-in_err-count.ensures.1 in
+    rw (p.1, p.2) (one_read _ c.in_ok-link.ensures.takes (one_read _ c.in_ok-a.ensures.takes (one_read _ c.in_ok-b.ensures.takes (one_stopped c.in_err-count.field-0.0 _ c.in_err-count.ensures.takes))))
+
+pub returns-in_err-end_line-clause-takes : goal.returns-in_err-end_line-clause-takes
+unfolding read_block
+returns-in_err-end_line-clause-takes g c =
+    let p = err_from_is_err_and c.from_residual-in_err-end_line.result c.from_residual-in_err-end_line.ensures.1 in
+    rw (p.1, p.2) (one_read _ c.in_ok-link.ensures.takes (one_read _ c.in_ok-a.ensures.takes (one_read _ c.in_ok-b.ensures.takes (one_read _ c.in_ok-count.ensures.takes (one_stopped c.in_err-end_line.field-0.0 _ c.in_err-end_line.ensures.takes)))))
 
 pub returns-clause-takes : goal.returns-clause-takes
+unfolding read_block read_block_rest
 returns-clause-takes g c =
-    let room = c.args.room.now in
-    let lend = c.lend.ensures in
-    let opened = block_opened room.limits room.counts _ _ _ _ _ _ _ _ _ _ _ _ _ _ _ room.weights c.in_ok-room.ensures.takes c.in_ok-room-2.ensures.takes c.in_ok-room-3.ensures.takes
-    c.in_ok-count.ensures.takes c.in_ok-end_line.ensures.takes c.in_ok-number_line.ensures.takes in
-    let rows = c.in_ok-rows.ensures.takes in
-    let sides = c.sides.ensures.takes in
-    record {
-      told = λ t. opened.told (rows.told (sides.told t));
-      reads = λ t.
-          let t1 = sides.told t in
-          sides_read room.counts c.lend.new.self.counts _ _ _ _ _ _ _ _ _ lend.counts lend.rows c.lend.new.self.width (opened.reads (rows.told t1))
-          _ _ _ _ _ _ _ _ _ _ lend.link lend.a lend.b lend.weights (rows.reads t1) (sides.reads t);
-    }
+    one_read _ c.in_ok-link.ensures.takes (one_read _ c.in_ok-a.ensures.takes (one_read _ c.in_ok-b.ensures.takes (one_read _ c.in_ok-count.ensures.takes (one_passed c.in_ok-end_line.ensures.takes c.rest_of_block.ensures.takes))))
