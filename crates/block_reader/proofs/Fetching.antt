@@ -1,5 +1,5 @@
 -- What a read with one answer or another makes of a window.
-use Rattle.std.proofs.Common.{◌≡◌, ◌∙◌, ℕ, ◌+◌, ◌-◌, ◌≤◌, ◌<◌, ◌≢◌, Bool, true, false, List, [], ◌++◌, length, take, Result, Ok, Err, refl, sym, ap, subst, arith, append-nil, length-take-le}
+use Rattle.std.proofs.Common.{◌≡◌, ◌∙◌, ℕ, ◌+◌, ◌-◌, ◌≤◌, ◌<◌, ◌≢◌, Bool, true, false, List, [], ◌++◌, length, take, Result, Ok, Err, refl, sym, ap, subst, arith, append-nil, length-take-le, vec_len}
 use Rattle.std.specs.Prelude.{◌==◌, nat_lt, if◌then◌else◌, IfOk, OnOk, OnErr}
 use Rattle.std.specs.Result.{result_unwrap_or}
 use Rattle.std.proofs.lemmas.Bool.Decides.{nat_tests}
@@ -14,6 +14,27 @@ use Rattle.block_reader.proofs.Going.{at_failed, at_more, in_failed, in_more}
 -- the state by whether nothing was read and whether too much was
 abbrev by_tests : Bool → Bool → State
 by_tests none long = if none then Ended else (if long then TooLong else Open)
+
+-- a file that is open is within its limit
+open_is_short : (now : State) → now ≡ Open → now ≢ TooLong
+open_is_short now is long = cc
+
+pub open_within : (w : Window) → state_of w ≡ Open → fetched_of w ≤ limit_of w
+open_within w is = w.within (open_is_short w.state is)
+
+-- the bytes that were read fit behind those that stand ready, and are within the limit by one byte
+pub fits_behind : (w : Window) (space room count : ℕ) → 1 ≤ space → w.end + space ≤ vec_len w.bytes → fetched_of w + space ≤ limit_of w + 1 → room ≡ space → count ≤ room →
+    (0 < room) × (w.end + count ≤ vec_len w.bytes) × (w.fetched + count ≤ w.limit + 1)
+fits_behind w space room count some inside below size fits = (omega (arith, some, size), omega (arith, inside, size, fits), omega (arith, below, size, fits))
+
+pub inside_items : (w : Window) → w.end ≤ length w.bytes.items
+inside_items w = omega (arith, w.inside)
+
+pub ordered_more : (start end count : ℕ) → start ≤ end → start ≤ end + count
+ordered_more start end count order = omega (arith, order)
+
+pub counted_more : (start end count fetched : ℕ) → end - start ≤ fetched → (end + count) - start ≤ fetched + count
+counted_more start end count fetched counted = omega (arith, counted)
 
 -- a read that failed counts nothing
 pub count_fits : {E : Type 0} (r : Result ℕ E) (count room : ℕ) → count ≡ result_unwrap_or r 0 → IfOk r (λ n. n ≤ room) → count ≤ room

@@ -1,5 +1,5 @@
 //! The bytes of a file that stand ready, fetched piece by piece.
-ghost use Rattle.std.specs.Prelude.{◌≡◌, ◌≢◌, ◌≤◌, ◌<◌, ◌+◌, ◌-◌, ◌⊎◌, ◌^◌, ℕ, List, [], ◌++◌, length, take, drop, vec_len, IfOk, OnErr};
+ghost use Rattle.std.specs.Prelude.{◌≡◌, ◌≢◌, ◌≤◌, ◌<◌, ◌+◌, ◌-◌, ◌⊎◌, ◌^◌, ℕ, List, [], ◌++◌, length, take, drop, vec_len, IfOk, OnErr, true, false};
 ghost use Rattle.te_ports.specs.Ports.{Rose, Told};
 ghost use Rattle.te_ports.specs.Limit.{IsLimit};
 ghost use Rattle.te_ports.specs.Record.{Grows};
@@ -184,6 +184,19 @@ impl Window {
         self.start = 0;
     }
 
+    // How many bytes the next read asks for: those that fit behind the ones that stand ready, up to one more than the limit
+    // allows.
+    fn space(&self) -> usize
+        requires is_open { state_of self.now ≡ State.Open }
+        requires space { self.now.end < vec_len self.now.bytes }
+        ensures some { 1 ≤ result }
+        ensures inside { self.now.end + result ≤ vec_len self.now.bytes }
+        ensures below { fetched_of self.now + result ≤ limit_of self.now + 1 }
+    {
+        let left = (self.limit + 1 - self.fetched) as usize;
+        (self.bytes.len() - self.end).min(left)
+    }
+
     // Fetches some bytes behind those that stand ready.
     fn fetch<D: Depot>(&mut self, depot: &mut D, name: &str)
         requires is_open { state_of self.old ≡ State.Open }
@@ -205,14 +218,22 @@ impl Window {
         ensures kept { Grows (D.gave depot.old) (D.gave depot.new) }
         ensures content { D.content depot.new ≡ D.content depot.old }
     {
-        let left = (self.limit + 1 - self.fetched) as usize;
-        let space = (self.bytes.len() - self.end).min(left);
+        let space = self.space();
         let end = self.end;
         let answer = depot.fetch(name, self.fetched, &mut self.bytes[end..end + space]);
         let count = answer.unwrap_or(0);
         self.end += count;
         self.fetched += count as u64;
         self.state = state_after(answer, self.fetched, self.limit);
+    }
+
+    // Whether fewer bytes stand ready than are asked for, and there may be more.
+    fn needs(&self, wanted: usize) -> bool
+        ensures is_open { result ≡ true → state_of self.now ≡ State.Open }
+        ensures few { result ≡ true → self.now.end < self.now.start + wanted }
+        ensures enough { result ≡ false → state_of self.now ≡ State.Open → wanted ≤ length (ready self.now) }
+    {
+        self.state == State::Open && self.end - self.start < wanted
     }
 
     /// Makes as many bytes stand ready as are asked for, or all that are left. Past the limit nothing is read, and nothing
@@ -243,7 +264,7 @@ impl Window {
         if self.bytes.len() - self.start < wanted {
             self.compact();
         }
-        'pieces: while self.state == State::Open && self.end - self.start < wanted {
+        'pieces: while self.needs(wanted) {
             self.fetch(depot, name);
         }
     }

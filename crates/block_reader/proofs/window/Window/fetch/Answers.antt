@@ -1,10 +1,9 @@
-use Rattle.std.proofs.Common.{◌≡◌, ◌≤◌, ◌+◌, length, take, refl, ap, arith, ◌∙◌, length-append, length-take-le}
+use Rattle.std.proofs.Common.{◌≡◌, ◌≤◌, length, take, refl, ap, arith, ◌∙◌, length-append, length-take-le}
 use Rattle.std.proofs.lemmas.Result.{IfOk-weaker}
 use Rattle.te_ports.specs.Record.{IsPiece}
-use Rattle.block_reader.specs.declared.window.State.TheVariants.{TooLong}
 use Rattle.block_reader.specs.Standing.{ready}
 use Rattle.block_reader.proofs.Bytes.{behind}
-use Rattle.block_reader.proofs.Fetching.{count_fits, at_answer, in_answer, failed_by, steady_by, fewer_by, within_by, past_by}
+use Rattle.block_reader.proofs.Fetching.{count_fits, fits_behind, inside_items, ordered_more, counted_more, open_within, at_answer, in_answer, failed_by, steady_by, fewer_by, within_by, past_by}
 use Rattle.block_reader.proofs.window.Window.fetch.Goals as goal
 
 pub returns-clause-behind : goal.returns-clause-behind
@@ -12,9 +11,11 @@ returns-clause-behind g c =
     let w = c.args.self.now in
     let buf = c.fetch-answer.new.buf in
     let count = c.unwrap_or-count.result in
-    let room : count ≤ length buf = count_fits c.fetch-answer.result count (length buf) c.unwrap_or-count.ensures c.fetch-answer.ensures.room in (
+    let room : count ≤ length buf = count_fits c.fetch-answer.result count (length buf) c.unwrap_or-count.ensures c.fetch-answer.ensures.room in
+    let size : length buf ≡ c.space-space.result = omega arith in
+    let fits = fits_behind w c.space-space.result (length buf) count c.space-space.ensures.some c.space-space.ensures.inside c.space-space.ensures.below size room in (
       take count buf,
-      behind w.bytes.items c.deref_mut.result.now buf _ _ w.start w.end count w.bytes.len c.deref_mut.ensures.value w.ordered (omega arith) room (omega arith),
+      behind w.bytes.items c.deref_mut.result.now buf _ _ w.start w.end count w.bytes.len c.deref_mut.ensures.value w.ordered (inside_items w) room fits.1,
     )
 
 pub returns-clause-stands : goal.returns-clause-stands
@@ -23,13 +24,14 @@ returns-clause-stands g c = λ passed s.
     let w = c.args.self.now in
     let buf = c.fetch-answer.new.buf in
     let count = c.unwrap_or-count.result in
-    let within : w.fetched ≤ w.limit = w.within (λ (is : w.state ≡ TooLong). let now = c.requires.is_open in cc) in
     let room : count ≤ length buf = count_fits c.fetch-answer.result count (length buf) c.unwrap_or-count.ensures c.fetch-answer.ensures.room in
+    let size : length buf ≡ c.space-space.result = omega arith in
+    let fits = fits_behind w c.space-space.result (length buf) count c.space-space.ensures.some c.space-space.ensures.inside c.space-space.ensures.below size room in
     let given = g.D.Depot.gave c.fetch-answer.new.self c.args.name.now w.fetched in
     at_answer _ _ w _ passed buf c.fetch-answer.result count (c.fetch-answer.ensures.kept c.args.name.now) c.unwrap_or-count.ensures room
     (returns-clause-behind g c).1
-    refl (omega arith) c.state_after-self.ensures
-    (IfOk-weaker c.fetch-answer.result _ (λ n. given (take n buf)) (λ n gave. gave (omega arith)) c.fetch-answer.ensures.gave) s
+    refl fits.2 c.state_after-self.ensures
+    (IfOk-weaker c.fetch-answer.result _ (λ n. given (take n buf)) (λ n gave. gave fits.0) c.fetch-answer.ensures.gave) s
 
 pub returns-clause-told : goal.returns-clause-told
 unfolding returns-clause-behind
@@ -38,13 +40,14 @@ returns-clause-told g c = λ told is passed s.
     let buf = c.fetch-answer.new.buf in
     let count = c.unwrap_or-count.result in
     let name = c.args.name.now in
-    let within : w.fetched ≤ w.limit = w.within (λ (is : w.state ≡ TooLong). let now = c.requires.is_open in cc) in
     let room : count ≤ length buf = count_fits c.fetch-answer.result count (length buf) c.unwrap_or-count.ensures c.fetch-answer.ensures.room in
+    let size : length buf ≡ c.space-space.result = omega arith in
+    let fits = fits_behind w c.space-space.result (length buf) count c.space-space.ensures.some c.space-space.ensures.inside c.space-space.ensures.below size room in
     let known = g.met.D.Depot.gave_told c.fetch-answer.new.self name told (ap (λ f. f name) c.fetch-answer.ensures.content ∙ is) w.fetched in
     in_answer told w _ passed buf c.fetch-answer.result count c.unwrap_or-count.ensures room
     (returns-clause-behind g c).1
     refl c.state_after-self.ensures
-    (IfOk-weaker c.fetch-answer.result _ (λ n. IsPiece told w.fetched (take n buf)) (λ n gave. known (take n buf) (gave (omega arith))) c.fetch-answer.ensures.gave) s
+    (IfOk-weaker c.fetch-answer.result _ (λ n. IsPiece told w.fetched (take n buf)) (λ n gave. known (take n buf) (gave fits.0)) c.fetch-answer.ensures.gave) s
 
 pub returns-clause-count : goal.returns-clause-count
 unfolding returns-clause-behind
@@ -58,8 +61,12 @@ returns-clause-count g c =
 pub returns-clause-fewer : goal.returns-clause-fewer
 returns-clause-fewer g c =
     let w = c.args.self.now in
-    let within : w.fetched ≤ w.limit = w.within (λ (is : w.state ≡ TooLong). let now = c.requires.is_open in cc) in
-    fewer_by w.limit w.fetched c.unwrap_or-count.result _ within (omega arith) c.fetch-answer.result w.state c.requires.is_open c.state_after-self.ensures c.unwrap_or-count.ensures
+    let buf = c.fetch-answer.new.buf in
+    let count = c.unwrap_or-count.result in
+    let room : count ≤ length buf = count_fits c.fetch-answer.result count (length buf) c.unwrap_or-count.ensures c.fetch-answer.ensures.room in
+    let size : length buf ≡ c.space-space.result = omega arith in
+    let fits = fits_behind w c.space-space.result (length buf) count c.space-space.ensures.some c.space-space.ensures.inside c.space-space.ensures.below size room in
+    fewer_by w.limit w.fetched count _ (open_within w c.requires.is_open) fits.2 c.fetch-answer.result w.state c.requires.is_open c.state_after-self.ensures c.unwrap_or-count.ensures
 
 pub returns-clause-failed : goal.returns-clause-failed
 returns-clause-failed g c = failed_by c.fetch-answer.result _ _ _ c.state_after-self.ensures c.fetch-answer.ensures.failed
@@ -73,15 +80,16 @@ invariant_of-self g c =
     let buf = c.fetch-answer.new.buf in
     let count = c.unwrap_or-count.result in
     let room : count ≤ length buf = count_fits c.fetch-answer.result count (length buf) c.unwrap_or-count.ensures c.fetch-answer.ensures.room in
-    let within : w.fetched ≤ w.limit = w.within (λ (is : w.state ≡ TooLong). let now = c.requires.is_open in cc) in
-    let below : w.fetched + count ≤ w.limit + 1 = omega arith in
+    let size : length buf ≡ c.space-space.result = omega arith in
+    let fits = fits_behind w c.space-space.result (length buf) count c.space-space.ensures.some c.space-space.ensures.inside c.space-space.ensures.below size room in
+    let within = open_within w c.requires.is_open in
     record {
       some = w.some;
-      ordered = omega (arith, w.ordered);
-      inside = omega (arith, room);
-      counted = omega (arith, w.counted);
+      ordered = ordered_more w.start w.end count w.ordered;
+      inside = fits.1;
+      counted = counted_more w.start w.end count w.fetched w.counted;
       small = w.small;
-      below = below;
-      within = within_by w.limit w.fetched count _ within below c.fetch-answer.result c.state_after-self.ensures c.unwrap_or-count.ensures;
-      past = past_by w.limit w.fetched count _ within below c.fetch-answer.result c.state_after-self.ensures;
+      below = fits.2;
+      within = within_by w.limit w.fetched count _ within fits.2 c.fetch-answer.result c.state_after-self.ensures c.unwrap_or-count.ensures;
+      past = past_by w.limit w.fetched count _ within fits.2 c.fetch-answer.result c.state_after-self.ensures;
     }

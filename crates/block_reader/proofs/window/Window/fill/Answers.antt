@@ -1,4 +1,4 @@
-use Rattle.std.proofs.Common.{◌≡◌, ◌≢◌, ◌∙◌, ◌+◌, ◌≤◌, ◌++◌, ℕ, List, [], length, refl, sym, ap, subst, arith, rules, append_assoc, append-nil}
+use Rattle.std.proofs.Common.{◌≡◌, ◌≢◌, ◌∙◌, ◌+◌, ◌≤◌, ◌++◌, ℕ, List, [], length, refl, sym, ap, subst, arith, rules, append_assoc, append-nil, inr}
 use Rattle.te_ports.specs.Ports.{Rose}
 use Rattle.block_reader.specs.declared.window.State.TheVariants.{Open, Failed}
 use Rattle.block_reader.specs.declared.window.Window.{Window}
@@ -51,7 +51,7 @@ pieces-preserved g c =
     let all = c.pieces.invariant in
     let next = c.fetch.ensures in
     let name = c.args.name.now in
-    let is_open : c.pieces.self.state ≡ Open = search rules in
+    let is_open : c.pieces.self.state ≡ Open = c.needs.ensures.is_open c.pieces-test.true in
     let sound : c.pieces.self.state ≢ Failed = (λ (is : c.pieces.self.state ≡ Failed). cc) in (
       next.content ∙ all.0,
       (λ passed s. next.stands passed (all.1 passed s)),
@@ -69,3 +69,48 @@ pieces-preserved g c =
       (λ other at bytes given. next.kept other at bytes (all.10 other at bytes given)),
       omega (arith, all.11, next.count),
     )
+
+pub returns-then-ne-clause-behind : goal.returns-then-ne-clause-behind
+returns-then-ne-clause-behind g c = ([], sym (append-nil (ready c.args.self.now)))
+
+pub returns-then-ne-clause-later : goal.returns-then-ne-clause-later
+returns-then-ne-clause-later g c = λ other. omega arith
+
+pub returns-then-ne-clause-kept : goal.returns-then-ne-clause-kept
+returns-then-ne-clause-kept g c = λ other at bytes given. given
+
+pub returns-clause-stands : goal.returns-clause-stands
+returns-clause-stands g c = c.pieces.invariant.1
+
+pub returns-clause-told : goal.returns-clause-told
+returns-clause-told g c = c.pieces.invariant.2
+
+pub returns-clause-behind : goal.returns-clause-behind
+returns-clause-behind g c = c.pieces.invariant.3
+
+pub returns-clause-count : goal.returns-clause-count
+returns-clause-count g c = c.pieces.invariant.11
+
+pub returns-clause-room : goal.returns-clause-room
+returns-clause-room g c = c.pieces.invariant.4
+
+pub returns-clause-limit : goal.returns-clause-limit
+returns-clause-limit g c = c.pieces.invariant.5
+
+pub returns-clause-failed : goal.returns-clause-failed
+returns-clause-failed g c = λ is. inr (c.pieces.invariant.7 is)
+
+pub returns-clause-later : goal.returns-clause-later
+returns-clause-later g c = c.pieces.invariant.9
+
+pub returns-clause-kept : goal.returns-clause-kept
+returns-clause-kept g c = c.pieces.invariant.10
+
+pub returns-clause-content : goal.returns-clause-content
+returns-clause-content g c = c.pieces.invariant.0
+
+pub returns-clause-enough : goal.returns-clause-enough
+returns-clause-enough g c = c.needs.ensures.enough c.pieces-test.false
+
+pub fetch-requires-clause-space : goal.fetch-requires-clause-space
+fetch-requires-clause-space g c = omega (arith, c.needs.ensures.few c.pieces-test.true, c.pieces.invariant.6)
