@@ -1,5 +1,5 @@
 -- What calls that read do to a depot, one after another.
-use Rattle.std.proofs.Common.{◌≡◌, ◌≢◌, ◌∙◌, ℕ, List, Result, Ok, Err, refl, ap, subst, arith}
+use Rattle.std.proofs.Common.{◌≡◌, ◌≢◌, ◌≤◌, ◌∙◌, ℕ, List, Result, Ok, Err, refl, ap, subst, arith}
 use Rattle.te_ports.specs.Ports.{Rose}
 use Rattle.block_reader.specs.declared.stream_fault.StreamFault.{StreamFault}
 use Rattle.block_reader.specs.declared.stream_fault.StreamFault.TheVariants.{Failed, Memory}
@@ -55,3 +55,6 @@ reads_short {A} d name fault is = reads_none {A = A} d name (Err fault) (λ e. c
 
 pub ok_sound : {A : Type 0} (x : A) → ◌≢◌ {A = Result A StreamFault} (Ok x) (Err Failed)
 ok_sound x e = cc
+
+pub at_least : (a b c : ℕ) → a ≤ b → b ≤ c → a ≤ c
+at_least a b c first next = omega (arith, first, next)

@@ -5,7 +5,7 @@ use Rattle.block_reader.specs.declared.stream_fault.StreamFault.TheVariants.{Fai
 use Rattle.block_reader.specs.Blocks.{IsFaultOf}
 use Rattle.block_reader.proofs.Handing.{valid_head, head_earliest}
 use Rattle.block_reader.proofs.Advancing.{Judges, fault_is}
-use Rattle.block_reader.proofs.Reading.{ok_sound}
+use Rattle.block_reader.proofs.Reading.{ok_sound, at_least}
 use Rattle.block_reader.proofs.block_reader.BlockReader.open.Goals as goal
 
 pub returns-in-None-clause-head : goal.returns-in-None-clause-head
@@ -55,3 +55,27 @@ pub returns-in_err-reader-clause-steady : goal.returns-in_err-reader-clause-stea
 returns-in_err-reader-clause-steady g c =
     let p = err_from_is_err_and c.from_residual.result c.from_residual.ensures.1 in
     rw (p.1, p.2) (λ other. c.in_err-reader.ensures.reads.steady (λ e. other (ap (λ f. Err f) (fault_is c.in_err-reader.field-0.0 IsFailed e))))
+
+pub returns-in-Some-clause-later : goal.returns-in-Some-clause-later
+returns-in-Some-clause-later g c = λ other. at_least _ _ _ (c.in_ok-reader.ensures.reads.later other) (c.judge_rest.ensures.reads.later other)
+
+pub returns-in-Some-clause-kept : goal.returns-in-Some-clause-kept
+returns-in-Some-clause-kept g c = λ file at bytes given. c.judge_rest.ensures.reads.kept file at bytes (c.in_ok-reader.ensures.reads.kept file at bytes given)
+
+pub returns-in-Some-clause-content : goal.returns-in-Some-clause-content
+returns-in-Some-clause-content g c = c.judge_rest.ensures.reads.content ∙ c.in_ok-reader.ensures.reads.content
+
+pub returns-in-None-clause-of_head : goal.returns-in-None-clause-of_head
+returns-in-None-clause-of_head g c = c.in_ok-reader.ensures.stands.of_head
+
+pub returns-in-None-clause-steady : goal.returns-in-None-clause-steady
+returns-in-None-clause-steady g c = λ other. c.in_ok-reader.ensures.reads.steady (ok_sound _)
+
+pub returns-in-None-clause-later : goal.returns-in-None-clause-later
+returns-in-None-clause-later g c = c.in_ok-reader.ensures.reads.later
+
+pub returns-in-None-clause-kept : goal.returns-in-None-clause-kept
+returns-in-None-clause-kept g c = c.in_ok-reader.ensures.reads.kept
+
+pub returns-in-None-clause-content : goal.returns-in-None-clause-content
+returns-in-None-clause-content g c = c.in_ok-reader.ensures.reads.content
