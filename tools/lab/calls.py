@@ -5,15 +5,19 @@ all that is written: to the standard output at 0 and 1, else to the standard err
 in it. `TABLES` says by what words each table is called, and how its files are named.
 """
 
+import os
+
 from .certificates import (
     BLOCK_OF_NO_LINK, CUT, LEADING_ZERO, LONG_PATH_IN_SECOND, MANY_BLOCKS, MANY_BLOCKS_IN_SECOND, MANY_LINKS_IN_SECOND, MANY_NODES,
     MANY_NODES_IN_SECOND, MANY_PAIRS, MANY_PAIRS_IN_SECOND, MANY_PATHS, NO_CAPACITY, PAIR_OF_ONE_NODE, PARALLEL_LIGHT, PARALLEL_TWO_FAULTS,
-    PARALLEL_WHOLE, PARALLEL_WITHOUT_SECOND, PARALLEL_WITH_LESS_AND_MORE, PATHS_OUT_OF_ORDER, SMALLEST, SMALLEST_IN_SECOND, SMALLEST_WITH_LESS,
-    SMALLEST_WITH_LESS_IN_SECOND, SMALL_BOX, SPACE_AFTER_FORMAT, THIRD_FORMAT, TRIANGLE_BOX_IN_FIRST, TRIANGLE_EMPTY_BOX, TRIANGLE_FOR_ALL,
-    TRIANGLE_FOR_ALL_WITH_LESS, TRIANGLE_FOR_BOX, TRIANGLE_FOR_MARGIN, TRIANGLE_MARGIN_IN_SECOND, TRIANGLE_SMALL_MARGIN, TRIANGLE_TWICE_A_NODE,
-    TRIANGLE_WIDE_BOX, TRIANGLE_WITHOUT_MINUS, TRIANGLE_WITH_IDLE_BLOCKS, TWICE_A_NAME, UNENDED, UNREACHED_HIGH, UNREACHED_TOO_LOW, WIDE_NODES,
-    WIDE_RATIO, WIDE_WEIGHT, ZERO_BEFORE_FORMAT,
+    PARALLEL_WHOLE, PARALLEL_WITHOUT_FIRST, PARALLEL_WITHOUT_SECOND, PARALLEL_WITH_LESS_AND_MORE, PATHS_OUT_OF_ORDER, SMALLEST,
+    SMALLEST_IN_SECOND, SMALLEST_WITH_LESS, SMALLEST_WITH_LESS_IN_SECOND, SMALL_BOX, SPACE_AFTER_FORMAT, THIRD_FORMAT, TRIANGLE_BOX_IN_FIRST,
+    TRIANGLE_DOUBLE_BOX, TRIANGLE_DOUBLE_BOX_WITH_LESS, TRIANGLE_EMPTY_BOX, TRIANGLE_FOR_ALL, TRIANGLE_FOR_ALL_WITH_LESS, TRIANGLE_FOR_BOX,
+    TRIANGLE_FOR_MARGIN, TRIANGLE_MARGIN_IN_SECOND, TRIANGLE_SMALL_MARGIN, TRIANGLE_TWICE_A_NODE, TRIANGLE_WIDE_BOX,
+    TRIANGLE_WITHOUT_FIRST_WITH_LESS, TRIANGLE_WITHOUT_MINUS, TRIANGLE_WITH_IDLE_BLOCKS, TWICE_A_NAME, UNENDED, UNREACHED_HIGH,
+    UNREACHED_TOO_LOW, WIDE_NODES, WIDE_RATIO, WIDE_WEIGHT, ZERO_BEFORE_FORMAT,
 )
+from .program import TOP
 
 YES = "yes ratio 1000000 set all\n"
 YES_TWICE = "yes ratio 2000000 set all\n"
@@ -28,9 +32,12 @@ CERTIFICATES = [
     ([SMALLEST_WITH_LESS], 1, OVER_CAPACITY),
     ([PARALLEL_WHOLE], 0, YES_TWICE),
     ([PARALLEL_WITHOUT_SECOND], 1, "no link 1 rule I2 place 0\n"),
+    ([PARALLEL_WITHOUT_FIRST], 1, "no link 0 rule I2 place 0\n"),
     ([TRIANGLE_FOR_ALL], 0, YES_TWICE),
     ([TRIANGLE_WITH_IDLE_BLOCKS], 0, YES_TWICE),
     ([TRIANGLE_FOR_ALL_WITH_LESS], 1, OVER_CAPACITY),
+    # A block that is left out fails before a ratio that is too low.
+    ([TRIANGLE_WITHOUT_FIRST_WITH_LESS], 1, "no link 0 rule I2 place 0\n"),
     ([TRIANGLE_FOR_MARGIN], 0, YES_MARGIN),
     ([TRIANGLE_WITHOUT_MINUS], 1, "no link 0 rule I3 place 0\n"),
     # A node out of reach has a potential too.
@@ -95,6 +102,8 @@ SECOND_FORMAT = [
     ([SMALL_BOX], 0, YES_BOX),
     ([TRIANGLE_FOR_BOX], 0, YES_BOX),
     ([TRIANGLE_WIDE_BOX], 1, "no link 0 rule I3 place 0\n"),
+    ([TRIANGLE_DOUBLE_BOX], 0, "yes ratio 1333334 set box\n"),
+    ([TRIANGLE_DOUBLE_BOX_WITH_LESS], 1, OVER_CAPACITY),
     ([SMALLEST_WITH_LESS_IN_SECOND], 1, "no link 0 rule I4 place 0\n"),
     ([THIRD_FORMAT], 3, "refused: c: shape at line 1\n"),
     ([ZERO_BEFORE_FORMAT], 3, "refused: c: shape at line 1\n"),
@@ -132,10 +141,16 @@ UNCONVERTED = [
 ]
 
 SPF = '{"topology":"t","matrices":"m","publish":"spf"}'
+# All multiples of the matrix of step 0.
+MARGIN_OF_ONE = '{"topology":"t","matrices":"m","publish":"spf","margin":[1,1]}'
+# Those within a factor of 2 around it.
+MARGIN = '{"topology":"t","matrices":"m","publish":"spf","margin":[2,1]}'
 # The envelope of the steps.
 ENVELOPE = '{"topology":"t","matrices":"m","publish":"spf","envelope":true}'
 # A link from a to b.
 LINK = "source,target,capacity,cost\na,b,10,1\n"
+# A demand from a to b.
+TEN = "step,source,target,demand\n0,a,b,10\n"
 # Two demands from a to b, one after the other.
 FIVE_AND_NINE = "step,source,target,demand\n0,a,b,5\n1,a,b,9\n"
 # Links from a to b and from b to c.
@@ -148,6 +163,8 @@ DEMAND = "step,source,target,demand\n0,a,b,1\n"
 BOTH_WAYS = "source,target,capacity,cost\na,b,10,1\nb,a,10,1\n"
 # Demands from a and from b to c, of which the first is less at step 1.
 TO_C = "step,source,target,demand\n0,a,c,10\n0,b,c,10\n1,a,c,7\n"
+# The same without step 1.
+TENS = "step,source,target,demand\n0,a,c,10\n0,b,c,10\n"
 # Demands from a to b and back.
 EXCHANGE = "step,source,target,demand\n0,a,b,1\n0,b,a,1\n"
 
@@ -163,10 +180,10 @@ PUBLISHED = [
     ),
     # The trees of the default scheme have one path for each pair.
     (['{"topology":"t","matrices":"m"}', BOTH_WAYS, EXCHANGE], 0, "\n0 1 1\n1000000 1 0\n1 0 1\n1000000 1 1\nset all\nratio "),
-    (['{"topology":"t","matrices":"m","publish":"spf","margin":[1,1]}', TRIANGLE_NET, TO_C], 0, "\nset margin 1 1\nbase 10 10\nratio "),
+    ([MARGIN_OF_ONE, TRIANGLE_NET, TO_C], 0, "\nset margin 1 1\nbase 10 10\nratio "),
     # Nothing is asked for at step 0, so b is as great as it may be.
     (
-        ['{"topology":"t","matrices":"m","publish":"spf","margin":[1,1]}',
+        [MARGIN_OF_ONE,
          "source,target,capacity,cost\na,b,10,1\n",
          "step,source,target,demand\n1,a,b,5\n"], 0,
         "\nset margin 1 1\nbase 0\nratio 1\nblocks 1\n0 1000000 68719476736 1\n",
@@ -223,6 +240,8 @@ COMPARED = '{"topology":"t","matrices":"m","failures":"f","schemes":["spf"]}'
 WAYS = "source,target,capacity,cost\ns,t,10,1\ns,x,10,1\nx,t,10,1\ns,y,3,3\ny,x,3,3\n"
 # A demand of 12 from s to t in two steps.
 TWELVE = "step,source,target,demand\n0,s,t,12\n1,s,t,12\n"
+# Demands from s to t and back.
+THERE_AND_BACK = "step,source,target,demand\n0,s,t,12\n0,t,s,5\n"
 # The link from s to x fails in the second step.
 FAILURE = "from,to,link\n1,1,1\n"
 KEEP = '{"topology":"t","matrices":"m","failures":"f","schemes":["ksp"],"k":2,"recovery":"none"}'
@@ -254,12 +273,28 @@ REPORTS = [
         [SCALE, WAYS, TWELVE, "from,to,link\n1,1,1\n1,1,0\n"], 0,
         COLUMNS + "ksp,0,12,12,0,0,0,600000,600000,-\nksp,1,12,0,0,0,12,0,600000,-\nksp,total,24,12,0,0,12,600000,600000,-\n",
     ),
+    # No link leads back from t; both paths of the pair have failed; and no path is left, so none is routed.
+    ([KEEP, WAYS, THERE_AND_BACK, "from,to,link\n0,0,4\n"], 0, COLUMNS + "ksp,0,17,12,0,0,5,600000,600000,-\nksp,total,17,12,0,0,5,600000,600000,-\n"),
+    ([SCALE, WAYS, THERE_AND_BACK, "from,to,link\n0,0,0\n0,0,1\n"], 0, COLUMNS + "ksp,0,17,0,0,0,17,0,600000,-\nksp,total,17,0,0,0,17,0,600000,-\n"),
+    ([REROUTE, WAYS, THERE_AND_BACK, "from,to,link\n0,0,0\n0,0,2\n"], 0, COLUMNS + "ksp,0,17,0,0,0,17,0,0,-\nksp,total,17,0,0,0,17,0,0,-\n"),
     # Traffic without a path is lost, and needs no failure file.
     (
         ['{"topology":"t","matrices":"m","schemes":["spf"]}',
          "source,target,capacity,cost\na,b,10,1\nb,c,10,1\n",
          "step,source,target,demand\n0,a,b,1\n0,a,c,1\n0,c,a,1\n"], 0,
         COLUMNS + "spf,0,3,2,0,0,1,200000,200000,-\nspf,total,3,2,0,0,1,200000,200000,-\n",
+    ),
+]
+
+# A plan of every scheme, a topology and matrices, the first lines of the report, and what stands in the others. Lengths of 1 show that every
+# routing has the utilisation 1 or more, and no bound is greater.
+EVERY_SCHEME = [
+    (
+        ['{"topology":"t","matrices":"m","trees":8}', "source,target,capacity,cost\na,b,10,1\na,b,30,1\n", "step,source,target,demand\n0,a,b,40\n"],
+        COLUMNS + "spf,0,40,10,30,0,0,1000000,4000000,-\nspf,total,40,10,30,0,0,1000000,4000000,-\n"
+        "ecmp,0,40,30,10,0,0,1000000,2000000,-\necmp,total,40,30,10,0,0,1000000,2000000,-\n"
+        "ksp,0,40,30,10,0,0,1000000,2000000,-\nksp,total,40,30,10,0,0,1000000,2000000,-\n",
+        ["-\nmcf,0,40,", ",1000000\nmcf,total,40,", "-\nracke,0,40,", "-\nracke,total,40,", "-\nsmore,0,40,", ",1000000\nsmore,total,40,"],
     ),
 ]
 
@@ -282,15 +317,39 @@ UNREPORTED = [
     ([COMPARED, WAYS, TWELVE], 4, "fault: read\n"),
 ]
 
-# A plan, a topology and matrices, the set of the certificate, the ratio of the routing, and the greatest ratio that its certificate may have.
+# A plan, a topology and matrices, the set of the certificate, how many links carry traffic and so have a block, the ratio of the routing, and
+# the greatest ratio that its certificate may have.
 RATIOS = [
     # The starting weights give 4000000, and rounds and polish alone 2057555.
-    ([SPF, TRIANGLE_NET, TO_C], "all", 2000000, 2000200),
+    ([SPF, TRIANGLE_NET, TO_C], "all", 2, 2000000, 2000200),
     # The starting weights give 2000000, and rounds and polish alone 1064778.
-    (['{"topology":"t","matrices":"m","publish":"spf","margin":[1,1]}', TRIANGLE_NET, TO_C], "margin 1 1", 1000000, 1000100),
+    ([MARGIN_OF_ONE, TRIANGLE_NET, TO_C], "margin 1 1", 2, 1000000, 1000100),
     # The trees of the default scheme have one path for each pair.
-    (['{"topology":"t","matrices":"m"}', BOTH_WAYS, EXCHANGE], "all", 1000000, 1000100),
+    (['{"topology":"t","matrices":"m"}', BOTH_WAYS, EXCHANGE], "all", 2, 1000000, 1000100),
 ]
+
+
+
+def example(name):
+    """A file of the example of the backbone."""
+    with open(os.path.join(TOP, "examples", "backbone", name), encoding="ascii") as file:
+        return file.read()
+
+
+# A plan, a topology and matrices, and how many links carry traffic. Where nothing is demanded the greatest b serves, and no weight need be fine.
+POLISHED = [
+    ([SPF, TRIANGLE_NET, TENS], 2),
+    ([MARGIN_OF_ONE, TRIANGLE_NET, TENS], 2),
+    ([SPF, "source,target,capacity,cost\na,b,10,1\na,b,30,1\n", TEN], 1),
+    ([SPF, "source,target,capacity,cost\na,b,4294967296,1\na,b,1,1\n", TEN], 1),
+    ([MARGIN, LINK, "step,source,target,demand\n0,a,b,0\n"], 1),
+    ([SPF, TRIANGLE_NET, "step,source,target,demand\n"], 0),
+    ([SPF, example("net.csv"), example("tm.csv")], 28),
+    ([MARGIN, example("net.csv"), example("tm.csv")], 28),
+]
+
+# The plan of a margin, a topology and matrices, and the plan of their envelope, which is the box of the margin.
+MARGINS = [([MARGIN_OF_ONE, TRIANGLE_NET, TENS], ENVELOPE)]
 
 # Words that are no form of a command.
 NO_FORMS = [
@@ -361,7 +420,6 @@ CHAINS = [
 # One unit from the first node of the chain to the last one, and to the one before it.
 TO_LAST = "step,source,target,demand\n0,n0,n64,1\n"
 TO_LAST_OF_SHORT = "step,source,target,demand\n0,n0,n63,1\n"
-MARGIN = '{"topology":"t","matrices":"m","publish":"spf","margin":[2,1]}'
 
 # A plan, a topology and matrices, how the certificate begins, what stands in it, and what `check` says.
 PUBLISHED_CHAINS = [

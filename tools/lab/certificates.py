@@ -35,6 +35,11 @@ TRIANGLE_ALL = "blocks 2\n0 1000000 1 1\n1 1 0 0\n0 0 0 1\n1 1000000 1 1\n1 1 0 
 TRIANGLE_BLOCKS = "ratio 1000000\nblocks 2\n0 500000 1 2\n1 1 0 0\n0 0 0 1\n1 0 0 1\nplus 1 0\nminus "
 TRIANGLE_BLOCKS_END = "\n1 500000 1 2\n1 1 0 0\n0 0 0 1\n1 0 0 1\nplus 0 1\nminus 1 0\nend\n"
 
+# The blocks for demands of which neither is above twice the other.
+TRIANGLE_DOUBLE = (
+    "blocks 2\n0 1000000 3 2\n2 2 0 0\n0 0 0 2\n1 0 0 2\nplus 1 0\nminus 0 2\n1 1000000 3 2\n2 2 0 0\n0 0 0 2\n1 0 0 2\nplus 0 1\nminus 2 0\nend\n"
+)
+
 # Nodes a, b and z, of which z is out of the reach of a, up to the potentials of a.
 UNREACHED = (
     "yates-ratio 1\nnodes 3\na\nb\nz\nlinks 2\n0 1 10 1\n2 1 10 1\npairs 1\n0 1 1\n1000000 1 0\nset all\nratio 1000000\nblocks 1\n0 1000000 1 1\n"
@@ -54,6 +59,7 @@ SMALLEST_WITH_LESS_IN_SECOND = (
 SMALLEST_WITH_LESS = SMALLEST_HEAD + "ratio 999999\n" + SMALLEST_BLOCK + "end\n"
 PARALLEL_WHOLE = PARALLEL + "500000" + PARALLEL_SET + "blocks 2\n" + PARALLEL_FIRST + PARALLEL_SECOND + "end\n"
 PARALLEL_WITHOUT_SECOND = PARALLEL + "500000" + PARALLEL_SET + "blocks 1\n" + PARALLEL_FIRST + "end\n"
+PARALLEL_WITHOUT_FIRST = PARALLEL + "500000" + PARALLEL_SET + "blocks 1\n" + PARALLEL_SECOND + "end\n"
 
 # The first block has a weight past its range, and the second one the link of the first.
 PARALLEL_TWO_FAULTS = PARALLEL + "500000" + PARALLEL_SET + "blocks 2\n0 500000 1 1\n268435457 1\n0 0 1\n" + PARALLEL_FIRST + "end\n"
@@ -73,7 +79,15 @@ TRIANGLE_WITH_IDLE_BLOCKS = (
 )
 
 TRIANGLE_FOR_ALL_WITH_LESS = FIRST + TRIANGLE + "set all\nratio 1999999\n" + TRIANGLE_ALL
+TRIANGLE_WITHOUT_FIRST_WITH_LESS = FIRST + TRIANGLE + "set all\nratio 1999999\nblocks 1\n1 1000000 1 1\n1 1 0 0\n1 0 0 1\nend\n"
 TRIANGLE_TWICE_A_NODE = FIRST + TRIANGLE_LOOP + "set all\nratio 2000000\n" + TRIANGLE_ALL
+
+# The blocks of the first round, of which each weight is the starting one.
+TRIANGLE_OF_FIRST_ROUND = (
+    FIRST + TRIANGLE + "set all\nratio 4000000\nblocks 2\n0 1000000 1048576 1\n1048576 1048576 1048576 1048576\n0 0 1048576 1048576\n"
+    "1 1000000 1048576 1\n1048576 1048576 1048576 1048576\n1 1048576 0 1048576\nend\n"
+)
+
 TRIANGLE_FOR_MARGIN = FIRST + TRIANGLE + "set margin 1 1\nbase 10 10\n" + TRIANGLE_BLOCKS + "0 1" + TRIANGLE_BLOCKS_END
 TRIANGLE_WITHOUT_MINUS = FIRST + TRIANGLE + "set margin 1 1\nbase 10 10\n" + TRIANGLE_BLOCKS + "0 0" + TRIANGLE_BLOCKS_END
 TRIANGLE_SMALL_MARGIN = FIRST + TRIANGLE + "set margin 1 2\nbase 10 10\n" + TRIANGLE_BLOCKS + "0 1" + TRIANGLE_BLOCKS_END
@@ -89,6 +103,11 @@ TRIANGLE_WIDE_BOX = SECOND + TRIANGLE + "set box\nlower 10 10\nupper 20 20\n" + 
 TRIANGLE_EMPTY_BOX = SECOND + TRIANGLE + "set box\nlower 11 10\nupper 10 10\n" + TRIANGLE_BLOCKS + "0 1" + TRIANGLE_BLOCKS_END
 TRIANGLE_BOX_IN_FIRST = FIRST + TRIANGLE + "set box\nlower 10 10\nupper 10 10\n"
 TRIANGLE_MARGIN_IN_SECOND = SECOND + TRIANGLE + "set margin 1 1\nbase 10 10\n"
+
+# Neither demand is above twice the other, and so the ratio is four thirds, rounded up.
+TRIANGLE_DOUBLE_BOX = SECOND + TRIANGLE + "set box\nlower 10 10\nupper 20 20\nratio 1333334\n" + TRIANGLE_DOUBLE
+TRIANGLE_DOUBLE_BOX_WITH_LESS = SECOND + TRIANGLE + "set box\nlower 10 10\nupper 20 20\nratio 1333333\n" + TRIANGLE_DOUBLE
+
 UNREACHED_TOO_LOW = UNREACHED + "0 0 1 0\nend\n"
 UNREACHED_HIGH = UNREACHED + "0 0 1 1\nend\n"
 
