@@ -1,7 +1,5 @@
-//! Records of a file of comma-separated values, and numbers in their fields.
-use crate::cases::{Case, all_hold};
+//! Records of a file of comma-separated values.
 use csv_records::*;
-use std::alloc::Global;
 
 // Whether there is a next record, with this second field and so many fields.
 fn next_has(rows: &mut Rows, second: &str, fields: usize) -> bool {
@@ -31,28 +29,4 @@ fn records_in_order(rt: HostRuntime) {
     let mut rows = Rows::new(rt.alloc(), b"a,b\r\n\r\nc,\"d,\"\"e\"\"\",f\ng,h,i,j");
     let follow = three_records_follow(&mut rows);
     assert!(rt; follow);
-}
-
-// A field, the least and the greatest number, and the number that the field spells between them.
-struct Spelled<'a>(&'a str, u64, u64, Option<u64>);
-
-const NUMBERS: &[Spelled] = &[
-    // The greatest number with leading zeros, and one above it.
-    Spelled("0004294967", 1, 4294967, Some(4294967)),
-    Spelled("4294968", 1, 4294967, None),
-    // Eleven digits, none, and a sign.
-    Spelled("00000000001", 0, 9, None),
-    Spelled("", 0, 9, None),
-    Spelled("+1", 0, 9, None),
-];
-
-impl Case for Spelled<'_> {
-    fn holds(&self, _alloc: Global) -> bool {
-        number_within(self.0.as_bytes(), self.1, self.2) == self.3
-    }
-}
-
-#[test]
-fn numbers_within_bounds(rt: HostRuntime) {
-    all_hold(&rt, rt.alloc(), NUMBERS);
 }

@@ -1,4 +1,4 @@
-//! Files of outages: their faults, the links that fail in each step, and the network that is left.
+//! Outages: the links that fail in each step, and the network that is left.
 ghost use Rattle.std.specs.Prelude.{IsTrue};
 ghost use Rattle.te_model.specs.Network.{is_well_formed};
 
@@ -10,51 +10,6 @@ use te_model::{Items, Memory, Network};
 // The nodes s, t, x and y: a straight link from s to t, a way over x, and a narrow way over y to x.
 const FOUR_NODES: &[u8] =
     b"source,target,capacity,cost\ns,t,10,1\ns,x,10,1\nx,t,10,1\ns,y,3,3\ny,x,3,3\n";
-
-fn first_of(failures: &Failures) -> Option<Outage> {
-    failures.list.as_slice().first().copied()
-}
-
-// The first outage of a file of a network over two steps, or the file's fault.
-fn first_outage(alloc: Global, net: &Network, text: &str) -> Result<Option<Outage>, FailureFault>
-    requires { IsTrue (is_well_formed net.now) }
-{
-    let failures = read(alloc, net, 2, text.as_bytes())?;
-    Ok(first_of(&failures))
-}
-
-// A file, and its first outage or its fault.
-const FILES: &[(&str, Result<Option<Outage>, FailureFault>)] = &[
-    ("", Err(FailureFault::Header)),
-    ("from,to\n", Err(FailureFault::Header)),
-    (
-        "from,to,link\n0,1,1\n0,1\n9,9,9\n",
-        Err(FailureFault::Fields(2)),
-    ),
-    ("from,to,link\n1,0,x\n", Err(FailureFault::Number(1))),
-    ("from,to,link\n1,0,5\n", Err(FailureFault::NoSuchLink(1))),
-    ("from,to,link\n1,0,4\n", Err(FailureFault::Interval(1))),
-    ("from,to,link\n0,2,4\n", Err(FailureFault::Interval(1))),
-    ("from,to,link\n", Ok(None)),
-    (
-        "from,to,link\n1,1,1\n",
-        Ok(Some(Outage {
-            from: 1,
-            to: 1,
-            link: 1,
-        })),
-    ),
-];
-
-// First outages and faults of files of the four nodes.
-fn first_outages_are_told(rt: &impl Abort, alloc: Global, net: &Network)
-    requires { IsTrue (is_well_formed net.now) }
-{
-    for row in FILES {
-        let (text, found) = *row;
-        assert!(rt; first_outage(alloc, net, text) == found, "{text}");
-    }
-}
 
 // A step, and whether each of the five links has failed in it.
 type Marks = (u32, [bool; 5]);
@@ -125,69 +80,47 @@ fn outages_mark(
     Ok(alone & (series_is(alloc, net, &failures, wanted) == Ok(true)))
 }
 
-// Outages, and the marks of each step.
-const SERIES: &[(&[Outage], &[Marks])] = &[
-    // One link fails in one step.
-    (
-        &[Outage {
-            from: 1,
-            to: 1,
-            link: 1,
-        }],
-        &[(0, [false; 5]), (1, [false, true, false, false, false])],
-    ),
-    // Two outages overlap, one touches them, one stands twice, and one names a link that is not there.
-    (
-        &[
-            Outage {
-                from: 0,
-                to: 1,
-                link: 1,
-            },
-            Outage {
-                from: 1,
-                to: 1,
-                link: 1,
-            },
-            Outage {
-                from: 2,
-                to: 2,
-                link: 1,
-            },
-            Outage {
-                from: 2,
-                to: 3,
-                link: 4,
-            },
-            Outage {
-                from: 2,
-                to: 3,
-                link: 4,
-            },
-            Outage {
-                from: 0,
-                to: 9,
-                link: 7,
-            },
-        ],
-        &[
-            (0, [false, true, false, false, false]),
-            (1, [false, true, false, false, false]),
-            (2, [false, true, false, false, true]),
-            (3, [false, false, false, false, true]),
-        ],
-    ),
+// Two outages that overlap, one that touches them, one that stands twice, and one of a link that is not there.
+const OUTAGES: &[Outage] = &[
+    Outage {
+        from: 0,
+        to: 1,
+        link: 1,
+    },
+    Outage {
+        from: 1,
+        to: 1,
+        link: 1,
+    },
+    Outage {
+        from: 2,
+        to: 2,
+        link: 1,
+    },
+    Outage {
+        from: 2,
+        to: 3,
+        link: 4,
+    },
+    Outage {
+        from: 2,
+        to: 3,
+        link: 4,
+    },
+    Outage {
+        from: 0,
+        to: 9,
+        link: 7,
+    },
 ];
 
-fn outages_of_a_series_mark(rt: &impl Abort, alloc: Global, net: &Network)
-    requires { IsTrue (is_well_formed net.now) }
-{
-    for row in SERIES {
-        let (outages, wanted) = *row;
-        let found = outages_mark(alloc, net, outages, wanted);
-        assert!(rt; found == Ok(true), "{} outages", outages.len());
-    }
-}
+// Their marks of each step.
+const MARKS: &[Marks] = &[
+    (0, [false, true, false, false, false]),
+    (1, [false, true, false, false, false]),
+    (2, [false, true, false, false, true]),
+    (3, [false, false, false, false, true]),
+];
 
 // Whether the links of these numbers are left of the network, the second of them being link 2, and all nodes.
 fn is_left(left: &Survivor, net: &Network, origin: &[u32]) -> bool {
@@ -207,12 +140,17 @@ fn leaves(alloc: Global, net: &Network, failed: &[bool], origin: &[u32]) -> Resu
     Ok(is_left(&left, net, origin))
 }
 
+// Outages of four nodes mark their links, and leave the others.
+fn outages_are_judged(rt: &impl Abort, alloc: Global, net: &Network)
+    requires { IsTrue (is_well_formed net.now) }
+{
+    assert!(rt; outages_mark(alloc, net, OUTAGES, MARKS) == Ok(true));
+    let failed = [false, true, false, false, false];
+    assert!(rt; leaves(alloc, net, &failed, &[0, 2, 3, 4]) == Ok(true));
+}
+
 #[test]
 fn outages_of_four_nodes(rt: HostRuntime) {
-    let alloc = rt.alloc();
-    let net = topology::read(alloc, FOUR_NODES).expect(&rt, "four nodes");
-    first_outages_are_told(&rt, alloc, &net);
-    outages_of_a_series_mark(&rt, alloc, &net);
-    let failed = [false, true, false, false, false];
-    assert!(rt; leaves(alloc, &net, &failed, &[0, 2, 3, 4]) == Ok(true));
+    let net = topology::read(rt.alloc(), FOUR_NODES).expect(&rt, "four nodes");
+    outages_are_judged(&rt, rt.alloc(), &net);
 }

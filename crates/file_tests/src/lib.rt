@@ -1,4 +1,4 @@
-//! Tests of the ports, of the words of a seed, of the readers of files, and of what they print. There is nothing else here.
+//! Tests of the ports, of the words of a seed, of what files say, and of what is printed. There is nothing else here.
 #![tactic(auto)]
 
 #[cfg(test)]
@@ -13,7 +13,5 @@ mod plan_tests;
 mod random_words_tests;
 #[cfg(test)]
 mod te_ports_tests;
-#[cfg(test)]
-mod topology_tests;
 #[cfg(test)]
 mod traffic_matrix_tests;
