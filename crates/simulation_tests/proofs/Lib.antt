@@ -1,2 +1,1 @@
 pub mod FlowSimLaws
-pub mod PolishedLaws
