@@ -1,11 +1,10 @@
 //! Certificates that are read one block at a time, against the reader of whole files.
 use crate::blocks::is_same_block;
 use crate::cases::{Case, all_hold};
-use crate::cert_text_tests::{fault_of, is_printed, rule};
 use crate::window_tests::{NEVER, file_of};
 use block_reader::{BlockReader, StreamFault};
 use cert_text::CertFault::{self, Shape};
-use cert_text::read;
+use cert_text::{print, read};
 use std::alloc::{AllocError, Global};
 use te_model::{Block, Certificate, Head, Items, RuleFault};
 use te_ports::{Depot, MemDepot, RecordDepot};
@@ -39,6 +38,16 @@ fn text_of(sample: Sample) -> &'static str {
             "yates-ratio 2\nnodes 3\na\nb\nc\nlinks 4\n0 2 10 1\n1 2 10 1\n0 1 10 1\n1 0 10 1\npairs 2\n0 2 1\n1000000 1 0\n1 2 1\n1000000 1 1\nset box\nlower 10 5\nupper 40 20\nratio 1000000\nblocks 2\n0 500000 1 2\n1 1 0 0\n0 0 0 1\n1 0 0 1\nplus 1 0\nminus 0 1\n1 500000 1 0\n1 1 0 0\nplus 0 1\nminus 1 0\nend\n"
         }
     }
+}
+
+// The fault of a rule, by its number and its place.
+macro_rules! rule {
+    ($number:literal, $place:literal) => {
+        CertFault::Rule(RuleFault {
+            number: $number,
+            place: $place,
+        })
+    };
 }
 
 // A line by its number, and what stands there in its place.
@@ -200,6 +209,18 @@ fn changed(
     match write_changed(&mut text, text_of(sample), changes) {
         Ok(()) => Ok(text),
         Err(fault) => Err(fault),
+    }
+}
+
+fn fault_of(alloc: Global, bytes: &[u8]) -> Option<CertFault> {
+    read(alloc, bytes).err()
+}
+
+// Whether the certificate is printed as this text.
+fn is_printed(alloc: Global, cert: &Certificate, text: &[u8]) -> bool {
+    match print(alloc, cert) {
+        Ok(bytes) => bytes.as_slice() == text,
+        Err(_) => false,
     }
 }
 

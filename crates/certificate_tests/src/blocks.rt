@@ -22,16 +22,3 @@ pub fn is_same_block(block: &Block, other: &Block) -> bool {
     let counters = (block.plus == other.plus) & (block.minus == other.minus);
     numbers & rows & counters & (block.weights == other.weights)
 }
-
-/// Whether the blocks have the same numbers, one by one.
-pub fn are_same_blocks(blocks: &[Block], others: &[Block]) -> bool {
-    if blocks.len() != others.len() {
-        return false;
-    }
-    for place in 0..blocks.len() {
-        if !is_same_block(&blocks[place], &others[place]) {
-            return false;
-        }
-    }
-    true
-}

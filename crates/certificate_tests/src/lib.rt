@@ -1,4 +1,4 @@
-//! Tests of certificates: their rules, their text, the verdict on one, and the making of one. There is nothing else here.
+//! Tests of certificates: their parts, their text, the verdict on one, and the best blocks of one. There is nothing else here.
 #![tactic(auto)]
 
 #[cfg(test)]
@@ -9,8 +9,6 @@ mod blocks;
 mod cases;
 #[cfg(test)]
 mod cert_text_tests;
-#[cfg(test)]
-mod formats;
 #[cfg(test)]
 mod ratio_certificate_tests;
 #[cfg(test)]

@@ -1,15 +1,14 @@
-//! The best blocks of links, what they need, and certificates that are made, each of the straight routes of three nodes.
+//! The best blocks of links and what they need, of the straight routes of three nodes.
 ghost use Rattle.std.specs.Prelude.{◌≡◌, ◌^◌, ◌<◌, ◌≤◌, All, IfOk, length};
 ghost use Rattle.te_model.specs.ThreeNodes.{straight_routes, three_nodes};
 ghost use Rattle.best_blocks.specs.Conditions.{IsSetWithin};
 
-use crate::blocks::are_same_blocks;
 use ratio_certificate::*;
 use routing::Routing;
 use sample_networks::{matrix, straight_routes, three_nodes};
 use std::alloc::{AllocError, Global};
 use std::process::Abort;
-use te_model::{Block, Certificate, DemandSet, Memory, Network, Row};
+use te_model::{Block, DemandSet, Memory, Network, Row};
 
 /// The straight routes as a routing.
 fn straight_routing(alloc: Global) -> Result<Routing, AllocError>
@@ -220,103 +219,17 @@ fn weights_have_these_needs(rt: &impl Abort, alloc: Global, net: &Network, routi
     assert!(rt; is_need(alloc, net, routing, &[0, 0, 0, 0], None));
 }
 
-/// The certificate of the routing over these demands.
-fn made(
-    alloc: Global,
-    net: &Network,
-    routing: &Routing,
-    demands: Demands,
-) -> Result<Certificate, Memory>
-    requires network { net.now ≡ three_nodes }
-    requires routes { routing.now.routes ≡ straight_routes }
-{
-    let set = set_of(alloc, demands)?;
-    make(alloc, net, routing, set)
-}
-
-/// Whether both links with a share have a block, and the ratio is one of these.
-fn is_made_between(certificate: &Certificate, least: u64, most: u64) -> bool {
-    let ratio = certificate.head.ratio;
-    match certificate.blocks.as_slice() {
-        [first, second] => {
-            first.link == 0 && second.link == 1 && least <= ratio && ratio <= most
-        }
-        _ => false,
-    }
-}
-
-/// Whether both links have a block in the certificate of these demands, and its ratio is one of these.
-fn has_ratio_between(
-    alloc: Global,
-    net: &Network,
-    routing: &Routing,
-    demands: Demands,
-    ratios: (u64, u64),
-) -> bool
-    requires network { net.now ≡ three_nodes }
-    requires routes { routing.now.routes ≡ straight_routes }
-{
-    match made(alloc, net, routing, demands) {
-        Ok(certificate) => is_made_between(&certificate, ratios.0, ratios.1),
-        Err(_) => false,
-    }
-}
-
-/// Whether one is of the first format and has a margin, the other of the second and has a box, and ratio and blocks are the same.
-fn are_alike(margin: &Certificate, bounds: &Certificate) -> bool {
-    let formats = (margin.head.format == 1) & (bounds.head.format == 2);
-    let first = matches!(&margin.head.set, DemandSet::Margin { .. });
-    let second = matches!(&bounds.head.set, DemandSet::Box { .. });
-    let ratios = margin.head.ratio == bounds.head.ratio;
-    let blocks = are_same_blocks(margin.blocks.as_slice(), bounds.blocks.as_slice());
-    formats & first & second & ratios & blocks
-}
-
-/// Whether the certificate of the box is like that of the margin.
-fn is_box_like(alloc: Global, net: &Network, routing: &Routing, margin: &Certificate) -> bool
-    requires network { net.now ≡ three_nodes }
-    requires routes { routing.now.routes ≡ straight_routes }
-{
-    match made(alloc, net, routing, Demands::Box) {
-        Ok(bounds) => are_alike(margin, &bounds),
-        Err(_) => false,
-    }
-}
-
-/// Whether the certificates of the margin and of its box have the same blocks.
-fn are_made_alike(alloc: Global, net: &Network, routing: &Routing) -> bool
-    requires network { net.now ≡ three_nodes }
-    requires routes { routing.now.routes ≡ straight_routes }
-{
-    match made(alloc, net, routing, Demands::Margin) {
-        Ok(margin) => is_box_like(alloc, net, routing, &margin),
-        Err(_) => false,
-    }
-}
-
-/// Certificates have nearly the least ratio, which is 2 for every matrix and 1 for multiples of one.
-fn certificates_are_near(rt: &impl Abort, alloc: Global, net: &Network, routing: &Routing)
-    requires network { net.now ≡ three_nodes }
-    requires routes { routing.now.routes ≡ straight_routes }
-{
-    let (all, margin) = ((2_000_000, 2_000_200), (1_000_000, 1_000_100));
-    assert!(rt; has_ratio_between(alloc, net, routing, Demands::All, all));
-    assert!(rt; has_ratio_between(alloc, net, routing, Demands::Margin, margin));
-    assert!(rt; are_made_alike(alloc, net, routing));
-}
-
-/// Best blocks, needs and certificates of the straight routes are as they were found by hand.
+/// Best blocks and needs of the straight routes are as they were found by hand.
 fn straight_routes_are_judged(rt: &impl Abort, alloc: Global, net: &Network)
     requires { net.now ≡ three_nodes }
 {
     let routing = straight_routing(alloc).expect(rt, "a routing");
     all_are_found(rt, alloc, net, &routing);
     weights_have_these_needs(rt, alloc, net, &routing);
-    certificates_are_near(rt, alloc, net, &routing);
 }
 
 #[test]
-fn blocks_needs_and_certificates_are_those_found_by_hand(rt: HostRuntime) {
+fn blocks_and_needs_are_those_found_by_hand(rt: HostRuntime) {
     let net = three_nodes(rt.alloc()).expect(&rt, "a network");
     straight_routes_are_judged(&rt, rt.alloc(), &net);
 }

@@ -1,12 +1,16 @@
-//! The verdict on certificates that keep the rules, yes or no, on the whole and on its blocks one at a time.
+//! The verdict on certificates that keep the rules: that on the whole is that on its blocks one at a time.
 ghost use Rattle.te_model.specs.Validity.{IsValid};
 
 use crate::cases::{Case, all_hold};
-use crate::formats::{FIRST, SECOND};
 use cert_text::{CertFault, read};
 use ratio_checker::{Feed, Finding, verdict};
 use std::alloc::{AllocError, Global};
 use te_model::{Certificate, Memory};
+
+// The first line of each format.
+const FIRST: &str = "yates-ratio 1\n";
+
+const SECOND: &str = "yates-ratio 2\n";
 
 // Two parallel links, each with half of the one pair's demand.
 const PARALLEL: &str =
@@ -20,19 +24,7 @@ const STRAIGHT: &str =
 const OUT_OF_REACH: &str =
     "nodes 3\na\nb\nz\nlinks 2\n0 1 10 1\n2 1 10 1\npairs 1\n0 1 1\n1000000 1 0\n";
 
-// The blocks of three nodes for every matrix.
-const FOR_ALL: &str =
-    "blocks 2\n0 1000000 1 1\n1 1 0 0\n0 0 0 1\n1 1000000 1 1\n1 1 0 0\n1 0 0 1\n";
-
-// Those for equal demands.
-const FOR_EQUAL: &str =
-    "blocks 2\n0 500000 1 2\n1 1 0 0\n0 0 0 1\n1 0 0 1\nplus 1 0\nminus 0 1\n1 500000 1 2\n1 1 0 0\n0 0 0 1\n1 0 0 1\nplus 0 1\nminus 1 0\n";
-
-// The same, where the minus of the first block is too small.
-const FOR_EQUAL_WITHOUT_MINUS: &str =
-    "blocks 2\n0 500000 1 2\n1 1 0 0\n0 0 0 1\n1 0 0 1\nplus 1 0\nminus 0 0\n1 500000 1 2\n1 1 0 0\n0 0 0 1\n1 0 0 1\nplus 0 1\nminus 1 0\n";
-
-// Those for demands of which neither is above twice the other.
+// The blocks of three nodes for demands of which neither is above twice the other.
 const FOR_DOUBLE: &str =
     "blocks 2\n0 1000000 3 2\n2 2 0 0\n0 0 0 2\n1 0 0 2\nplus 1 0\nminus 0 2\n1 1000000 3 2\n2 2 0 0\n0 0 0 2\n1 0 0 2\nplus 0 1\nminus 2 0\n";
 
@@ -40,14 +32,14 @@ const FOR_DOUBLE: &str =
 // that fails, if one does: its link, its number and its place.
 struct Judged<'a>(&'a str, &'a str, &'a str, &'a str, Option<(u32, u8, u64)>);
 
+// One for each inequality, and one that holds for each kind of set.
 const CERTIFICATES: &[Judged] = &[
-    // Each of two parallel links has a share, so neither block can be left out.
     Judged(
         FIRST,
-        PARALLEL,
-        "set all\nratio 2000000\n",
-        "blocks 2\n0 500000 1 1\n1 1\n0 0 1\n1 500000 1 1\n1 1\n0 0 1\n",
-        None,
+        OUT_OF_REACH,
+        "set all\nratio 1000000\n",
+        "blocks 1\n0 1000000 1 1\n1 0\n0 0 1 0\n",
+        Some((0, 1, 2)),
     ),
     Judged(
         FIRST,
@@ -58,63 +50,10 @@ const CERTIFICATES: &[Judged] = &[
     ),
     Judged(
         FIRST,
-        PARALLEL,
-        "set all\nratio 2000000\n",
-        "blocks 1\n1 500000 1 1\n1 1\n0 0 1\n",
-        Some((0, 2, 0)),
-    ),
-    // The ratio of three nodes is 2 for every matrix. A block that is left out fails before a ratio that is too low.
-    Judged(FIRST, STRAIGHT, "set all\nratio 2000000\n", FOR_ALL, None),
-    Judged(
-        FIRST,
         STRAIGHT,
-        "set all\nratio 1999999\n",
-        FOR_ALL,
-        Some((0, 4, 0)),
-    ),
-    Judged(
-        FIRST,
-        STRAIGHT,
-        "set all\nratio 1999999\n",
-        "blocks 1\n1 1000000 1 1\n1 1 0 0\n1 0 0 1\n",
-        Some((0, 2, 0)),
-    ),
-    // It is 1 for equal demands, as a margin or as a box, and the blocks do not hold for larger sets.
-    Judged(
-        FIRST,
-        STRAIGHT,
-        "set margin 1 1\nbase 10 10\nratio 1000000\n",
-        FOR_EQUAL,
-        None,
-    ),
-    Judged(
-        FIRST,
-        STRAIGHT,
-        "set margin 1 1\nbase 10 10\nratio 1000000\n",
-        FOR_EQUAL_WITHOUT_MINUS,
-        Some((0, 3, 0)),
-    ),
-    Judged(
-        SECOND,
-        STRAIGHT,
-        "set box\nlower 10 10\nupper 10 10\nratio 1000000\n",
-        FOR_EQUAL,
-        None,
-    ),
-    Judged(
-        SECOND,
-        STRAIGHT,
-        "set box\nlower 10 10\nupper 20 20\nratio 1000000\n",
-        FOR_EQUAL,
-        Some((0, 3, 0)),
-    ),
-    // It is four thirds, rounded up, where neither demand is above twice the other.
-    Judged(
-        SECOND,
-        STRAIGHT,
-        "set box\nlower 10 10\nupper 20 20\nratio 1333334\n",
+        "set margin 2 1\nbase 10 10\nratio 1333334\n",
         FOR_DOUBLE,
-        None,
+        Some((0, 3, 0)),
     ),
     Judged(
         SECOND,
@@ -123,19 +62,25 @@ const CERTIFICATES: &[Judged] = &[
         FOR_DOUBLE,
         Some((0, 4, 0)),
     ),
-    // The link from z to b has the weight 0, so the potential of z is at least that of b.
     Judged(
         FIRST,
-        OUT_OF_REACH,
-        "set all\nratio 1000000\n",
-        "blocks 1\n0 1000000 1 1\n1 0\n0 0 1 0\n",
-        Some((0, 1, 2)),
+        PARALLEL,
+        "set all\nratio 2000000\n",
+        "blocks 2\n0 500000 1 1\n1 1\n0 0 1\n1 500000 1 1\n1 1\n0 0 1\n",
+        None,
     ),
     Judged(
         FIRST,
-        OUT_OF_REACH,
-        "set all\nratio 1000000\n",
-        "blocks 1\n0 1000000 1 1\n1 0\n0 0 1 1\n",
+        STRAIGHT,
+        "set margin 1 1\nbase 10 10\nratio 1333334\n",
+        FOR_DOUBLE,
+        None,
+    ),
+    Judged(
+        SECOND,
+        STRAIGHT,
+        "set box\nlower 10 10\nupper 20 20\nratio 1333334\n",
+        FOR_DOUBLE,
         None,
     ),
 ];
