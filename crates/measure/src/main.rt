@@ -19,42 +19,20 @@ mod pairs;
 mod paths;
 mod searches;
 mod steps;
+mod subject;
 mod trees;
 
 use crate::matrices::line_of_series;
-use crate::network::NODES;
-use crate::paths::measure_paths;
-use crate::searches::measure_searches;
-use crate::steps::measure_steps;
-use crate::trees::measure_trees;
+use crate::subject::{Subject, measure, subject_of};
 use std::process::ExitCode;
 use std::{env, io};
 use te_ports::{RealDepot, RealSink, put_all};
 
-/// The greatest number of trees.
-const TREES: u32 = 16;
-
-// Measures what the first word names. None where it names nothing.
-fn measure_network(
-    rt: &HostRuntime,
-    what: &str,
-    number: u32,
-    is_timed: bool,
-) -> Option<io::Result<()>> {
-    match what {
-        "trees" => Some(measure_trees(rt, number.clamp(1, TREES), is_timed)),
-        "paths" => Some(measure_paths(rt, number.min(NODES), is_timed)),
-        "steps" => Some(measure_steps(rt, number.min(NODES), is_timed)),
-        "searches" => Some(measure_searches(rt, number.min(NODES), is_timed)),
-        _ => None,
-    }
-}
-
 fn measure_each(rt: &HostRuntime) -> io::Result<()> {
-    measure_trees(rt, 1, false)?;
-    measure_paths(rt, 1, false)?;
-    measure_searches(rt, 1, false)?;
-    measure_steps(rt, 8, false)
+    measure(rt, Subject::Trees, 1, false)?;
+    measure(rt, Subject::Paths, 1, false)?;
+    measure(rt, Subject::Searches, 1, false)?;
+    measure(rt, Subject::Steps, 8, false)
 }
 
 // Measures the reading of two files.
@@ -68,11 +46,36 @@ fn measure_files(rt: HostRuntime, topology: &str, matrices: &str) -> u8 {
     }
 }
 
-fn status_of(printed: Option<io::Result<()>>) -> u8 {
-    match printed {
-        Some(Ok(())) => 0,
-        Some(Err(_)) => 3,
-        None => 2,
+// Measures a small case of each.
+fn measure_all(rt: HostRuntime, topology: &str, matrices: &str) -> u8 {
+    if measure_each(&rt).is_ok() {
+        measure_files(rt, topology, matrices)
+    } else {
+        3
+    }
+}
+
+// Measures what the first word names.
+fn measure_named(rt: &HostRuntime, what: &str, number: &str, is_timed: bool) -> u8 {
+    match (subject_of(what), number.parse::<u32>()) {
+        (Some(subject), Ok(number)) => {
+            if measure(rt, subject, number, is_timed).is_ok() {
+                0
+            } else {
+                3
+            }
+        }
+        _ => 2,
+    }
+}
+
+fn measure_on_network(rt: &HostRuntime, words: &[String]) -> u8 {
+    match words {
+        [what, number] => measure_named(rt, what.as_str(), number.as_str(), false),
+        [what, number, time] if time.as_str() == "time" => {
+            measure_named(rt, what.as_str(), number.as_str(), true)
+        }
+        _ => 2,
     }
 }
 
@@ -81,20 +84,10 @@ fn status_by_words(rt: HostRuntime, words: &[String]) -> u8 {
         [what, topology, matrices] if what.as_str() == "matrices" => {
             measure_files(rt, topology.as_str(), matrices.as_str())
         }
-        [what, topology, matrices] if what.as_str() == "each" => match measure_each(&rt) {
-            Ok(()) => measure_files(rt, topology.as_str(), matrices.as_str()),
-            Err(_) => 3,
-        },
-        [what, number, rest @ ..] => {
-            let is_timed = rest.len() == 1 && rest[0].as_str() == "time";
-            match number.parse::<u32>() {
-                Ok(number) if is_timed || rest.is_empty() => {
-                    status_of(measure_network(&rt, what.as_str(), number, is_timed))
-                }
-                _ => 2,
-            }
+        [what, topology, matrices] if what.as_str() == "each" => {
+            measure_all(rt, topology.as_str(), matrices.as_str())
         }
-        _ => 2,
+        _ => measure_on_network(&rt, words),
     }
 }
 

@@ -2,12 +2,12 @@
 ghost use Rattle.std.specs.Prelude.{◌≡◌, ◌<◌, ◌≤◌, IsTrue};
 ghost use Rattle.te_model.specs.Network.{is_well_formed, node_count};
 
-use crate::network::{NODES, network};
+use crate::network::NODES;
 use k_paths::k_least;
 use std::alloc::Global;
 use std::io;
 use std::time::Instant;
-use te_model::{Network, well_formed};
+use te_model::Network;
 
 const PATHS: u32 = 4;
 
@@ -48,9 +48,14 @@ fn print_links(rt: &HostRuntime, net: &Network) -> io::Result<()> {
     Ok(())
 }
 
-// Prints how many paths the pairs have, and if `is_timed` the links before that, and after it how many microseconds the
-// search took.
-fn search(rt: &HostRuntime, net: &Network, sources: u32, is_timed: bool) -> io::Result<()>
+/// Prints how many paths the pairs of the first `sources` nodes have. If `is_timed` it prints before that the links,
+/// one on each line as `tail head cost`, and after it how many microseconds the search took.
+pub fn measure_paths(
+    rt: &HostRuntime,
+    net: &Network,
+    sources: u32,
+    is_timed: bool,
+) -> io::Result<()>
     requires network { IsTrue (is_well_formed net.now) }
     requires nodes { node_count net.now ≡ 64 }
     requires sources { sources ≤ 64 }
@@ -63,19 +68,8 @@ fn search(rt: &HostRuntime, net: &Network, sources: u32, is_timed: bool) -> io::
     let microseconds = start.elapsed(rt)?.as_micros();
     println!(rt; "{count}")?;
     if is_timed {
-        println!(rt; "{microseconds}")?;
+        println!(rt; "{microseconds}")
+    } else {
+        Ok(())
     }
-    Ok(())
-}
-
-/// Prints how many paths the pairs of the first `sources` nodes have. If `is_timed` it prints before that the links,
-/// one on each line as `tail head cost`, and after it how many microseconds the search took.
-pub fn measure_paths(rt: &HostRuntime, sources: u32, is_timed: bool) -> io::Result<()>
-    requires { sources ≤ 64 }
-{
-    let net = network(rt.alloc(), 10, 90)?;
-    if net.names.as_slice().len() == 64 && well_formed(&net) {
-        search(rt, &net, sources, is_timed)?;
-    }
-    Ok(())
 }

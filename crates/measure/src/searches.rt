@@ -1,18 +1,44 @@
 //! Least walks from all nodes of the network to some: each with first links of its own, and by lent searches.
-ghost use Rattle.std.specs.Prelude.{◌≡◌, ◌<◌, ◌≤◌, IsTrue};
-ghost use Rattle.te_model.specs.Network.{is_well_formed, node_count};
+ghost use Rattle.std.specs.Prelude.{◌≡◌, ◌<◌, ◌≤◌, ◌^◌, All, IsTrue, length};
+ghost use Rattle.te_model.specs.Network.{is_well_formed, link_count, node_count};
 ghost use Rattle.shortest_path.specs.declared.rows.Direction.TheVariants.{Backward};
+ghost use Rattle.shortest_path.specs.Links.{HasSoundLinks};
 ghost use Rattle.shortest_path.specs.Rows.{IsSearchGraph};
 
-use crate::network::{NODES, network};
+use crate::network::NODES;
 use shortest_path::{Direction, Searches, costs, follow, toward, way_from, ways_to};
 use std::alloc::Global;
 use std::io;
 use std::time::Instant;
-use te_model::{Memory, Network, well_formed};
+use te_model::{Memory, Network};
 
-// How many links the least walks to a node have. Each is sought alone.
-#[tactic(auto, using(shortest_path::proofs::Sound::sound, crate::proofs::CostLimits::costs_limit))]
+// How many links the least walks to a node have by these lengths. Each is sought alone.
+fn links_over(
+    alloc: Global,
+    net: &Network,
+    lengths: &[u64],
+    open: &[bool],
+    dst: u32,
+) -> Result<usize, Memory>
+    requires sound { HasSoundLinks net.now }
+    requires nodes { node_count net.now ≡ 64 }
+    requires lengths { length lengths.now ≡ link_count net.now }
+    requires marks { length «open».now ≡ link_count net.now }
+    requires positive { All (λ l. 1 ≤ l) lengths.now }
+    requires limit { All (λ l. l ≤ 2 ^ 28) lengths.now }
+    requires dst { dst < 64 }
+{
+    let sums = toward(alloc, net, lengths, open, dst)?;
+    let mut count = 0usize;
+    for src in 0..NODES {
+        if let Some(path) = follow(alloc, net, lengths, open, &sums, src, dst)? {
+            count = count.wrapping_add(path.links.as_slice().len());
+        }
+    }
+    Ok(count)
+}
+
+// How many links the least walks to a node have by cost. Each is sought alone.
 fn links_alone(alloc: Global, net: &Network, dst: u32) -> Result<usize, Memory>
     requires network { IsTrue (is_well_formed net.now) }
     requires nodes { node_count net.now ≡ 64 }
@@ -20,18 +46,10 @@ fn links_alone(alloc: Global, net: &Network, dst: u32) -> Result<usize, Memory>
 {
     let lengths = costs(alloc, net)?;
     let open = vec![in alloc; true; net.links.as_slice().len()]?;
-    let sums = toward(alloc, net, &lengths, &open, dst)?;
-    let mut count = 0usize;
-    for src in 0..NODES {
-        if let Some(path) = follow(alloc, net, &lengths, &open, &sums, src, dst)? {
-            count = count.wrapping_add(path.links.as_slice().len());
-        }
-    }
-    Ok(count)
+    links_over(alloc, net, &lengths, &open, dst)
 }
 
 // The same by lent searches, with the first links of all walks at once.
-#[tactic(auto, using(shortest_path::proofs::Sound::sound))]
 fn links_together(
     alloc: Global,
     net: &Network,
@@ -68,7 +86,6 @@ fn all_alone(alloc: Global, net: &Network, targets: u32) -> Result<usize, Memory
 }
 
 // The same of those that are sought together.
-#[tactic(auto, using(shortest_path::proofs::Sound::sound))]
 fn all_together(alloc: Global, net: &Network, targets: u32) -> Result<usize, Memory>
     requires network { IsTrue (is_well_formed net.now) }
     requires nodes { node_count net.now ≡ 64 }
@@ -82,8 +99,14 @@ fn all_together(alloc: Global, net: &Network, targets: u32) -> Result<usize, Mem
     Ok(count)
 }
 
-// Prints how many links the walks have, and if `is_timed` how many microseconds they took alone and together.
-fn search(rt: &HostRuntime, net: &Network, targets: u32, is_timed: bool) -> io::Result<()>
+/// Prints how many links the least walks from all nodes to the first `targets` have, sought alone and together, and if `is_timed`
+/// how many microseconds each took.
+pub fn measure_searches(
+    rt: &HostRuntime,
+    net: &Network,
+    targets: u32,
+    is_timed: bool,
+) -> io::Result<()>
     requires network { IsTrue (is_well_formed net.now) }
     requires nodes { node_count net.now ≡ 64 }
     requires targets { targets ≤ 64 }
@@ -91,25 +114,14 @@ fn search(rt: &HostRuntime, net: &Network, targets: u32, is_timed: bool) -> io::
     let alloc = rt.alloc();
     let start = Instant::now(rt)?;
     let alone = all_alone(alloc, net, targets).unwrap_or(0);
-    let of_alone = start.elapsed(rt)?.as_micros();
-    let start = Instant::now(rt)?;
+    let between = Instant::now(rt)?;
     let together = all_together(alloc, net, targets).unwrap_or(0);
-    let of_together = start.elapsed(rt)?.as_micros();
+    let of_together = between.elapsed(rt)?.as_micros();
+    let of_alone = between.duration_since(start).as_micros();
     println!(rt; "{alone} {together}")?;
     if is_timed {
-        println!(rt; "{of_alone} {of_together}")?;
+        println!(rt; "{of_alone} {of_together}")
+    } else {
+        Ok(())
     }
-    Ok(())
-}
-
-/// Prints how many links the least walks from all nodes to the first `targets` have, sought alone and together, and if `is_timed`
-/// how many microseconds each took.
-pub fn measure_searches(rt: &HostRuntime, targets: u32, is_timed: bool) -> io::Result<()>
-    requires { targets ≤ 64 }
-{
-    let net = network(rt.alloc(), 10, 90)?;
-    if net.names.as_slice().len() == 64 && well_formed(&net) {
-        search(rt, &net, targets, is_timed)?;
-    }
-    Ok(())
 }

@@ -1,10 +1,10 @@
 //! Simulated steps of the network, with four paths for each pair.
 ghost use Rattle.std.specs.Prelude.{◌≡◌, ◌≤◌, ◌^◌, IfOk, IsTrue, EachIndex, length, slice_index};
-ghost use Rattle.te_model.specs.Network.{is_well_formed, link_count};
+ghost use Rattle.te_model.specs.Network.{is_well_formed, link_count, node_count};
 ghost use Rattle.scheme.specs.Reach.{ArePairsOf};
 ghost use Rattle.local_recovery.specs.Rates.{ArePairs, IsRates};
 
-use crate::network::{network, next_number};
+use crate::network::next_number;
 use crate::pairs::pairs_from;
 use flow_sim::step;
 use k_paths::Ksp;
@@ -14,7 +14,7 @@ use shortest_path::{costs, least_path};
 use std::alloc::{AllocError, Global};
 use std::io;
 use std::time::Instant;
-use te_model::{Items, Matrix, Memory, Network, Pairs, well_formed};
+use te_model::{Items, Matrix, Memory, Network, Pairs};
 
 // How many steps are timed.
 const STEPS: u32 = 20;
@@ -129,24 +129,52 @@ fn simulate(
         let start = Instant::now(rt)?;
         let _ = least_paths(alloc, net, pairs);
         let of_least = start.elapsed(rt)?.as_micros();
-        println!(rt; "{of_steps} {of_least}")?;
+        println!(rt; "{of_steps} {of_least}")
+    } else {
+        Ok(())
     }
-    Ok(())
+}
+
+// Prints the same for demands of the pairs of these rates.
+fn simulate_rates(
+    rt: &HostRuntime,
+    net: &Network,
+    pairs: &Pairs,
+    rates: &Recovered,
+    is_timed: bool,
+) -> io::Result<()>
+    requires network { IsTrue (is_well_formed net.now) }
+    requires pairs { ArePairsOf net.now pairs.now.list }
+    requires rates { IsRates net.now rates.now.routes }
+{
+    let matrix = demands(rt.alloc(), rates.routes.as_slice().len())?;
+    simulate(rt, net, pairs, rates, &matrix, is_timed)
+}
+
+// Prints the same of the pairs, where their routing is found.
+fn simulate_pairs(rt: &HostRuntime, net: &Network, pairs: &Pairs, is_timed: bool) -> io::Result<()>
+    requires network { IsTrue (is_well_formed net.now) }
+    requires pairs { ArePairsOf net.now pairs.now.list }
+    requires ascending { ArePairs net.now pairs.now.list }
+{
+    match rates_of(rt.alloc(), net, pairs) {
+        Ok(rates) => simulate_rates(rt, net, pairs, &rates, is_timed),
+        Err(_) => Ok(()),
+    }
 }
 
 /// Prints how many units of the pairs of the first `sources` nodes were offered, delivered and lost on full links in a
 /// step, and if `is_timed` how many microseconds 20 steps took, and how many the least paths of the same pairs.
-pub fn measure_steps(rt: &HostRuntime, sources: u32, is_timed: bool) -> io::Result<()>
-    requires { sources ≤ 64 }
+pub fn measure_steps(
+    rt: &HostRuntime,
+    net: &Network,
+    sources: u32,
+    is_timed: bool,
+) -> io::Result<()>
+    requires network { IsTrue (is_well_formed net.now) }
+    requires nodes { node_count net.now ≡ 64 }
+    requires sources { sources ≤ 64 }
 {
-    let alloc = rt.alloc();
-    let net = network(alloc, 10_000, 90_000)?;
-    if net.names.as_slice().len() == 64 && well_formed(&net) {
-        let pairs = pairs_from(alloc, &net, sources)?;
-        if let Ok(rates) = rates_of(alloc, &net, &pairs) {
-            let matrix = demands(alloc, rates.routes.as_slice().len())?;
-            simulate(rt, &net, &pairs, &rates, &matrix, is_timed)?;
-        }
-    }
-    Ok(())
+    let pairs = pairs_from(rt.alloc(), net, sources)?;
+    simulate_pairs(rt, net, &pairs, is_timed)
 }

@@ -1,9 +1,9 @@
 //! The mix of decomposition trees of the network, and all pairs over it.
-ghost use Rattle.std.specs.Prelude.{◌≤◌, IsTrue};
-ghost use Rattle.te_model.specs.Network.{is_well_formed};
+ghost use Rattle.std.specs.Prelude.{◌≡◌, ◌≤◌, IsTrue};
+ghost use Rattle.te_model.specs.Network.{is_well_formed, node_count};
 ghost use Rattle.scheme.specs.Reach.{ArePairsOf};
 
-use crate::network::{NODES, network};
+use crate::network::NODES;
 use crate::pairs::pairs_from;
 use racke_mix::Racke;
 use routing::Routing;
@@ -11,7 +11,7 @@ use scheme::{Oblivious, Scheme, Spf};
 use std::alloc::Global;
 use std::io;
 use std::time::Instant;
-use te_model::{Network, Pairs, well_formed};
+use te_model::{Network, Pairs};
 
 fn count_paths(routing: &Routing) -> usize {
     let mut count = 0usize;
@@ -53,22 +53,20 @@ fn mix(
         let start = Instant::now(rt)?;
         let _ = paths_by(alloc, &Spf, net, pairs);
         let of_least = start.elapsed(rt)?.as_micros();
-        println!(rt; "{of_mix} {of_least}")?;
+        println!(rt; "{of_mix} {of_least}")
+    } else {
+        Ok(())
     }
-    Ok(())
 }
 
 /// Prints how many paths the pairs have over a mix of so many trees, and if `is_timed` how many microseconds the mix
 /// took, and how many the least paths of all pairs.
-pub fn measure_trees(rt: &HostRuntime, trees: u32, is_timed: bool) -> io::Result<()>
+pub fn measure_trees(rt: &HostRuntime, net: &Network, trees: u32, is_timed: bool) -> io::Result<()>
+    requires network { IsTrue (is_well_formed net.now) }
+    requires nodes { node_count net.now ≡ 64 }
     requires some { 1 ≤ trees }
     requires few { trees ≤ 16 }
 {
-    let alloc = rt.alloc();
-    let net = network(alloc, 10, 90)?;
-    if net.names.as_slice().len() == 64 && well_formed(&net) {
-        let pairs = pairs_from(alloc, &net, NODES)?;
-        mix(rt, &net, &pairs, &Racke { trees, seed: 7 }, is_timed)?;
-    }
-    Ok(())
+    let pairs = pairs_from(rt.alloc(), net, NODES)?;
+    mix(rt, net, &pairs, &Racke { trees, seed: 7 }, is_timed)
 }
