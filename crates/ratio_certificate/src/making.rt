@@ -1,5 +1,5 @@
 //! The making of certificates.
-ghost use Rattle.std.specs.Prelude.{◌≡◌, ◌*◌, ◌^◌, ◌≤◌, IfOk, IsTrue, length};
+ghost use Rattle.std.specs.Prelude.{◌≡◌, ◌*◌, ◌^◌, ◌≤◌, IfOk, IsTrue, OnOk, length};
 ghost use Rattle.te_model.specs.Network.{is_well_formed, link_count};
 ghost use Rattle.routing.specs.Shares.{AreShares};
 ghost use Rattle.best_blocks.specs.Best.{IsBestBlock};
@@ -77,22 +77,22 @@ fn best_rounds(
     Ok(list)
 }
 
-/// Weights that are searched for, and then polished, of the links and weights at the start.
+/// Puts weights that are searched for, and then polished, in place of those of the links.
 #[tactic(auto, using(crate::proofs::Searched::own_weightings, crate::proofs::Searched::weightings_after))]
 fn improve(
     alloc: Global,
     problem: &Problem,
     links: &[SharedLink],
-    start: Vec<Weighting>,
-) -> Result<Vec<Weighting>, Memory>
+    list: &mut [Weighting],
+) -> Result<(), Memory>
     requires links { AreLinksOf problem.now links.now }
-    requires start { AreWeightingsOf problem.now links.now start.items start.items }
-    ensures list { IfOk result (λ l. AreWeightingsOf problem.now links.now start.items l.items) }
-    ensures done { IfOk result (λ l. IsDoneOf problem.now l.items) }
+    requires list { AreWeightingsOf problem.now links.now list.old list.old }
+    ensures list { OnOk result (AreWeightingsOf problem.now links.now list.old list.new) }
+    ensures done { OnOk result (IsDoneOf problem.now list.new) }
 {
-    let searched = search(alloc, problem, links, start)?;
-    let list = polish(alloc, problem, links, searched)?;
-    Ok(list)
+    search(alloc, problem, links, list)?;
+    polish(alloc, problem, links, list)?;
+    Ok(())
 }
 
 /// What stands for a block that is not there.
@@ -178,10 +178,9 @@ fn polished_blocks(alloc: Global, problem: &Problem) -> Result<Vec<Block>, Memor
     ensures small { IfOk result (λ b. ArePaidBy (1000000 * 2 ^ 42) problem.now.net.now b.items) }
 {
     let links = links_of(alloc, problem)?;
-    let start = best_rounds(alloc, problem, &links)?;
-    let list = improve(alloc, problem, &links, start)?;
-    let blocks = blocks_of(alloc, problem, &links, &list)?;
-    Ok(blocks)
+    let mut list = best_rounds(alloc, problem, &links)?;
+    improve(alloc, problem, &links, &mut list)?;
+    blocks_of(alloc, problem, &links, &list)
 }
 
 /// The head of a certificate, with copies of the network and the routes.

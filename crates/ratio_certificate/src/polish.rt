@@ -1,5 +1,5 @@
 //! The polish: the first weights of the greatest need are doubled until they are fine, and then changed one by one while that improves their need.
-ghost use Rattle.std.specs.Prelude.{◌≡◌, ◌^◌, ◌<◌, ◌≤◌, ℕ, IfOk, IfSome, IfNone, true, false, length, slice_index};
+ghost use Rattle.std.specs.Prelude.{◌≡◌, ◌^◌, ◌<◌, ◌≤◌, ℕ, IfOk, IfSome, IfNone, OnOk, true, false, length, slice_index};
 ghost use Rattle.te_model.specs.Network.{link_count};
 ghost use Rattle.ratio_certificate.specs.Places.{weighting_at};
 ghost use Rattle.ratio_certificate.specs.Polished.{IsFine, IsWorst};
@@ -215,27 +215,26 @@ fn next_step(
     }
 }
 
-/// Weights that are polished, of the links and weights at the start.
+/// Polishes the weights of the links.
 pub fn polish(
     alloc: Global,
     problem: &Problem,
     links: &[SharedLink],
-    start: Vec<Weighting>,
-) -> Result<Vec<Weighting>, Memory>
+    list: &mut [Weighting],
+) -> Result<(), Memory>
     requires links { AreLinksOf problem.now links.now }
-    requires start { AreWeightingsOf problem.now links.now start.items start.items }
-    ensures list { IfOk result (λ l. AreWeightingsOf problem.now links.now start.items l.items) }
-    ensures done { IfOk result (λ l. IsDoneOf problem.now l.items) }
+    requires list { AreWeightingsOf problem.now links.now list.old list.old }
+    ensures list { OnOk result (AreWeightingsOf problem.now links.now list.old list.new) }
+    ensures done { OnOk result (IsDoneOf problem.now list.new) }
 {
-    let mut list = start;
     let mut from = 0;
     loop {
-        match next_step(alloc, problem, links, &list, from)? {
+        match next_step(alloc, problem, links, list, from)? {
             Some(step) => {
                 list[step.place] = step.weighting;
                 from = step.from;
             }
-            None => return Ok(list),
+            None => return Ok(()),
         }
     }
 }

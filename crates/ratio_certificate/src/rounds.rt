@@ -1,11 +1,11 @@
 //! The rounds of a link, and the best of them.
-ghost use Rattle.std.specs.Prelude.{◌≡◌, ◌*◌, ◌+◌, ◌^◌, ◌<◌, ◌≤◌, IfOk};
+ghost use Rattle.std.specs.Prelude.{◌≡◌, ◌*◌, ◌+◌, ◌^◌, ◌<◌, ◌≤◌, IfOk, OnOk};
 ghost use Rattle.ratio_certificate.specs.Problems.{IsLinkOf, IsProblem, IsWeightingOf};
 ghost use Rattle.ratio_certificate.specs.Rising.{AreRoundsTo, IsRoundMetric, NeedsNoMore};
 
 use crate::problem::Problem;
 use crate::raising::next_round;
-use crate::weighting::{Weighting, lesser, weighting_of};
+use crate::weighting::{Weighting, keep_lesser, weighting_of};
 use best_blocks::{Metric, SharedLink, metric_after, metric_of};
 use std::alloc::Global;
 use te_model::Memory;
@@ -78,24 +78,43 @@ fn start(alloc: Global, problem: &Problem, shared: &SharedLink) -> Result<Rounds
     Ok(Rounds { metric, best })
 }
 
-/// The rounds after one more.
+/// Makes one more round.
 fn advance(
     alloc: Global,
     problem: &Problem,
     shared: &SharedLink,
-    rounds: Rounds,
+    rounds: &mut Rounds,
     round: usize,
-) -> Result<Rounds, Memory>
+) -> Result<(), Memory>
     requires problem { IsProblem problem.now }
     requires shared { IsLinkOf problem.now shared.now }
-    requires rounds { AreRoundsTo round problem.now.net.now problem.now.routing.now.routes problem.now.set.now shared.now rounds }
+    requires rounds { AreRoundsTo round problem.now.net.now problem.now.routing.now.routes problem.now.set.now shared.now rounds.old }
     requires round { round < 15 }
-    ensures { IfOk result (AreRoundsTo (round + 1) problem.now.net.now problem.now.routing.now.routes problem.now.set.now shared.now) }
+    ensures { OnOk result (AreRoundsTo (round + 1) problem.now.net.now problem.now.routing.now.routes problem.now.set.now shared.now rounds.new) }
 {
     let metric = next_metric(alloc, problem, shared, &rounds.metric, round)?;
     let found = weighting_of(alloc, problem, shared, &metric)?;
-    let best = lesser(rounds.best, found);
-    Ok(Rounds { metric, best })
+    rounds.metric = metric;
+    keep_lesser(&mut rounds.best, found);
+    Ok(())
+}
+
+/// Makes the rounds after round 0.
+fn make_rounds(
+    alloc: Global,
+    problem: &Problem,
+    shared: &SharedLink,
+    rounds: &mut Rounds,
+) -> Result<(), Memory>
+    requires problem { IsProblem problem.now }
+    requires shared { IsLinkOf problem.now shared.now }
+    requires rounds { AreRoundsTo 0 problem.now.net.now problem.now.routing.now.routes problem.now.set.now shared.now rounds.old }
+    ensures { OnOk result (AreRoundsTo 15 problem.now.net.now problem.now.routing.now.routes problem.now.set.now shared.now rounds.new) }
+{
+    for k in 0..ROUNDS - 1 {
+        advance(alloc, problem, shared, rounds, k)?;
+    }
+    Ok(())
 }
 
 /// The weights of the round that needs least, the first of equal ones.
@@ -112,8 +131,6 @@ pub fn best_round(
     ensures small { IfOk result (λ w. w.need ≤ 1000000 * 2 ^ 42) }
 {
     let mut rounds = start(alloc, problem, shared)?;
-    for k in 0..ROUNDS - 1 {
-        rounds = advance(alloc, problem, shared, rounds, k)?;
-    }
+    make_rounds(alloc, problem, shared, &mut rounds)?;
     Ok(rounds.best)
 }

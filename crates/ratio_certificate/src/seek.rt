@@ -1,16 +1,17 @@
 //! The search for weights of a link that need little: sweeps, in each of which the worst matrix takes least ways, and the weights
 //! of the links that it uses most grow.
-ghost use Rattle.std.specs.Prelude.{◌≡◌, ◌^◌, ◌<◌, ◌≤◌, IfOk, length};
+ghost use Rattle.std.specs.Prelude.{◌≡◌, ◌^◌, ◌<◌, ◌≤◌, IfOk, OnOk, length};
 ghost use Rattle.te_model.specs.Network.{link_count};
 ghost use Rattle.centred_steps.specs.Loads.{AreLoadsWithin};
+ghost use Rattle.centred_steps.specs.Ways.{AreLastLinks};
 ghost use Rattle.centred_steps.specs.Weights.{AreWeightsUpTo};
 ghost use Rattle.ratio_certificate.specs.Problems.{IsLinkOf, IsMetricOf, IsProblem, IsWeightingOf};
 ghost use Rattle.ratio_certificate.specs.Searching.{IsSearchOf};
 
 use crate::problem::Problem;
-use crate::response::{Pricing, no_ways};
+use crate::response::{Pricing, Ways, no_ways};
 use crate::rounds::first_metric;
-use crate::weighting::{Weighting, lesser, weighting_of};
+use crate::weighting::{Weighting, keep_lesser, weighting_of};
 use best_blocks::{Metric, Scale, SharedLink, metric_of};
 use centred_steps::{has_load, step_weights};
 use std::alloc::Global;
@@ -84,35 +85,32 @@ fn metric_after_step(
     )
 }
 
-/// The search after a sweep, whose loads these are.
+/// Moves the weights of the search by a step after a sweep, whose loads these are.
 fn advance(
     alloc: Global,
     problem: &Problem,
     shared: &SharedLink,
-    search: Search,
+    search: &mut Search,
     loads: &[u128],
     parts: u64,
-) -> Result<Search, Memory>
+) -> Result<(), Memory>
     requires problem { IsProblem problem.now }
     requires shared { IsLinkOf problem.now shared.now }
-    requires search { IsSearchOf problem.now shared.now search }
+    requires search { IsSearchOf problem.now shared.now search.old }
     requires loads { AreLoadsWithin problem.now.net.now loads.now }
     requires parts { (1 ≤ parts) × (parts ≤ 128) }
-    ensures { IfOk result (IsSearchOf problem.now shared.now) }
+    ensures { OnOk result (IsSearchOf problem.now shared.now search.new) }
 {
     let old = &search.metric;
     let metric = metric_after_step(alloc, problem, shared, old, loads, parts)?;
     let found = weighting_of(alloc, problem, shared, &metric)?;
-    let scale = Scale {
+    search.metric = metric;
+    search.scale = Scale {
         a: found.a,
         b: found.b,
     };
-    let best = lesser(search.best, found);
-    Ok(Search {
-        metric,
-        scale,
-        best,
-    })
+    keep_lesser(&mut search.best, found);
+    Ok(())
 }
 
 /// The parts of the next step: twice as many where a stage ends.
@@ -127,6 +125,83 @@ fn next_parts(parts: u64, sweep: usize, sweeps: usize) -> u64
     } else {
         parts
     }
+}
+
+/// Writes the loads of the worst matrix for the weights of the search, which is the nearer the greater the parts of a step are.
+fn respond_to(
+    problem: &Problem,
+    shared: &SharedLink,
+    search: &Search,
+    parts: u64,
+    ways: &mut Ways,
+    loads: &mut [u128],
+)
+    requires problem { IsProblem problem.now }
+    requires shared { IsLinkOf problem.now shared.now }
+    requires search { IsSearchOf problem.now shared.now search.now }
+    requires parts { (1 ≤ parts) × (parts ≤ 128) }
+    requires ways { AreLastLinks problem.now.net.now ways.old.lasts.items }
+    requires loads { AreLoadsWithin problem.now.net.now loads.old }
+    ensures ways { AreLastLinks problem.now.net.now ways.new.lasts.items }
+    ensures loads { AreLoadsWithin problem.now.net.now loads.new }
+{
+    let pricing = Pricing {
+        problem: *problem,
+        shared,
+        metric: &search.metric,
+        scale: search.scale,
+        near: 2 * u128::from(parts),
+    };
+    pricing.respond(ways, loads);
+}
+
+/// Goes on with the search by stages of sweeps, until the floor is reached or no link has a load. `ways` and `loads` are room
+/// for what each sweep finds.
+fn make_sweeps(
+    alloc: Global,
+    problem: &Problem,
+    shared: &SharedLink,
+    floor: u128,
+    search: &mut Search,
+    ways: &mut Ways,
+    loads: &mut [u128],
+) -> Result<(), Memory>
+    requires problem { IsProblem problem.now }
+    requires shared { IsLinkOf problem.now shared.now }
+    requires search { IsSearchOf problem.now shared.now search.old }
+    requires ways { AreLastLinks problem.now.net.now ways.old.lasts.items }
+    requires loads { AreLoadsWithin problem.now.net.now loads.old }
+    ensures { OnOk result (IsSearchOf problem.now shared.now search.new) }
+{
+    let sweeps = (SWEEPS + loads.len() / 2).min(MAX_SWEEPS);
+    let mut parts = 1;
+    for i in 0..STAGES * sweeps {
+        respond_to(problem, shared, search, parts, ways, loads);
+        if search.best.need <= floor || !has_load(loads) {
+            return Ok(());
+        }
+        advance(alloc, problem, shared, search, loads, parts)?;
+        parts = next_parts(parts, i, sweeps);
+    }
+    Ok(())
+}
+
+/// Goes on with the search to its end.
+fn finish(
+    alloc: Global,
+    problem: &Problem,
+    shared: &SharedLink,
+    floor: u128,
+    search: &mut Search,
+) -> Result<(), Memory>
+    requires problem { IsProblem problem.now }
+    requires shared { IsLinkOf problem.now shared.now }
+    requires search { IsSearchOf problem.now shared.now search.old }
+    ensures { OnOk result (IsSearchOf problem.now shared.now search.new) }
+{
+    let mut loads = vec![in alloc; 0; problem.net.links.as_slice().len()]?;
+    let mut ways = no_ways(alloc, problem.net)?;
+    make_sweeps(alloc, problem, shared, floor, search, &mut ways, &mut loads)
 }
 
 /// Weights of the link that need little, sought by stages of sweeps whose steps grow ever smaller. The search ends early where
@@ -144,27 +219,7 @@ pub fn seek(
     ensures link { IfOk result (λ w. w.link ≡ shared.now.link) }
     ensures weighting { IfOk result (IsWeightingOf problem.now) }
 {
-    let links = problem.net.links.as_slice().len();
-    let sweeps = (SWEEPS + links / 2).min(MAX_SWEEPS);
-    let mut loads = vec![in alloc; 0; links]?;
-    let mut ways = no_ways(alloc, problem.net)?;
     let mut search = start(alloc, problem, shared)?;
-    let mut parts = 1;
-    for i in 0..STAGES * sweeps {
-        let near = 2 * u128::from(parts);
-        let pricing = Pricing {
-            problem: *problem,
-            shared,
-            metric: &search.metric,
-            scale: search.scale,
-            near,
-        };
-        pricing.respond(&mut ways, &mut loads);
-        if search.best.need <= floor || !has_load(&loads) {
-            return Ok(search.best);
-        }
-        search = advance(alloc, problem, shared, search, &loads, parts)?;
-        parts = next_parts(parts, i, sweeps);
-    }
+    finish(alloc, problem, shared, floor, &mut search)?;
     Ok(search.best)
 }

@@ -66,14 +66,12 @@ pub fn weighting_of(
     })
 }
 
-/// The one that needs less, and the first if they need the same.
-pub fn lesser(first: Weighting, second: Weighting) -> Weighting
-    ensures first { first.need ≤ second.need → result ≡ first }
-    ensures second { second.need < first.need → result ≡ second }
+/// Puts the other weights in place of the best ones, if they need less.
+pub fn keep_lesser(best: &mut Weighting, found: Weighting)
+    ensures same { best.old.need ≤ found.need → best.new ≡ best.old }
+    ensures lesser { found.need < best.old.need → best.new ≡ found }
 {
-    if second.need < first.need {
-        second
-    } else {
-        first
+    if found.need < best.need {
+        *best = found;
     }
 }

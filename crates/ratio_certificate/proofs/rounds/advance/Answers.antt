@@ -10,11 +10,11 @@ returns c =
     let set = c.args.problem.now.set.now in
     let l = c.args.shared.now in
     let m = c.in_ok-metric.metric in
-    let best = c.args.rounds.best in
+    let best = c.args.rounds.now.best in
     let found = c.in_ok-found.found in
-    let lesser = c.lesser-best.result in
-    let keeps = c.lesser-best.ensures.first in
-    let takes = c.lesser-best.ensures.second in
+    let lesser = c.keep_lesser.new.best in
+    let keeps = c.keep_lesser.ensures.same in
+    let takes = c.keep_lesser.ensures.lesser in
     record {
       metric = c.in_ok-metric.ensures;
       link = lesser_is (λ w. w.link ≡ l.link) best found lesser keeps takes c.requires.rounds.link c.in_ok-found.ensures.link;

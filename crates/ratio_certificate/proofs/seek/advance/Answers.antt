@@ -14,10 +14,10 @@ returns c =
     let routes = c.args.problem.now.routing.now.routes in
     let set = c.args.problem.now.set.now in
     let found = c.in_ok-found.found in
-    let best = c.args.search.best in
-    let lesser = c.lesser-best.result in
-    let keeps = c.lesser-best.ensures.first in
-    let takes = c.lesser-best.ensures.second in
+    let best = c.args.search.now.best in
+    let lesser = c.keep_lesser.new.best in
+    let keeps = c.keep_lesser.ensures.same in
+    let takes = c.keep_lesser.ensures.lesser in
     record {
       metric = c.in_ok-metric.ensures.metric;
       weights = c.in_ok-metric.ensures.weights;
