@@ -9,7 +9,7 @@ use Rattle.te_model.specs.declared.route.PairRoutes.{PairRoutes}
 use Rattle.te_model.specs.declared.route.Path.{Path}
 use Rattle.te_model.specs.declared.demand.DemandSet.{DemandSet}
 use Rattle.te_model.specs.declared.demand.DemandSet.TheVariants.{All as AllMatrices, Margin, Box}
-use Rattle.te_model.specs.Network.{is_well_formed, link_count, capacity_of}
+use Rattle.te_model.specs.Network.{is_well_formed, link_count, capacity_of, node_count}
 use Rattle.te_model.specs.Path.{has_number, no_routes, source_of, destination_of}
 use Rattle.te_model.proofs.Chains.{chains_of_path, path_links}
 use Rattle.te_model.proofs.WellFormed.{capacities_positive}
@@ -93,6 +93,21 @@ dearest_path net routes read l m xs ds ws d at found o is_xs is_ds is_ws is_read
       where
         within : (a : ℕ) × (b : ℕ) × IsGreatestAt (length routes) (slice_index l.shares) (slice_index m.distances) d a b → d < length routes
         within (a, b, is) = subst (λ p. p < length routes) is.1 is.0.within
+
+-- the nodes of its pair, by the lists that were read
+pub dearest_nodes : (net : Network) (routes read : List PairRoutes) (xs ds : List ℕ) (d : ℕ) (at : PairRoutes) → length xs ≡ length routes → read ≡ routes →
+    IsRoutingWithin net routes → (a : ℕ) × (b : ℕ) × IsGreatestAt (length xs) (slice_index xs) (slice_index ds) d a b →
+    ((get_or read d at).pair.src < node_count net) × ((get_or read d at).pair.dst < node_count net) × ((get_or read d at).pair.src ≡ (get_or read d at).pair.dst → ⊥)
+dearest_nodes net routes read xs ds d at count is_read within (a, b, is) =
+    let below : d < length routes = omega (arith, count, subst (λ p. p < length xs) is.1 is.0.within) in
+    let same : get_or routes d no_routes ≡ get_or read d at =
+    sym (subst (λ (rs : List PairRoutes). get_or rs d at ≡ get_or routes d no_routes) (sym is_read) (get_or_default routes d at no_routes below))
+    in
+    let nodes = within.nodes d below in (
+      subst (λ (r : PairRoutes). r.pair.src < node_count net) same nodes.0,
+      subst (λ (r : PairRoutes). r.pair.dst < node_count net) same nodes.1,
+      subst (λ (r : PairRoutes). r.pair.src ≡ r.pair.dst → ⊥) same (within.apart d below),
+    )
 
 -- its links
 pub dearest_links : (net : Network) (routes : List PairRoutes) (l : SharedLink) (m : Metric) (d : ℕ) (path : Path) → IsRoutingWithin net routes →

@@ -1,7 +1,9 @@
-use Rattle.std.proofs.Common.{Some, None, sym, subst, ◌∙◌}
+use Rattle.std.proofs.Common.{ℕ, ◌^◌, ◌≤◌, List, Some, None, length, arith, ap, sym, subst, ◌∙◌}
+use Rattle.std.specs.Prelude.{All}
+use Rattle.std.proofs.lemmas.List.Elements.{All-from_get_or}
 use Rattle.best_blocks.proofs.Scaled.{some_share}
 use Rattle.ratio_certificate.specs.Weighting.{AreWeights}
-use Rattle.ratio_certificate.proofs.NextRounds.{dearest_path, links_read, no_round_after, raised_read, round_after, shared_far}
+use Rattle.ratio_certificate.proofs.NextRounds.{dearest_nodes, dearest_path, links_read, no_round_after, raised_read, round_after, shared_far}
 use Rattle.ratio_certificate.proofs.raising.next_round.Goals as goal
 
 pub dearest_pair-dearest-requires-clause-apart : goal.dearest_pair-dearest-requires-clause-apart
@@ -59,3 +61,30 @@ dearest_pair-dearest-requires-clause-some c =
 
 pub raise-requires-clause-weights : goal.raise-requires-clause-weights
 raise-requires-clause-weights c = subst (AreWeights c.args.problem.now.net.now) (sym c.as_slice-weights.ensures) c.requires.weights
+
+pub least_path-requires-clause-limit : goal.least_path-requires-clause-limit
+least_path-requires-clause-limit c = subst (All (λ (w : ℕ). w ≤ 2 ^ 28)) (sym c.as_slice-weights.ensures) c.requires.metric.small
+
+pub least_path-requires-clause-positive : goal.least_path-requires-clause-positive
+least_path-requires-clause-positive c =
+    let weights = c.requires.weights in
+    subst (All (λ (w : ℕ). 1 ≤ w)) (sym c.as_slice-weights.ensures)
+    (All-from_get_or (λ (w : ℕ). 1 ≤ w) c.args.metric.now.weights 0 (λ h below. weights.some h (omega (arith, below, weights.count))))
+
+pub least_path-requires-clause-src : goal.least_path-requires-clause-src
+least_path-requires-clause-src c =
+    (dearest_nodes c.args.problem.now.net.now c.args.problem.now.routing.now.routes c.as_slice-3.result.now c.as_slice.result.now c.as_slice-2.result.now
+    c.dearest_pair-dearest.result c.index-as_slice-dearest.result (ap (λ (xs : List ℕ). length xs) c.as_slice.ensures ∙ c.requires.shared.shares_are.count)
+    c.as_slice-3.ensures c.requires.problem.routing c.dearest_pair-dearest.ensures).0
+
+pub least_path-requires-clause-dst : goal.least_path-requires-clause-dst
+least_path-requires-clause-dst c =
+    (dearest_nodes c.args.problem.now.net.now c.args.problem.now.routing.now.routes c.as_slice-3.result.now c.as_slice.result.now c.as_slice-2.result.now
+    c.dearest_pair-dearest.result c.index-as_slice-dearest.result (ap (λ (xs : List ℕ). length xs) c.as_slice.ensures ∙ c.requires.shared.shares_are.count)
+    c.as_slice-3.ensures c.requires.problem.routing c.dearest_pair-dearest.ensures).1
+
+pub least_path-requires-clause-apart : goal.least_path-requires-clause-apart
+least_path-requires-clause-apart c =
+    (dearest_nodes c.args.problem.now.net.now c.args.problem.now.routing.now.routes c.as_slice-3.result.now c.as_slice.result.now c.as_slice-2.result.now
+    c.dearest_pair-dearest.result c.index-as_slice-dearest.result (ap (λ (xs : List ℕ). length xs) c.as_slice.ensures ∙ c.requires.shared.shares_are.count)
+    c.as_slice-3.ensures c.requires.problem.routing c.dearest_pair-dearest.ensures).2

@@ -1,7 +1,6 @@
-use Rattle.std.proofs.Common.{◌≡◌, ◌<◌, Bool, true, false, List, length, arith, ap, sym, subst, ◌∙◌}
+use Rattle.std.proofs.Common.{◌≡◌, ◌<◌, Bool, true, false, List, length, arith, ap, sym, ◌∙◌}
 use Rattle.std.proofs.lemmas.List.{get_or_read, length-replicate, length-set}
 use Rattle.best_blocks.specs.declared.sharing.SharedLink.{SharedLink}
-use Rattle.ratio_certificate.specs.declared.weighting.Weighting.{Weighting}
 use Rattle.ratio_certificate.specs.Places.{no_shared, shared_at}
 use Rattle.ratio_certificate.proofs.LinkLists.{shared_read}
 use Rattle.ratio_certificate.proofs.Searched.{lesser_taken}
