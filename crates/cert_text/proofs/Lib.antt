@@ -5,6 +5,7 @@ pub mod Steps
 pub mod Decimals
 pub mod Tokens
 pub mod Productions
+pub mod Halves
 pub mod Whole
 pub mod Lines
 pub mod Natural

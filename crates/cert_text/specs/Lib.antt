@@ -3,6 +3,7 @@ pub mod Takes
 pub mod Reading
 pub mod Grammar
 pub mod BlockRest
+pub mod Halves
 pub mod Listed
 pub mod Fits
 pub mod Answer

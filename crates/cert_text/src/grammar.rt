@@ -8,7 +8,8 @@ ghost use Rattle.cert_text.specs.Reading.{narrow_number, read_next_narrow};
 ghost use Rattle.te_model.specs.Shape.{is_count};
 ghost use Rattle.cert_text.specs.Fits.{IsWord, IsNamed, FitsLink, FitsNetwork, FitsPath, FitsPair, FitsRoutes, FitsList, FitsSet, FitsHead, FitsRow, FitsSides, FitsBlock};
 ghost use Rattle.cert_text.specs.BlockRest.{read_block_rest};
-ghost use Rattle.cert_text.specs.Grammar.{read_counted, read_listing, read_name_line, read_link_line, read_network, read_path, read_pair, read_routes, read_all, read_margin, read_set, read_ratio, read_head, read_number_line, read_row, read_sides, read_block, read_closing, read_opening, read_certificate, counts_of, read_box, has_boxes, read_digit, read_format};
+ghost use Rattle.cert_text.specs.Halves.{read_format_and_head, read_blocks};
+ghost use Rattle.cert_text.specs.Grammar.{read_counted, read_listing, read_name_line, read_link_line, read_network, read_path, read_pair, read_routes, read_all, read_margin, read_set, read_ratio, read_head, read_number_line, read_row, read_sides, read_block, read_closing, read_certificate, counts_of, read_box, has_boxes, read_digit, read_format};
 ghost use Rattle.te_model.specs.Formats.{limits_of};
 
 use crate::cursor::Cursor;
@@ -490,16 +491,14 @@ pub fn format<C: Cursor>(r: &mut Reader<C>) -> Result<u32, Stop>
     }
 }
 
-// The first line, which gives the limits, the head and the count of the blocks.
-#[tactic(auto, unfolding(crate::specs::Grammar::read_opening))]
-fn opening<C: Cursor>(r: &mut Reader<C>, alloc: Global) -> Result<(Head, u64), Stop>
-    ensures fits { IfOk result (λ x. FitsHead (limits_of x.0.format) x.0) }
-    ensures takes { Takes r.old r.new (Reads result) (read_opening narrow_number) }
+// The first line, which gives the limits, and the head.
+#[tactic(auto, unfolding(crate::specs::Halves::read_format_and_head))]
+fn format_and_head<C: Cursor>(r: &mut Reader<C>, alloc: Global) -> Result<Head, Stop>
+    ensures fits { IfOk result (λ x. FitsHead (limits_of x.format) x) }
+    ensures takes { Takes r.old r.new (Reads result) (read_format_and_head narrow_number) }
 {
     let limits = limits_of(format(r)?);
-    let head = head(r, alloc, &limits)?;
-    let count = counted(r, b"blocks ", 0, limits.links)?;
-    Ok((head, count))
+    head(r, alloc, &limits)
 }
 
 /// What the lines of a block are counted by.
@@ -514,19 +513,29 @@ pub fn counts_of_head(head: &Head) -> Counts
     }
 }
 
-/// A whole certificate of either format, whether or not its rules hold.
-#[tactic(auto, unfolding(crate::specs::Grammar::read_certificate))]
-pub fn certificate<C: Cursor>(r: &mut Reader<C>, alloc: Global) -> Result<Certificate, Stop>
-    ensures takes { Takes r.old r.new (Reads result) (read_certificate narrow_number) }
+// The blocks of such a head, after the line of their count, and the last line.
+#[tactic(auto, unfolding(crate::specs::Halves::read_blocks))]
+fn blocks<C: Cursor>(r: &mut Reader<C>, alloc: Global, head: &Head) -> Result<Items<Block>, Stop>
+    requires { FitsHead (limits_of head.now.format) head.now }
+    ensures takes { Takes r.old r.new (Reads result) (read_blocks narrow_number head.now) }
 {
-    let (head, count) = opening(r, alloc)?;
     let limits = limits_of(head.format);
-    let counts = counts_of_head(&head);
+    let count = counted(r, b"blocks ", 0, limits.links)?;
+    let counts = counts_of_head(head);
     let lines = BlockLines {
         limits: &limits,
         counts: &counts,
     };
     let blocks = many(r, alloc, count, &lines)?;
     closing(r)?;
+    Ok(blocks)
+}
+
+/// A whole certificate of either format, whether or not its rules hold.
+pub fn certificate<C: Cursor>(r: &mut Reader<C>, alloc: Global) -> Result<Certificate, Stop>
+    ensures takes { Takes r.old r.new (Reads result) (read_certificate narrow_number) }
+{
+    let head = format_and_head(r, alloc)?;
+    let blocks = blocks(r, alloc, &head)?;
     Ok(Certificate { head, blocks })
 }

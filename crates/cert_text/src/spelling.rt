@@ -52,10 +52,17 @@ pub fn print_and_read(alloc: Global, cert: &Certificate) -> Result<Certificate, 
     read(alloc, file.as_slice())
 }
 
+// Prints the certificate, with the error of a reader.
+fn print_of_read(alloc: Global, cert: &Certificate) -> Result<Vec<u8>, CertFault>
+    ensures { IfOk result (λ file. file.items ≡ text cert.now) }
+{
+    Ok(print(alloc, cert)?)
+}
+
 /// Reads the file and prints it again: what [`read`] takes, [`print`] writes byte for byte.
 pub fn read_and_print(alloc: Global, bytes: &[u8]) -> Result<Vec<u8>, CertFault>
     ensures same { IfOk result (λ file. file.items ≡ bytes.now) }
 {
     let cert = read(alloc, bytes)?;
-    Ok(print(alloc, &cert)?)
+    print_of_read(alloc, &cert)
 }
