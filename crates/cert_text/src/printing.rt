@@ -1,5 +1,5 @@
 //! Printing a certificate: each part is put at the end of one buffer.
-ghost use Rattle.std.specs.Prelude.{◌≡◌, ◌++◌, ◌∷◌, [], OnOk, IfOk, codes, length};
+ghost use Rattle.std.specs.Prelude.{◌≡◌, ℕ, List, ◌++◌, ◌∷◌, [], OnOk, IfOk, codes, length};
 ghost use Rattle.std.specs.List.{flat_map};
 ghost use Rattle.cert_text.specs.Pieces.{listing_text, counted_text, link_text, row_text, with_line_end, network_text, path_text, pair_text, routes_text, set_text, format_text, head_text, number_line as number_line_text, sides_text, block_text, certificate_text};
 ghost use Rattle.cert_text.specs.Grammar.{has_bounds};
@@ -59,79 +59,79 @@ fn counted(out: &mut Vec<u8>, word: &[u8], count: u64) -> Result<(), AllocError>
     end_line(out)
 }
 
-fn name_lines(out: &mut Vec<u8>, names: &[Name]) -> Result<(), AllocError>
-    ensures { OnOk result (out.new.items ≡ out.old.items ++ flat_map with_line_end names.now) }
+/// What is printed on lines of its own.
+trait Lines {
+    /// The text of these lines.
+    ghost text: { Self → List ℕ };
+
+    /// Puts the text at the end.
+    ///
+    /// Answers an error only where memory runs out.
+    fn put(&self, out: &mut Vec<u8>) -> Result<(), AllocError>
+        ensures { OnOk result (out.new.items ≡ out.old.items ++ text self.now) };
+}
+
+// The lines of each item, one after the other.
+fn each<T: Lines>(out: &mut Vec<u8>, items: &[T]) -> Result<(), AllocError>
+    ensures { OnOk result (out.new.items ≡ out.old.items ++ flat_map T.Lines.text items.now) }
 {
-    for name in names {
-        out.extend_from_slice(name.as_str().as_bytes())?;
-        end_line(out)?;
+    for item in items {
+        item.put(out)?;
     }
     Ok(())
 }
 
-fn link_line(out: &mut Vec<u8>, link: &Link) -> Result<(), AllocError>
-    ensures { OnOk result (out.new.items ≡ out.old.items ++ link_text link.now) }
-{
-    number(out, link.tail)?;
-    spaced(out, link.head)?;
-    spaced(out, link.capacity)?;
-    spaced(out, link.cost)?;
-    end_line(out)
+impl Lines for Name {
+    ghost text = { with_line_end };
+
+    fn put(&self, out: &mut Vec<u8>) -> Result<(), AllocError> {
+        out.extend_from_slice(self.as_str().as_bytes())?;
+        end_line(out)
+    }
 }
 
-fn link_lines(out: &mut Vec<u8>, links: &[Link]) -> Result<(), AllocError>
-    ensures { OnOk result (out.new.items ≡ out.old.items ++ flat_map link_text links.now) }
-{
-    for link in links {
-        link_line(out, link)?;
+impl Lines for Link {
+    ghost text = { link_text };
+
+    fn put(&self, out: &mut Vec<u8>) -> Result<(), AllocError> {
+        number(out, self.tail)?;
+        spaced(out, self.head)?;
+        spaced(out, self.capacity)?;
+        spaced(out, self.cost)?;
+        end_line(out)
     }
-    Ok(())
 }
 
 fn network(out: &mut Vec<u8>, net: &Network) -> Result<(), AllocError>
     ensures { OnOk result (out.new.items ≡ out.old.items ++ network_text net.now) }
 {
     counted(out, b"nodes ", net.names.as_slice().len() as u64)?;
-    name_lines(out, net.names.as_slice())?;
+    each(out, net.names.as_slice())?;
     counted(out, b"links ", net.links.as_slice().len() as u64)?;
-    link_lines(out, net.links.as_slice())
+    each(out, net.links.as_slice())
 }
 
-fn path_line(out: &mut Vec<u8>, path: &PathShare) -> Result<(), AllocError>
-    ensures { OnOk result (out.new.items ≡ out.old.items ++ path_text path.now) }
-{
-    number(out, path.weight)?;
-    spaced(out, path.links.as_slice().len())?;
-    spaced_all(out, path.links.as_slice())?;
-    end_line(out)
-}
+impl Lines for PathShare {
+    ghost text = { path_text };
 
-fn path_lines(out: &mut Vec<u8>, paths: &[PathShare]) -> Result<(), AllocError>
-    ensures { OnOk result (out.new.items ≡ out.old.items ++ flat_map path_text paths.now) }
-{
-    for path in paths {
-        path_line(out, path)?;
+    fn put(&self, out: &mut Vec<u8>) -> Result<(), AllocError> {
+        number(out, self.weight)?;
+        spaced(out, self.links.as_slice().len())?;
+        spaced_all(out, self.links.as_slice())?;
+        end_line(out)
     }
-    Ok(())
 }
 
-fn pair_lines(out: &mut Vec<u8>, routes: &PairRoutes) -> Result<(), AllocError>
-    ensures { OnOk result (out.new.items ≡ out.old.items ++ pair_text routes.now) }
-{
-    number(out, routes.pair.src)?;
-    spaced(out, routes.pair.dst)?;
-    spaced(out, routes.paths.as_slice().len())?;
-    end_line(out)?;
-    path_lines(out, routes.paths.as_slice())
-}
+impl Lines for PairRoutes {
+    ghost text = { pair_text };
 
-fn all_pairs(out: &mut Vec<u8>, routes: &[PairRoutes]) -> Result<(), AllocError>
-    ensures { OnOk result (out.new.items ≡ out.old.items ++ flat_map pair_text routes.now) }
-{
-    for pair in routes {
-        pair_lines(out, pair)?;
+    fn put(&self, out: &mut Vec<u8>) -> Result<(), AllocError> {
+        number(out, self.pair.src)?;
+        spaced(out, self.pair.dst)?;
+        spaced(out, self.paths.as_slice().len())?;
+        end_line(out)?;
+        each(out, self.paths.as_slice())
     }
-    Ok(())
 }
 
 fn set_lines(out: &mut Vec<u8>, set: &DemandSet) -> Result<(), AllocError>
@@ -160,7 +160,7 @@ fn head_lines(out: &mut Vec<u8>, head: &Head) -> Result<(), AllocError>
 {
     network(out, &head.network)?;
     counted(out, b"pairs ", head.routes.as_slice().len() as u64)?;
-    all_pairs(out, head.routes.as_slice())?;
+    each(out, head.routes.as_slice())?;
     set_lines(out, &head.set)?;
     counted(out, b"ratio ", head.ratio)
 }
@@ -182,21 +182,14 @@ fn number_line(out: &mut Vec<u8>, list: &[u64]) -> Result<(), AllocError>
     }
 }
 
-fn row_line(out: &mut Vec<u8>, row: &Row) -> Result<(), AllocError>
-    ensures { OnOk result (out.new.items ≡ out.old.items ++ row_text row.now) }
-{
-    number(out, row.source)?;
-    spaced_all(out, row.potential.as_slice())?;
-    end_line(out)
-}
+impl Lines for Row {
+    ghost text = { row_text };
 
-fn row_lines(out: &mut Vec<u8>, rows: &[Row]) -> Result<(), AllocError>
-    ensures { OnOk result (out.new.items ≡ out.old.items ++ flat_map row_text rows.now) }
-{
-    for row in rows {
-        row_line(out, row)?;
+    fn put(&self, out: &mut Vec<u8>) -> Result<(), AllocError> {
+        number(out, self.source)?;
+        spaced_all(out, self.potential.as_slice())?;
+        end_line(out)
     }
-    Ok(())
 }
 
 fn sides(out: &mut Vec<u8>, bounded: bool, block: &Block) -> Result<(), AllocError>
@@ -224,7 +217,7 @@ fn block_lines(out: &mut Vec<u8>, bounded: bool, block: &Block) -> Result<(), Al
 {
     block_line(out, block)?;
     number_line(out, block.weights.as_slice())?;
-    row_lines(out, block.rows.as_slice())?;
+    each(out, block.rows.as_slice())?;
     sides(out, bounded, block)
 }
 

@@ -4,11 +4,11 @@ use Rattle.std.specs.Fmt.{decimal}
 use Rattle.std.specs.List.{flat_map}
 use Rattle.cert_text.specs.Pieces.{with_space, row_text}
 use Rattle.cert_text.proofs.PrintLemmas.{row_is, put_three}
-use Rattle.cert_text.proofs.printing.row_line.Goals as goal
+use Rattle.cert_text.proofs.printing.RowLines.put.Goals as goal
 
 pub returns : goal.returns
 returns c =
-    let r = c.args.row.now in
+    let r = c.args.self.now in
     let old = c.args.out.now.items in
     let whole = put_three old (decimal r.source) (flat_map with_space r.potential) (10 ∷ []) (row_text r) (row_is r) in
     subst (λ (items : List ℕ). OnOk c.end_line.result (c.end_line.new.out.items ≡ items))
