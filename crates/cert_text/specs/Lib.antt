@@ -4,6 +4,7 @@ pub mod Reading
 pub mod Grammar
 pub mod BlockRest
 pub mod Halves
+pub mod LineEnds
 pub mod Listed
 pub mod Fits
 pub mod Answer

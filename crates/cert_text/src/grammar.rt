@@ -2,6 +2,7 @@
 //!
 //! The first line names the format, whose limits the lines after it keep.
 ghost use Rattle.std.specs.Prelude.{◌≡◌, ◌<◌, ◌≤◌, true, false, IfOk};
+ghost use Rattle.cert_text.specs.LineEnds.{read_line_end_after, read_last_numbers};
 ghost use Rattle.cert_text.specs.Place.{Reads, Passes};
 ghost use Rattle.cert_text.specs.Takes.{Takes};
 ghost use Rattle.cert_text.specs.Reading.{narrow_number, read_next_narrow};
@@ -23,24 +24,44 @@ use te_model::{
     PairRoutes, PathShare, Row, limits_of,
 };
 
+// Takes the line feed after the value, and gives the value.
+#[tactic(auto, unfolding(crate::specs::LineEnds::read_line_end_after))]
+fn line_end_after<C: Cursor, T: Drop>(r: &mut Reader<C>, value: T) -> Result<T, Stop>
+    ensures same { IfOk result (λ x. x ≡ value) }
+    ensures takes { Takes r.old r.new (Reads result) (read_line_end_after value) }
+{
+    r.end_line()?;
+    Ok(value)
+}
+
 /// A word and a number within the range, on a line of their own.
 ///
 /// # Errors
 ///
 /// `Stop::Shape` with the line that is not so.
-#[tactic(auto, unfolding(crate::specs::Grammar::read_counted))]
+#[tactic(auto, unfolding(crate::specs::Grammar::read_counted, crate::specs::LineEnds::read_line_end_after))]
 pub fn counted<C: Cursor>(r: &mut Reader<C>, word: &[u8], low: u64, high: u64) -> Result<u64, Stop>
     ensures fits { IfOk result (λ x. is_count low high x ≡ true) }
     ensures takes { Takes r.old r.new (Reads result) (read_counted word.now low high) }
 {
     r.word(word)?;
     let n = r.count(low, high)?;
-    r.end_line()?;
-    Ok(n)
+    line_end_after(r, n)
+}
+
+// So many numbers, each with a space before it, at the end of a line.
+#[tactic(auto, unfolding(crate::specs::LineEnds::read_last_numbers))]
+fn last_numbers<C: Cursor>(r: &mut Reader<C>, alloc: Global, count: u64) -> Result<Items<u64>, Stop>
+    ensures fits { IfOk result (λ x. FitsList count x) }
+    ensures takes { Takes r.old r.new (Reads result) (read_last_numbers count) }
+{
+    let mut list = Vec::with_capacity(alloc, count as usize)?;
+    r.numbers(count, &mut list)?;
+    line_end_after(r, Items::new(list))
 }
 
 // A word and so many numbers after it, on a line of their own.
-#[tactic(auto, unfolding(crate::specs::Grammar::read_listing))]
+#[tactic(auto, unfolding(crate::specs::Grammar::read_listing, crate::specs::LineEnds::read_last_numbers, crate::specs::LineEnds::read_line_end_after))]
 fn listing<C: Cursor>(
     r: &mut Reader<C>,
     alloc: Global,
@@ -51,10 +72,7 @@ fn listing<C: Cursor>(
     ensures takes { Takes r.old r.new (Reads result) (read_listing word.now count) }
 {
     r.word(word)?;
-    let mut list = Vec::with_capacity(alloc, count as usize)?;
-    r.numbers(count, &mut list)?;
-    r.end_line()?;
-    Ok(Items::new(list))
+    last_numbers(r, alloc, count)
 }
 
 // A node's name, on a line of its own.
@@ -67,11 +85,10 @@ impl Item for NameLine {
 
     ghost Fits = { λ _ x. IsNamed x };
 
-    #[tactic(auto, unfolding(crate::specs::Grammar::read_name_line))]
+    #[tactic(auto, unfolding(crate::specs::Grammar::read_name_line, crate::specs::LineEnds::read_line_end_after))]
     fn read<C: Cursor>(&self, r: &mut Reader<C>, alloc: Global) -> Result<Name, Stop> {
         let name = r.name(alloc)?;
-        r.end_line()?;
-        Ok(name)
+        line_end_after(r, name)
     }
 }
 
@@ -85,19 +102,21 @@ impl Item for LinkLine {
 
     ghost Fits = { λ _ x. FitsLink x };
 
-    #[tactic(auto, unfolding(crate::specs::Grammar::read_link_line))]
+    #[tactic(auto, unfolding(crate::specs::Grammar::read_link_line, crate::specs::LineEnds::read_line_end_after))]
     fn read<C: Cursor>(&self, r: &mut Reader<C>, _alloc: Global) -> Result<Link, Stop> {
         let tail = r.narrow()?;
         let head = r.next_narrow()?;
         let capacity = r.next_number()?;
         let cost = r.next_narrow()?;
-        r.end_line()?;
-        Ok(Link {
-            tail,
-            head,
-            capacity,
-            cost,
-        })
+        line_end_after(
+            r,
+            Link {
+                tail,
+                head,
+                capacity,
+                cost,
+            },
+        )
     }
 }
 
@@ -150,13 +169,12 @@ impl<'a> Item for PathLine<'a> {
 
     ghost Fits = { λ line x. FitsPath line.limits.now x };
 
-    #[tactic(auto, unfolding(crate::specs::Grammar::read_path))]
+    #[tactic(auto, unfolding(crate::specs::Grammar::read_path, crate::specs::LineEnds::read_line_end_after))]
     fn read<C: Cursor>(&self, r: &mut Reader<C>, alloc: Global) -> Result<PathShare, Stop> {
         let weight = r.number()?;
         let count = r.next_count(1, self.limits.hops)?;
         let links = many(r, alloc, count, &Hop)?;
-        r.end_line()?;
-        Ok(PathShare { links, weight })
+        line_end_after(r, PathShare { links, weight })
     }
 }
 
@@ -216,14 +234,13 @@ fn routes<C: Cursor>(
     many(r, alloc, count, &PairLines { limits })
 }
 
-#[tactic(auto, unfolding(crate::specs::Grammar::read_all))]
+#[tactic(auto, unfolding(crate::specs::Grammar::read_all, crate::specs::LineEnds::read_line_end_after))]
 fn all<C: Cursor>(r: &mut Reader<C>) -> Result<DemandSet, Stop>
     ensures value { IfOk result (λ x. x ≡ DemandSet.All) }
     ensures takes { Takes r.old r.new (Reads result) read_all }
 {
     r.word(b"all")?;
-    r.end_line()?;
-    Ok(DemandSet::All)
+    line_end_after(r, DemandSet::All)
 }
 
 #[tactic(auto, unfolding(crate::specs::Grammar::read_margin))]
@@ -300,14 +317,13 @@ pub fn set<C: Cursor>(
 /// # Errors
 ///
 /// `Stop::Shape` with the line that is not so.
-#[tactic(auto, unfolding(crate::specs::Grammar::read_ratio))]
+#[tactic(auto, unfolding(crate::specs::Grammar::read_ratio, crate::specs::LineEnds::read_line_end_after))]
 pub fn ratio<C: Cursor>(r: &mut Reader<C>) -> Result<u64, Stop>
     ensures takes { Takes r.old r.new (Reads result) read_ratio }
 {
     r.word(b"ratio ")?;
     let ratio = r.number()?;
-    r.end_line()?;
-    Ok(ratio)
+    line_end_after(r, ratio)
 }
 
 #[tactic(auto, unfolding(crate::specs::Grammar::read_head))]
@@ -340,8 +356,7 @@ fn number_line<C: Cursor>(r: &mut Reader<C>, alloc: Global, count: u64) -> Resul
     let mut list = Vec::with_capacity(alloc, count as usize)?;
     list.push(first)?;
     r.numbers(count - 1, &mut list)?;
-    r.end_line()?;
-    Ok(Items::new(list))
+    line_end_after(r, Items::new(list))
 }
 
 // A source and its potentials, on a line of their own.
@@ -360,13 +375,8 @@ impl Item for RowLine {
     #[tactic(auto, unfolding(crate::specs::Grammar::read_row))]
     fn read<C: Cursor>(&self, r: &mut Reader<C>, alloc: Global) -> Result<Row, Stop> {
         let source = r.narrow()?;
-        let mut list = Vec::with_capacity(alloc, self.nodes as usize)?;
-        r.numbers(self.nodes, &mut list)?;
-        r.end_line()?;
-        Ok(Row {
-            source,
-            potential: Items::new(list),
-        })
+        let potential = last_numbers(r, alloc, self.nodes)?;
+        Ok(Row { source, potential })
     }
 }
 
@@ -464,14 +474,13 @@ pub fn closing<C: Cursor>(r: &mut Reader<C>) -> Result<(), Stop>
 }
 
 // The digit of the format, which ends the first line.
-#[tactic(auto, unfolding(crate::specs::Grammar::read_digit))]
+#[tactic(auto, unfolding(crate::specs::Grammar::read_digit, crate::specs::LineEnds::read_line_end_after))]
 fn digit<C: Cursor>(r: &mut Reader<C>, format: u8) -> Result<u32, Stop>
     requires { format < 10 }
     ensures takes { Takes r.old r.new (Reads result) (read_digit format) }
 {
     r.byte(b'0' + format)?;
-    r.end_line()?;
-    Ok(u32::from(format))
+    line_end_after(r, u32::from(format))
 }
 
 /// The first line, and the number of the format: 2 where a `2` stands next, and else 1, whose digit is then due.

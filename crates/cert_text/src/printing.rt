@@ -147,8 +147,7 @@ fn set_lines(out: &mut Vec<u8>, set: &DemandSet) -> Result<(), AllocError>
             listing(out, b"base", base.demand.as_slice())
         }
         DemandSet::Box { lower, upper } => {
-            out.extend_from_slice(b"set box")?;
-            end_line(out)?;
+            out.extend_from_slice(b"set box\n")?;
             listing(out, b"lower", lower.demand.as_slice())?;
             listing(out, b"upper", upper.demand.as_slice())
         }

@@ -1,11 +1,12 @@
 use Rattle.std.proofs.Common.{[], ◌∷◌}
 use Rattle.cert_text.specs.Grammar.{read_number_line}
+use Rattle.cert_text.specs.LineEnds.{read_line_end_after}
 use Rattle.cert_text.proofs.Steps.{one_read, one_fronted}
 use Rattle.cert_text.proofs.grammar.number_line.Goals as goal
 
 pub returns-clause-takes : goal.returns-clause-takes
-unfolding read_number_line
+unfolding read_number_line read_line_end_after
 returns-clause-takes g c =
     let first = c.in_ok-first.first in
     let front = rw c.in_ok-list.ensures.items at c.in_ok-push.ensures.items in
-    rw c.new.ensures (one_read _ c.in_ok-first.ensures.takes (one_fronted (first ∷ []) (rw front at c.in_ok-numbers.ensures.takes) c.in_ok-end_line.ensures.takes))
+    one_read _ c.in_ok-first.ensures.takes (one_fronted (first ∷ []) (rw front at c.in_ok-numbers.ensures.takes) (rw c.new.ensures at c.line_end_after.ensures.takes))

@@ -1,6 +1,7 @@
 use Rattle.std.proofs.lemmas.Result.{err_from_is_err_and}
 use Rattle.cert_text.specs.Grammar.{read_link_line}
-use Rattle.cert_text.proofs.Steps.{one_read, one_passed, one_stopped, stays}
+use Rattle.cert_text.specs.LineEnds.{read_line_end_after}
+use Rattle.cert_text.proofs.Steps.{one_read, one_stopped}
 use Rattle.cert_text.proofs.grammar.LinkLineItem.read.Goals as goal
 
 pub returns-in_err-cost-clause-takes : goal.returns-in_err-cost-clause-takes
@@ -10,6 +11,6 @@ returns-in_err-cost-clause-takes g c =
     rw (p.1, p.2) (one_read _ c.in_ok-tail.ensures.takes (one_read _ c.in_ok-head.ensures.takes (one_read _ c.in_ok-capacity.ensures.takes (one_stopped c.in_err-cost.field-0.0 _ c.in_err-cost.ensures.takes))))
 
 pub returns-clause-takes : goal.returns-clause-takes
-unfolding read_link_line
+unfolding read_link_line read_line_end_after
 returns-clause-takes g c =
-    one_read _ c.in_ok-tail.ensures.takes (one_read _ c.in_ok-head.ensures.takes (one_read _ c.in_ok-capacity.ensures.takes (one_read _ c.in_ok-cost.ensures.takes (one_passed c.in_ok-end_line.ensures.takes stays))))
+    one_read _ c.in_ok-tail.ensures.takes (one_read _ c.in_ok-head.ensures.takes (one_read _ c.in_ok-capacity.ensures.takes (one_read _ c.in_ok-cost.ensures.takes c.line_end_after.ensures.takes)))

@@ -1,6 +1,7 @@
 use Rattle.std.proofs.lemmas.Result.{err_from_is_err_and}
 use Rattle.cert_text.specs.Grammar.{read_path}
-use Rattle.cert_text.proofs.Steps.{one_passed, one_read, one_stopped, stays}
+use Rattle.cert_text.specs.LineEnds.{read_line_end_after}
+use Rattle.cert_text.proofs.Steps.{one_read, one_stopped}
 use Rattle.cert_text.proofs.grammar.PathLineItem.read.Goals as goal
 
 pub returns-in_err-links-clause-takes : goal.returns-in_err-links-clause-takes
@@ -9,13 +10,7 @@ returns-in_err-links-clause-takes g c =
     let p = err_from_is_err_and c.from_residual-in_err-links.result c.from_residual-in_err-links.ensures.1 in
     rw (p.1, p.2) (one_read _ c.in_ok-weight.ensures.takes (one_read _ c.in_ok-count.ensures.takes (one_stopped c.in_err-links.field-0.0 _ c.in_err-links.ensures.takes)))
 
-pub returns-in_err-end_line-clause-takes : goal.returns-in_err-end_line-clause-takes
-unfolding read_path
-returns-in_err-end_line-clause-takes g c =
-    let p = err_from_is_err_and c.from_residual-in_err-end_line.result c.from_residual-in_err-end_line.ensures.1 in
-    rw (p.1, p.2) (one_read _ c.in_ok-weight.ensures.takes (one_read _ c.in_ok-count.ensures.takes (one_read _ c.in_ok-links.ensures.takes (one_stopped c.in_err-end_line.field-0.0 _ c.in_err-end_line.ensures.takes))))
-
 pub returns-clause-takes : goal.returns-clause-takes
-unfolding read_path
+unfolding read_path read_line_end_after
 returns-clause-takes g c =
-    one_read _ c.in_ok-weight.ensures.takes (one_read _ c.in_ok-count.ensures.takes (one_read _ c.in_ok-links.ensures.takes (one_passed c.in_ok-end_line.ensures.takes stays)))
+    one_read _ c.in_ok-weight.ensures.takes (one_read _ c.in_ok-count.ensures.takes (one_read _ c.in_ok-links.ensures.takes c.line_end_after.ensures.takes))
