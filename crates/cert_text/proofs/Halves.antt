@@ -1,5 +1,5 @@
 -- A certificate is read as its two halves.
-use Rattle.std.proofs.Common.{◌≡◌, ℕ, Bool, true, false, cond, List, length, Result, Ok, Err, refl, sym, ap, ◌∙◌, eqb}
+use Rattle.std.proofs.Common.{◌≡◌, ℕ, Bool, true, false, cond, List, length, Result, Ok, Err, refl, sym, ap, subst, ◌∙◌, eqb}
 use Rattle.std.specs.Prelude.{codes}
 use Rattle.te_model.specs.declared.certificate.Block.{Block}
 use Rattle.te_model.specs.declared.certificate.Head.{Head}
@@ -24,7 +24,7 @@ head_of limits keep p x e =
     let s2 = bind_ok (read_set limits (length s1.0.0) s1.0.1) (λ set. read_ratio set.1 >>= λ ratio. Ok (record { format = limits.format; network = s0.0.0; routes = s1.0.0; set = set.0; ratio = ratio.0 }, ratio.1)) x s1.2 in
     let s3 = bind_ok (read_ratio s2.0.1) (λ ratio. Ok (record { format = limits.format; network = s0.0.0; routes = s1.0.0; set = s2.0.0; ratio = ratio.0 }, ratio.1)) x s2.2 in
     let made : Head = record { format = limits.format; network = s0.0.0; routes = s1.0.0; set = s2.0.0; ratio = s3.0.0 } in
-    ap (λ (y : Head × Place). y.0.format) (ok_is {A = Head × Place} (made, s3.0.1) x s3.2)
+    subst (λ (y : Head × Place). limits.format ≡ y.0.format) (ok_is {A = Head × Place} (made, s3.0.1) x s3.2) refl
 
 own_limits : (format : ℕ) → limits_of (limits_of format).format ≡ limits_of format
 own_limits format = either (eqb format 2)

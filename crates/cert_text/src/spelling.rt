@@ -63,6 +63,8 @@ fn print_of_read(alloc: Global, cert: &Certificate) -> Result<Vec<u8>, CertFault
 pub fn read_and_print(alloc: Global, bytes: &[u8]) -> Result<Vec<u8>, CertFault>
     ensures same { IfOk result (λ file. file.items ≡ bytes.now) }
 {
-    let cert = read(alloc, bytes)?;
-    print_of_read(alloc, &cert)
+    match read(alloc, bytes) {
+        Ok(cert) => print_of_read(alloc, &cert),
+        Err(fault) => Err(fault),
+    }
 }

@@ -4,6 +4,24 @@ use Rattle.cert_text.specs.Grammar.{read_block}
 use Rattle.cert_text.proofs.Steps.{one_passed, one_read, one_stopped}
 use Rattle.cert_text.proofs.grammar.BlockLinesItem.read.Goals as goal
 
+pub returns-in_err-link-clause-takes : goal.returns-in_err-link-clause-takes
+unfolding read_block
+returns-in_err-link-clause-takes g c =
+    let p = err_from_is_err_and c.from_residual.result c.from_residual.ensures.1 in
+    rw (p.1, p.2) (one_stopped c.in_err-link.field-0.0 _ c.in_err-link.ensures.takes)
+
+pub returns-in_err-a-clause-takes : goal.returns-in_err-a-clause-takes
+unfolding read_block
+returns-in_err-a-clause-takes g c =
+    let p = err_from_is_err_and c.from_residual-in_err-a.result c.from_residual-in_err-a.ensures.1 in
+    rw (p.1, p.2) (one_read _ c.in_ok-link.ensures.takes (one_stopped c.in_err-a.field-0.0 _ c.in_err-a.ensures.takes))
+
+pub returns-in_err-b-clause-takes : goal.returns-in_err-b-clause-takes
+unfolding read_block
+returns-in_err-b-clause-takes g c =
+    let p = err_from_is_err_and c.from_residual-in_err-b.result c.from_residual-in_err-b.ensures.1 in
+    rw (p.1, p.2) (one_read _ c.in_ok-link.ensures.takes (one_read _ c.in_ok-a.ensures.takes (one_stopped c.in_err-b.field-0.0 _ c.in_err-b.ensures.takes)))
+
 pub returns-in_err-count-clause-takes : goal.returns-in_err-count-clause-takes
 unfolding read_block
 returns-in_err-count-clause-takes g c =
