@@ -1,5 +1,5 @@
 -- The texts of lines, as they are printed.
-use Rattle.std.proofs.Common.{◌≡◌, ℕ, ◌+◌, ◌<◌, List, [], ◌∷◌, ◌++◌, length, take, get_or, map, sym, ap, ◌∙◌, append_assoc}
+use Rattle.std.proofs.Common.{◌≡◌, ℕ, ◌+◌, ◌≤◌, ◌<◌, List, [], ◌∷◌, ◌++◌, length, take, get_or, map, sym, ap, ◌∙◌, append_assoc}
 use Rattle.std.specs.Prelude.{codes}
 use Rattle.std.specs.Fmt.{decimal}
 use Rattle.std.specs.List.{flat_map}
@@ -8,7 +8,7 @@ use Rattle.te_model.specs.declared.route.PairRoutes.{PairRoutes}
 use Rattle.te_model.specs.declared.network.Network.{Network}
 use Rattle.te_model.specs.declared.certificate.Row.{Row}
 use Rattle.te_model.specs.Text.{numbers, link_line, path_line, words}
-use Rattle.std.proofs.lemmas.List.{take_more, flat_map_more}
+use Rattle.std.proofs.lemmas.List.{take_all, take_more, flat_map_more}
 use Rattle.std.proofs.lemmas.List.Concat.{flat_map-append}
 use Rattle.cert_text.specs.Pieces.{with_space, with_line_end, counted_text, link_text, path_text, pair_text, network_text, row_text, number_line}
 use Rattle.cert_text.proofs.Productions.{joined, flat_map_map}
@@ -55,3 +55,7 @@ pub one_more : {X : Type 0} (f : X → List ℕ) (old now more : List ℕ) (xs :
 one_more {X} f old now more xs i x lt is was put =
     put ∙ ap (λ (o : List ℕ). o ++ f x) was ∙ flat_map_more f old (take i xs) x
     ∙ ap (λ (ys : List X). old ++ flat_map f ys) (ap (λ (y : X). take i xs ++ y ∷ []) is ∙ sym (take_more xs i x lt))
+
+-- the text of all items, after a loop over them
+pub all_put : {X : Type 0} (f : X → List ℕ) (old now : List ℕ) (xs : List X) (i : ℕ) → length xs ≤ i → now ≡ old ++ flat_map f (take i xs) → now ≡ old ++ flat_map f xs
+all_put {X} f old now xs i le was = was ∙ ap (λ (ys : List X). old ++ flat_map f ys) (take_all i xs le)

@@ -3,6 +3,18 @@ use Rattle.cert_text.specs.Grammar.{read_head}
 use Rattle.cert_text.proofs.Steps.{one_read, one_stopped, stays}
 use Rattle.cert_text.proofs.grammar.head.Goals as goal
 
+pub returns-in_err-network-clause-takes : goal.returns-in_err-network-clause-takes
+unfolding read_head
+returns-in_err-network-clause-takes g c =
+    let p = err_from_is_err_and c.from_residual.result c.from_residual.ensures.1 in
+    rw (p.1, p.2) (one_stopped c.in_err-network.field-0.0 _ c.in_err-network.ensures.takes)
+
+pub returns-in_err-routes-clause-takes : goal.returns-in_err-routes-clause-takes
+unfolding read_head
+returns-in_err-routes-clause-takes g c =
+    let p = err_from_is_err_and c.from_residual-in_err-routes.result c.from_residual-in_err-routes.ensures.1 in
+    rw (p.1, p.2) (one_read _ c.in_ok-network.ensures.takes (one_stopped c.in_err-routes.field-0.0 _ c.in_err-routes.ensures.takes))
+
 pub returns-in_err-set-clause-takes : goal.returns-in_err-set-clause-takes
 unfolding read_head
 returns-in_err-set-clause-takes g c =

@@ -3,6 +3,12 @@ use Rattle.cert_text.specs.BlockRest.{read_block_rest}
 use Rattle.cert_text.proofs.Steps.{one_read, one_stopped, stays}
 use Rattle.cert_text.proofs.grammar.BlockLines.rest.Goals as goal
 
+pub returns-in_err-weights-clause-takes : goal.returns-in_err-weights-clause-takes
+unfolding read_block_rest
+returns-in_err-weights-clause-takes g c =
+    let p = err_from_is_err_and c.from_residual.result c.from_residual.ensures.1 in
+    rw (p.1, p.2) (one_stopped c.in_err-weights.field-0.0 _ c.in_err-weights.ensures.takes)
+
 pub returns-in_err-rows-clause-takes : goal.returns-in_err-rows-clause-takes
 unfolding read_block_rest
 returns-in_err-rows-clause-takes g c =
