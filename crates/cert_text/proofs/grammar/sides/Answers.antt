@@ -3,6 +3,12 @@ use Rattle.cert_text.specs.Grammar.{read_sides}
 use Rattle.cert_text.proofs.Steps.{one_read, one_stopped, stays}
 use Rattle.cert_text.proofs.grammar.sides.Goals as goal
 
+pub returns-in_err-plus-clause-takes : goal.returns-in_err-plus-clause-takes
+unfolding read_sides
+returns-in_err-plus-clause-takes g c =
+    let p = err_from_is_err_and c.from_residual.result c.from_residual.ensures.1 in
+    rw (p.1, p.2, c.if-not-bounded.false) (one_stopped c.in_err-plus.field-0.0 _ c.in_err-plus.ensures.takes)
+
 pub returns-in_err-minus-clause-takes : goal.returns-in_err-minus-clause-takes
 unfolding read_sides
 returns-in_err-minus-clause-takes g c =

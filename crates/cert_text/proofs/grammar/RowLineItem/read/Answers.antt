@@ -10,6 +10,12 @@ use Rattle.cert_text.proofs.grammar.RowLineItem.read.Goals as goal
 row_of : ℕ → List ℕ × Place → Result (Row × Place) ℕ
 row_of source potential = Ok (record { source = source; potential = potential.0 }, potential.1)
 
+pub returns-in_err-source-clause-takes : goal.returns-in_err-source-clause-takes
+unfolding read_row
+returns-in_err-source-clause-takes g c =
+    let p = err_from_is_err_and c.from_residual.result c.from_residual.ensures.1 in
+    rw (p.1, p.2) (one_stopped c.in_err-source.field-0.0 _ c.in_err-source.ensures.takes)
+
 pub returns-in_err-potential-clause-takes : goal.returns-in_err-potential-clause-takes
 unfolding read_row read_last_numbers row_of
 returns-in_err-potential-clause-takes g c =
