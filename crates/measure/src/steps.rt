@@ -171,9 +171,9 @@ pub fn measure_steps(
     sources: u32,
     is_timed: bool,
 ) -> io::Result<()>
-    requires network { IsTrue (is_well_formed net.now) }
     requires nodes { node_count net.now ≡ 64 }
     requires sources { sources ≤ 64 }
+    requires network { IsTrue (is_well_formed net.now) }
 {
     let pairs = pairs_from(rt.alloc(), net, sources)?;
     simulate_pairs(rt, net, &pairs, is_timed)

@@ -83,15 +83,15 @@ fn improve(
     alloc: Global,
     problem: &Problem,
     links: &[SharedLink],
-    list: &mut [Weighting],
+    weightings: &mut [Weighting],
 ) -> Result<(), Memory>
     requires links { AreLinksOf problem.now links.now }
-    requires list { AreWeightingsOf problem.now links.now list.old list.old }
-    ensures list { OnOk result (AreWeightingsOf problem.now links.now list.old list.new) }
-    ensures done { OnOk result (IsDoneOf problem.now list.new) }
+    requires weightings { AreWeightingsOf problem.now links.now weightings.old weightings.old }
+    ensures weightings { OnOk result (AreWeightingsOf problem.now links.now weightings.old weightings.new) }
+    ensures done { OnOk result (IsDoneOf problem.now weightings.new) }
 {
-    search(alloc, problem, links, list)?;
-    polish(alloc, problem, links, list)?;
+    search(alloc, problem, links, weightings)?;
+    polish(alloc, problem, links, weightings)?;
     Ok(())
 }
 
