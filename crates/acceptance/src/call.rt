@@ -171,71 +171,12 @@ fn outcome_of<D: Depot>(
     Ok(Outcome { status, out, err })
 }
 
-fn text_in(alloc: Global, left: &Outcome) -> Result<String, Fail> {
-    Ok(str::from_utf8(left.out.bytes())?.to_string(alloc)?)
-}
-
-/// What the words write to `out` over this depot, and that they end with 0.
-pub fn written_over<D: Depot>(
-    rt: &impl Abort,
-    alloc: Global,
-    words: &[&str],
-    depot: &mut D,
-) -> Result<String, Fail> {
-    let out = MemSink::new(alloc, 1_000_000, 4)?;
-    let left = outcome_of(alloc, words, depot, out, 200)?;
-    assert!(rt; left.status == 0);
-    text_in(alloc, &left)
-}
-
 /// What `check` leaves of the certificate.
 fn outcome_of_check(alloc: Global, certificate: &str) -> Result<Outcome, Fail> {
     let mut depot = MemDepot::new(alloc, 64)?;
     depot.add("c", certificate.as_bytes())?;
     let out = MemSink::new(alloc, 200, 4)?;
     outcome_of(alloc, CHECK.words, &mut depot, out, 200)
-}
-
-/// `check` says yes to the certificate, by this line.
-fn is_accepted_with(alloc: Global, certificate: &str, line: &str) -> Result<bool, Fail> {
-    let left = outcome_of_check(alloc, certificate)?;
-    let says_it = (left.out.bytes() == line.as_bytes()) & left.err.bytes().is_empty();
-    Ok((left.status == 0) & says_it)
-}
-
-fn is_accepted_for(alloc: Global, certificate: &str, ratio: u64, set: &str) -> Result<bool, Fail> {
-    let line = format!(in alloc; "yes ratio {ratio} set {set}\n")?;
-    is_accepted_with(alloc, certificate, &line)
-}
-
-fn ratio_of(alloc: Global, certificate: &str) -> Result<u64, Fail> {
-    Ok(cert_text::read(alloc, certificate.as_bytes())?.head.ratio)
-}
-
-fn is_written_again(
-    rt: &impl Abort,
-    alloc: Global,
-    words: &[&str],
-    depot: &mut MemDepot,
-    file: &str,
-) -> Result<bool, Fail> {
-    Ok(written_over(rt, alloc, words, depot)?.as_str() == file)
-}
-
-/// The ratio of the certificate that the words publish over this depot, each time the same. `check` says yes to it, for
-/// this set.
-pub fn published_ratio(
-    rt: &impl Abort,
-    alloc: Global,
-    words: &[&str],
-    depot: &mut MemDepot,
-    set: &str,
-) -> Result<u64, Fail> {
-    let file = written_over(rt, alloc, words, depot)?;
-    let is_the_same = is_written_again(rt, alloc, words, depot, &file)?;
-    let ratio = ratio_of(alloc, &file)?;
-    assert!(rt; is_the_same & is_accepted_for(alloc, &file, ratio, set)?);
-    Ok(ratio)
 }
 
 /// `check` says yes to what was published, and this text stands in it.

@@ -1,9 +1,6 @@
-//! Tests of the whole program: its top call, over files and sinks in memory, and what it says of drawn matrices. There is nothing else
-//! here.
+//! Tests of the whole program: its top call, over files and sinks in memory. There is nothing else here.
 #![tactic(auto)]
 
-#[cfg(test)]
-mod backbone;
 #[cfg(test)]
 mod call;
 #[cfg(test)]
@@ -12,7 +9,5 @@ mod changes;
 mod commands;
 #[cfg(test)]
 mod faults;
-#[cfg(test)]
-mod gravity;
 #[cfg(test)]
 mod texts;

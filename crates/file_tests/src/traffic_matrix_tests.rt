@@ -10,6 +10,9 @@ use traffic_matrix::*;
 // The nodes a, b and c, with a link from a to b and one from b to c.
 const NODES: &[u8] = b"source,target,capacity,cost\na,b,10,1\nb,c,10,1\n";
 
+// The nodes a and b, with a link each way.
+const TWO: &[u8] = b"source,target,capacity,cost\na,b,1,1\nb,a,1,1\n";
+
 // Whether there are six demands, of which the first is from 1 to 10000 and the third is the same.
 fn are_products(demand: &[u64]) -> bool {
     match demand {
@@ -60,6 +63,33 @@ fn are_drawn(steps: &[Matrix]) -> bool {
     }
 }
 
+// Whether each of two nodes sends to the other, the same in both directions.
+fn is_exchange(demand: &[u64]) -> bool {
+    match demand {
+        [there, back] => there == back && 1 <= *there && *there <= 10_000,
+        _ => false,
+    }
+}
+
+// Whether there are two steps, and in each an exchange.
+fn are_exchanges(steps: &[Matrix]) -> bool {
+    match steps {
+        [first, second] => {
+            is_exchange(first.demand.as_slice()) & is_exchange(second.demand.as_slice())
+        }
+        _ => false,
+    }
+}
+
+// Whether a series that is drawn for two nodes has such steps, and is read back.
+fn is_drawn_for_two(alloc: Global, net: &Network) -> Result<bool, MatrixFault>
+    requires { IsTrue (is_well_formed net.now) }
+{
+    let series = gravity(alloc, net, 7, 2)?;
+    let drawn = are_exchanges(series.steps.as_slice());
+    Ok(drawn & (is_read_back(alloc, net, &series) == Ok(true)))
+}
+
 // Whether a series that is drawn over two steps has all six pairs and such demands, and is read back.
 fn is_drawn(alloc: Global, net: &Network) -> Result<bool, MatrixFault>
     requires { IsTrue (is_well_formed net.now) }
@@ -75,4 +105,11 @@ fn a_series_is_drawn_and_read_back(rt: HostRuntime) {
     let alloc = rt.alloc();
     let net = topology::read(alloc, NODES).expect(&rt, "three nodes");
     assert!(rt; is_drawn(alloc, &net) == Ok(true));
+}
+
+#[test]
+fn two_nodes_send_each_other_the_same(rt: HostRuntime) {
+    let alloc = rt.alloc();
+    let net = topology::read(alloc, TWO).expect(&rt, "two nodes");
+    assert!(rt; is_drawn_for_two(alloc, &net) == Ok(true));
 }

@@ -1,0 +1,75 @@
+"""The laboratory on the backbone of the examples, 11 nodes and 14 fibres, with its matrices of the gravity model and with others that are drawn."""
+import os
+import random
+from fractions import Fraction
+
+import reference_check
+
+from . import program
+
+FOLDER = os.path.join(program.TOP, "examples", "backbone")
+
+
+def text_of(name):
+    with open(os.path.join(FOLDER, name), encoding="utf-8") as file:
+        return file.read()
+
+
+NETWORK, MATRICES = text_of("net.csv"), text_of("tm.csv")
+STEPS = 20
+SIX_SCHEMES = (
+    '{"topology":"t","matrices":"m","schemes":["spf","ecmp","ksp","mcf","racke","smore"],"publish":"racke","k":4,"budget":4,"trees":8,"seed":7}'
+)
+BEST = '{"topology":"t","matrices":"m","schemes":["mcf"]}'
+
+# A plan, the topology and matrices, the set of the certificate, and a ratio that it may not reach.
+PUBLISHED = [
+    ([plan, NETWORK, MATRICES], of_set, bound)
+    for plan, of_set, bound in [
+        (SIX_SCHEMES, "all", 26_500_000),
+        ('{"topology":"t","matrices":"m","publish":"racke","trees":8,"seed":7}', "all", 26_500_000),
+        ('{"topology":"t","matrices":"m","publish":"ecmp"}', "all", 106_000_000),
+        ('{"topology":"t","matrices":"m","publish":"ksp","k":4}', "all", 53_000_000),
+        ('{"topology":"t","matrices":"m","publish":"spf","margin":[2,1]}', "margin 2 1", 16_010_554),
+        # The default scheme, for the envelope of the matrices: the ratio that the starting weights alone give.
+        ('{"topology":"t","matrices":"m","trees":8,"seed":7,"envelope":true}', "box", 11_742_714),
+    ]
+]
+
+# A plan, the topology and matrices, how many lines the report of 24 steps and six schemes has, and what stands in it.
+REPORTED = [([SIX_SCHEMES, NETWORK, MATRICES], 151, "\nsmore,total,")]
+
+
+def drawn_matrices():
+    """Matrices of all pairs with demands from 0 to 10000."""
+    nodes = list(dict.fromkeys(name for row in NETWORK.split("\n")[1:-1] for name in row.split(",")[:2]))
+    draw = random.Random(7)
+    pairs = [(source, target) for source in nodes for target in nodes if source != target]
+    return [{pair: draw.randint(0, 10_000) for pair in pairs} for _ in range(STEPS)]
+
+
+def matrix_file(matrices):
+    rows = [f"{step},{source},{target},{demand}\n" for step, matrix in enumerate(matrices) for (source, target), demand in matrix.items()]
+    return "step,source,target,demand\n" + "".join(rows)
+
+
+def most_used(certificate, matrix):
+    """The utilisation of the link that the routing of a certificate uses most for a matrix, in millionths."""
+    names = [name.decode() for name in certificate["names"]]
+    loads = [0] * len(certificate["links"])
+    for source, target, paths in certificate["pairs"]:
+        for weight, path in paths:
+            for link in path:
+                loads[link] += matrix[names[source], names[target]] * weight
+    return max(Fraction(load, capacity) for load, (_, _, capacity, _) in zip(loads, certificate["links"]))
+
+
+def faults_of_drawn(text, matrices, report):
+    """What is wrong where the routing of a certificate uses a link more than its ratio times what the best routing of this report does."""
+    certificate = reference_check.read(text.encode())
+    # The last line is that of the totals.
+    best = [int(row.split(",")[8]) for row in report.split("\n")[1:-2]]
+    if (len(certificate["pairs"]), len(best)) != (110, STEPS):
+        return [f"{len(certificate['pairs'])} pairs and {len(best)} steps"]
+    kept = [most_used(certificate, matrix) * 1_000_000 <= certificate["ratio"] * most for matrix, most in zip(matrices, best)]
+    return [f"step {step} is above the ratio" for step, is_kept in enumerate(kept) if not is_kept]
