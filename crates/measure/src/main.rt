@@ -1,19 +1,20 @@
-//! What the scripts of `bench/` time, on one network of 64 nodes and 512 links or on files.
+//! What the scripts of `bench/` time, on one network of 64 nodes and 512 links.
 //!
 //! | Words | What is printed |
 //! |---|---|
-//! | `trees COUNT [time]` | how many paths all pairs have over a mix of 1 to 16 trees |
-//! | `paths SOURCES [time]` | how many paths, up to four a pair, the pairs of the first 1 to 64 nodes have |
-//! | `steps SOURCES [time]` | what is offered, delivered and lost in a step by these pairs |
-//! | `searches TARGETS [time]` | how many links the least walks from all nodes to the first 1 to 64 have, sought alone and together |
-//! | `matrices TOPOLOGY MATRICES` | how many steps and pairs the series of two files has |
-//! | `each TOPOLOGY MATRICES` | a small case of each |
+//! | `trees COUNT ROUNDS` | how many paths all pairs have over a mix of 1 to 16 trees |
+//! | `paths SOURCES ROUNDS` | how many paths, up to four a pair, the pairs of the first 1 to 64 nodes have |
+//! | `least SOURCES ROUNDS` | how many links the least paths of these pairs have |
+//! | `steps SOURCES ROUNDS` | how many units these pairs lose on full links in a step, over four paths each |
+//! | `alone TARGETS ROUNDS` | how many links the least walks from all nodes to the first 1 to 64 have, each sought alone |
+//! | `together TARGETS ROUNDS` | the same of walks that are sought together |
+//! | `links` | the links of the network, one on each line as `tail head cost` |
+//! | `each` | a small case of each that counts |
 //!
-//! With `time` it prints microseconds too. The status is 2 where the words are none of these, 3 where a file is refused
-//! or cannot be read or a print failed, and else 0.
+//! What is counted is made so many rounds; of `steps` that is the step alone, and not its paths. The status is 2 where the words
+//! are none of these, 3 where memory is wanting or a print failed, and else 0.
 #![tactic(auto)]
 
-mod matrices;
 mod network;
 mod pairs;
 mod paths;
@@ -22,83 +23,61 @@ mod steps;
 mod subject;
 mod trees;
 
-use crate::matrices::line_of_series;
-use crate::subject::{Subject, measure, subject_of};
+use crate::network::print_links;
+use crate::subject::{Subject, count_on_network, subject_of};
+use std::env;
 use std::process::ExitCode;
-use std::{env, io};
-use te_ports::{RealDepot, RealSink, put_all};
 
-fn measure_each(rt: &HostRuntime) -> io::Result<()> {
-    measure(rt, Subject::Trees, 1, false)?;
-    measure(rt, Subject::Paths, 1, false)?;
-    measure(rt, Subject::Searches, 1, false)?;
-    measure(rt, Subject::Steps, 8, false)
-}
+const EACH: &[Subject] = &[
+    Subject::Trees,
+    Subject::Paths,
+    Subject::LeastPaths,
+    Subject::Steps,
+    Subject::WalksAlone,
+    Subject::WalksTogether,
+];
 
-// Measures the reading of two files.
-fn measure_files(rt: HostRuntime, topology: &str, matrices: &str) -> u8 {
-    let alloc = rt.alloc();
-    let mut out = RealSink::new(rt.stdout());
-    let mut depot = RealDepot::new(rt);
-    match line_of_series(alloc, &mut depot, topology, matrices) {
-        Some(line) if put_all(&mut out, line.as_bytes()).is_ok() => 0,
+// Prints what is counted of the subject, and gives the status.
+fn print_count(rt: &HostRuntime, subject: Subject, size: u32, rounds: u32) -> u8 {
+    match count_on_network(rt.alloc(), subject, size, rounds) {
+        Ok(count) if println!(rt; "{count}").is_ok() => 0,
         _ => 3,
     }
 }
 
-// Measures a small case of each.
-fn measure_all(rt: HostRuntime, topology: &str, matrices: &str) -> u8 {
-    if measure_each(&rt).is_ok() {
-        measure_files(rt, topology, matrices)
-    } else {
-        3
+fn print_each(rt: &HostRuntime) -> u8 {
+    for subject in EACH {
+        if print_count(rt, *subject, 8, 1) != 0 {
+            return 3;
+        }
     }
+    0
 }
 
-// Measures what the first word names.
-fn measure_named(rt: &HostRuntime, what: &str, number: &str, is_timed: bool) -> u8 {
-    match (subject_of(what), number.parse::<u32>()) {
-        (Some(subject), Ok(number)) => {
-            if measure(rt, subject, number, is_timed).is_ok() {
-                0
-            } else {
-                3
-            }
-        }
+// Prints what is counted of the subject that the first word names.
+fn print_named(rt: &HostRuntime, what: &str, size: &str, rounds: &str) -> u8 {
+    match (subject_of(what), size.parse::<u32>(), rounds.parse::<u32>()) {
+        (Some(subject), Ok(size), Ok(rounds)) => print_count(rt, subject, size, rounds),
         _ => 2,
     }
 }
 
-fn measure_on_network(rt: &HostRuntime, words: &[String]) -> u8 {
+fn print_by_words(rt: &HostRuntime, words: &[String]) -> u8 {
     match words {
-        [what, number] => measure_named(rt, what.as_str(), number.as_str(), false),
-        [what, number, time] if time.as_str() == "time" => {
-            measure_named(rt, what.as_str(), number.as_str(), true)
-        }
+        [what, size, rounds] => print_named(rt, what.as_str(), size.as_str(), rounds.as_str()),
+        [what] if what.as_str() == "each" => print_each(rt),
+        [what] if what.as_str() == "links" => print_links(rt),
         _ => 2,
-    }
-}
-
-fn status_by_words(rt: HostRuntime, words: &[String]) -> u8 {
-    match words {
-        [what, topology, matrices] if what.as_str() == "matrices" => {
-            measure_files(rt, topology.as_str(), matrices.as_str())
-        }
-        [what, topology, matrices] if what.as_str() == "each" => {
-            measure_all(rt, topology.as_str(), matrices.as_str())
-        }
-        _ => measure_on_network(&rt, words),
     }
 }
 
 fn main(rt: HostRuntime) -> ExitCode {
-    let alloc = rt.alloc();
     let words = match env::args(&rt) {
-        Ok(args) => args.skip(1).collect::<Vec<String>>(alloc),
-        Err(_) => Ok(Vec::new(alloc)),
+        Ok(args) => args.skip(1).collect::<Vec<String>>(rt.alloc()),
+        Err(_) => Ok(Vec::new(rt.alloc())),
     };
     match words {
-        Ok(words) => ExitCode::from(status_by_words(rt, words.as_slice())),
+        Ok(words) => ExitCode::from(print_by_words(&rt, words.as_slice())),
         Err(_) => ExitCode::from(3),
     }
 }

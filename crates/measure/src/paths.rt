@@ -1,75 +1,61 @@
-//! The four least paths of pairs of the network.
+//! The four least paths of pairs of the network, and the least path alone.
 ghost use Rattle.std.specs.Prelude.{◌≡◌, ◌<◌, ◌≤◌, IsTrue};
 ghost use Rattle.te_model.specs.Network.{is_well_formed, node_count};
+ghost use Rattle.scheme.specs.Reach.{ArePairsOf};
 
-use crate::network::NODES;
+use crate::pairs::pairs_from;
 use k_paths::k_least;
+use scheme::SchemeFault;
+use shortest_path::{costs, least_path};
 use std::alloc::Global;
-use std::io;
-use std::time::Instant;
-use te_model::Network;
+use te_model::{Memory, Network, Pairs};
 
 const PATHS: u32 = 4;
 
-// How many paths a pair has, up to four.
-fn paths_of_pair(alloc: Global, net: &Network, src: u32, dst: u32) -> usize
+// How many paths the pairs have, up to four each.
+fn paths_of_pairs(alloc: Global, net: &Network, pairs: &Pairs) -> Result<u64, Memory>
     requires network { IsTrue (is_well_formed net.now) }
-    requires src { src < node_count net.now }
-    requires dst { dst < node_count net.now }
+    requires pairs { ArePairsOf net.now pairs.now.list }
 {
-    if src == dst {
-        return 0;
+    let mut count = 0u64;
+    for pair in pairs.list.as_slice() {
+        let paths = k_least(alloc, net, pair.src, pair.dst, PATHS)?;
+        count = count.wrapping_add(paths.len() as u64);
     }
-    match k_least(alloc, net, src, dst, PATHS) {
-        Ok(paths) => paths.len(),
-        Err(_) => 0,
-    }
+    Ok(count)
 }
 
-fn paths_of_sources(alloc: Global, net: &Network, sources: u32) -> usize
+/// How many paths, up to four each, the pairs of the first `sources` nodes have.
+pub fn paths_of_sources(alloc: Global, net: &Network, sources: u32) -> Result<u64, SchemeFault>
     requires network { IsTrue (is_well_formed net.now) }
     requires nodes { node_count net.now ≡ 64 }
     requires sources { sources ≤ 64 }
 {
-    let mut count = 0usize;
-    for src in 0..sources {
-        for dst in 0..NODES {
-            count = count.wrapping_add(paths_of_pair(alloc, net, src, dst));
+    let pairs = pairs_from(alloc, net, sources)?;
+    Ok(paths_of_pairs(alloc, net, &pairs)?)
+}
+
+// How many links the least paths of the pairs have.
+fn links_of_pairs(alloc: Global, net: &Network, pairs: &Pairs) -> Result<u64, Memory>
+    requires network { IsTrue (is_well_formed net.now) }
+    requires pairs { ArePairsOf net.now pairs.now.list }
+{
+    let lengths = costs(alloc, net)?;
+    let mut count = 0u64;
+    for pair in pairs.list.as_slice() {
+        if let Some(path) = least_path(alloc, net, &lengths, pair.src, pair.dst)? {
+            count = count.wrapping_add(path.links.as_slice().len() as u64);
         }
     }
-    count
+    Ok(count)
 }
 
-fn print_links(rt: &HostRuntime, net: &Network) -> io::Result<()> {
-    for link in net.links.as_slice() {
-        let (tail, head, cost) = (link.tail, link.head, link.cost);
-        println!(rt; "{tail} {head} {cost}")?;
-    }
-    Ok(())
-}
-
-/// Prints how many paths the pairs of the first `sources` nodes have. If `is_timed` it prints before that the links,
-/// one on each line as `tail head cost`, and after it how many microseconds the search took.
-pub fn measure_paths(
-    rt: &HostRuntime,
-    net: &Network,
-    sources: u32,
-    is_timed: bool,
-) -> io::Result<()>
+/// How many links the least paths of the pairs of the first `sources` nodes have.
+pub fn links_of_least_paths(alloc: Global, net: &Network, sources: u32) -> Result<u64, SchemeFault>
     requires network { IsTrue (is_well_formed net.now) }
     requires nodes { node_count net.now ≡ 64 }
     requires sources { sources ≤ 64 }
 {
-    if is_timed {
-        print_links(rt, net)?;
-    }
-    let start = Instant::now(rt)?;
-    let count = paths_of_sources(rt.alloc(), net, sources);
-    let microseconds = start.elapsed(rt)?.as_micros();
-    println!(rt; "{count}")?;
-    if is_timed {
-        println!(rt; "{microseconds}")
-    } else {
-        Ok(())
-    }
+    let pairs = pairs_from(alloc, net, sources)?;
+    Ok(links_of_pairs(alloc, net, &pairs)?)
 }

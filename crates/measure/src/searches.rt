@@ -6,10 +6,9 @@ ghost use Rattle.shortest_path.specs.Links.{HasSoundLinks};
 ghost use Rattle.shortest_path.specs.Rows.{IsSearchGraph};
 
 use crate::network::NODES;
+use scheme::SchemeFault;
 use shortest_path::{Direction, Searches, costs, follow, toward, way_from, ways_to};
 use std::alloc::Global;
-use std::io;
-use std::time::Instant;
 use te_model::{Memory, Network};
 
 // How many links the least walks to a node have by these lengths. Each is sought alone.
@@ -19,7 +18,7 @@ fn links_over(
     lengths: &[u64],
     open: &[bool],
     dst: u32,
-) -> Result<usize, Memory>
+) -> Result<u64, Memory>
     requires sound { HasSoundLinks net.now }
     requires nodes { node_count net.now ≡ 64 }
     requires lengths { length lengths.now ≡ link_count net.now }
@@ -29,17 +28,17 @@ fn links_over(
     requires dst { dst < 64 }
 {
     let sums = toward(alloc, net, lengths, open, dst)?;
-    let mut count = 0usize;
+    let mut count = 0u64;
     for src in 0..NODES {
         if let Some(path) = follow(alloc, net, lengths, open, &sums, src, dst)? {
-            count = count.wrapping_add(path.links.as_slice().len());
+            count = count.wrapping_add(path.links.as_slice().len() as u64);
         }
     }
     Ok(count)
 }
 
 // How many links the least walks to a node have by cost. Each is sought alone.
-fn links_alone(alloc: Global, net: &Network, dst: u32) -> Result<usize, Memory>
+fn links_to(alloc: Global, net: &Network, dst: u32) -> Result<u64, Memory>
     requires network { IsTrue (is_well_formed net.now) }
     requires nodes { node_count net.now ≡ 64 }
     requires dst { dst < 64 }
@@ -50,12 +49,7 @@ fn links_alone(alloc: Global, net: &Network, dst: u32) -> Result<usize, Memory>
 }
 
 // The same by lent searches, with the first links of all walks at once.
-fn links_together(
-    alloc: Global,
-    net: &Network,
-    searches: &mut Searches,
-    dst: u32,
-) -> Result<usize, Memory>
+fn links_by(alloc: Global, net: &Network, searches: &mut Searches, dst: u32) -> Result<u64, Memory>
     requires network { IsTrue (is_well_formed net.now) }
     requires nodes { node_count net.now ≡ 64 }
     requires against { IsSearchGraph net.now Backward searches.old }
@@ -63,65 +57,38 @@ fn links_together(
     ensures { searches.new ≡ searches.old }
 {
     let ways = ways_to(alloc, net, searches, dst)?;
-    let mut count = 0usize;
+    let mut count = 0u64;
     for src in 0..NODES {
         if let Some(walk) = way_from(alloc, net, &ways, src)? {
-            count = count.wrapping_add(walk.len());
+            count = count.wrapping_add(walk.len() as u64);
         }
     }
     Ok(count)
 }
 
-// How many links all walks have that are sought alone.
-fn all_alone(alloc: Global, net: &Network, targets: u32) -> Result<usize, Memory>
+/// How many links the least walks from all nodes to the first `targets` have. Each is sought alone.
+pub fn links_alone(alloc: Global, net: &Network, targets: u32) -> Result<u64, SchemeFault>
     requires network { IsTrue (is_well_formed net.now) }
     requires nodes { node_count net.now ≡ 64 }
     requires targets { targets ≤ 64 }
 {
-    let mut count = 0usize;
+    let mut count = 0u64;
     for dst in 0..targets {
-        count = count.wrapping_add(links_alone(alloc, net, dst)?);
+        count = count.wrapping_add(links_to(alloc, net, dst)?);
     }
     Ok(count)
 }
 
-// The same of those that are sought together.
-fn all_together(alloc: Global, net: &Network, targets: u32) -> Result<usize, Memory>
+/// The same of walks that are sought together: one search graph is lent to all.
+pub fn links_together(alloc: Global, net: &Network, targets: u32) -> Result<u64, SchemeFault>
     requires network { IsTrue (is_well_formed net.now) }
     requires nodes { node_count net.now ≡ 64 }
     requires targets { targets ≤ 64 }
 {
     let mut searches = Searches::new(alloc, net, Direction::Backward)?;
-    let mut count = 0usize;
+    let mut count = 0u64;
     for dst in 0..targets {
-        count = count.wrapping_add(links_together(alloc, net, &mut searches, dst)?);
+        count = count.wrapping_add(links_by(alloc, net, &mut searches, dst)?);
     }
     Ok(count)
-}
-
-/// Prints how many links the least walks from all nodes to the first `targets` have, sought alone and together, and if `is_timed`
-/// how many microseconds each took.
-pub fn measure_searches(
-    rt: &HostRuntime,
-    net: &Network,
-    targets: u32,
-    is_timed: bool,
-) -> io::Result<()>
-    requires network { IsTrue (is_well_formed net.now) }
-    requires nodes { node_count net.now ≡ 64 }
-    requires targets { targets ≤ 64 }
-{
-    let alloc = rt.alloc();
-    let start = Instant::now(rt)?;
-    let alone = all_alone(alloc, net, targets).unwrap_or(0);
-    let between = Instant::now(rt)?;
-    let together = all_together(alloc, net, targets).unwrap_or(0);
-    let of_together = between.elapsed(rt)?.as_micros();
-    let of_alone = between.duration_since(start).as_micros();
-    println!(rt; "{alone} {together}")?;
-    if is_timed {
-        println!(rt; "{of_alone} {of_together}")
-    } else {
-        Ok(())
-    }
 }

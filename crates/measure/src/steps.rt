@@ -10,14 +10,8 @@ use flow_sim::step;
 use k_paths::Ksp;
 use local_recovery::{Mode, Recovered, recover};
 use scheme::{Oblivious, Scheme, SchemeFault};
-use shortest_path::{costs, least_path};
 use std::alloc::{AllocError, Global};
-use std::io;
-use std::time::Instant;
 use te_model::{Items, Matrix, Memory, Network, Pairs};
-
-// How many steps are timed.
-const STEPS: u32 = 20;
 
 // A demand for each of so many pairs.
 fn demands(alloc: Global, count: usize) -> Result<Matrix, AllocError>
@@ -45,8 +39,7 @@ fn four_paths(
     requires marks { length failed.now ≡ link_count net.now }
     requires pairs { ArePairsOf net.now pairs.now.list }
     requires ascending { ArePairs net.now pairs.now.list }
-    ensures rates { IfOk result (λ r. IsRates net.now r.routes) }
-    ensures count { IfOk result (λ r. length r.routes ≡ length pairs.now.list) }
+    ensures { IfOk result (λ r. IsRates net.now r.routes) }
 {
     let ksp = Ksp { k: 4 };
     let plan = ksp.prepare(alloc, net, pairs)?;
@@ -54,127 +47,56 @@ fn four_paths(
     Ok(rates)
 }
 
-// The rates of the four least paths of each pair, where no link fails.
-fn rates_of(alloc: Global, net: &Network, pairs: &Pairs) -> Result<Recovered, SchemeFault>
-    requires network { IsTrue (is_well_formed net.now) }
-    requires pairs { ArePairsOf net.now pairs.now.list }
-    requires ascending { ArePairs net.now pairs.now.list }
-    ensures rates { IfOk result (λ r. IsRates net.now r.routes) }
-{
-    let failed = vec![in alloc; false; net.links.as_slice().len()]?;
-    four_paths(alloc, net, &failed, pairs)
-}
-
-// What is offered, delivered and lost on full links in a step.
-type Amounts = (u64, u64, u64);
-
-// Takes `STEPS` steps in which no link fails, and says what became of the demands in the last.
-fn steps(
+// How many units are lost on full links in a step, which is taken so many rounds.
+fn lost_in_rounds(
     alloc: Global,
     net: &Network,
+    failed: &[bool],
     rates: &Recovered,
-    matrix: &Matrix,
-) -> Result<Amounts, Memory>
+    rounds: u32,
+) -> Result<u64, Memory>
     requires network { IsTrue (is_well_formed net.now) }
+    requires marks { length failed.now ≡ link_count net.now }
     requires rates { IsRates net.now rates.now.routes }
-    requires demands { length matrix.now.demand ≡ length rates.now.routes }
-    requires small { EachIndex matrix.now.demand (λ p. slice_index matrix.now.demand p ≤ 2 ^ 32) }
 {
-    let failed = vec![in alloc; false; net.links.as_slice().len()]?;
-    for _ in 1..STEPS {
-        let _ = step(alloc, net, &failed, rates, matrix)?;
+    let matrix = demands(alloc, rates.routes.as_slice().len())?;
+    let mut lost = 0u64;
+    for _ in 0..rounds {
+        lost = step(alloc, net, failed, rates, &matrix)?.lost_full;
     }
-    let last = step(alloc, net, &failed, rates, matrix)?;
-    Ok((last.offered, last.delivered, last.lost_full))
+    Ok(lost)
 }
 
-// How many links the least paths of the pairs have.
-fn least_paths(alloc: Global, net: &Network, pairs: &Pairs) -> Result<usize, Memory>
-    requires network { IsTrue (is_well_formed net.now) }
-    requires pairs { ArePairsOf net.now pairs.now.list }
-{
-    let lengths = costs(alloc, net)?;
-    let mut count = 0usize;
-    for pair in pairs.list.as_slice() {
-        if let Some(path) = least_path(alloc, net, &lengths, pair.src, pair.dst)? {
-            count = count.wrapping_add(path.links.as_slice().len());
-        }
-    }
-    Ok(count)
-}
-
-// Prints what became of the demands in a step, and if `is_timed` how long steps and least paths took.
-fn simulate(
-    rt: &HostRuntime,
+// The same with the four least paths of the pairs.
+fn lost_by_pairs(
+    alloc: Global,
     net: &Network,
+    failed: &[bool],
     pairs: &Pairs,
-    rates: &Recovered,
-    matrix: &Matrix,
-    is_timed: bool,
-) -> io::Result<()>
+    rounds: u32,
+) -> Result<u64, SchemeFault>
     requires network { IsTrue (is_well_formed net.now) }
-    requires pairs { ArePairsOf net.now pairs.now.list }
-    requires rates { IsRates net.now rates.now.routes }
-    requires demands { length matrix.now.demand ≡ length rates.now.routes }
-    requires small { EachIndex matrix.now.demand (λ p. slice_index matrix.now.demand p ≤ 2 ^ 32) }
-{
-    let alloc = rt.alloc();
-    let start = Instant::now(rt)?;
-    let Ok((offered, delivered, lost_full)) = steps(alloc, net, rates, matrix) else {
-        return Ok(());
-    };
-    let of_steps = start.elapsed(rt)?.as_micros();
-    println!(rt; "{offered} {delivered} {lost_full}")?;
-    if is_timed {
-        let start = Instant::now(rt)?;
-        let _ = least_paths(alloc, net, pairs);
-        let of_least = start.elapsed(rt)?.as_micros();
-        println!(rt; "{of_steps} {of_least}")
-    } else {
-        Ok(())
-    }
-}
-
-// Prints the same for demands of the pairs of these rates.
-fn simulate_rates(
-    rt: &HostRuntime,
-    net: &Network,
-    pairs: &Pairs,
-    rates: &Recovered,
-    is_timed: bool,
-) -> io::Result<()>
-    requires network { IsTrue (is_well_formed net.now) }
-    requires pairs { ArePairsOf net.now pairs.now.list }
-    requires rates { IsRates net.now rates.now.routes }
-{
-    let matrix = demands(rt.alloc(), rates.routes.as_slice().len())?;
-    simulate(rt, net, pairs, rates, &matrix, is_timed)
-}
-
-// Prints the same of the pairs, where their routing is found.
-fn simulate_pairs(rt: &HostRuntime, net: &Network, pairs: &Pairs, is_timed: bool) -> io::Result<()>
-    requires network { IsTrue (is_well_formed net.now) }
+    requires marks { length failed.now ≡ link_count net.now }
     requires pairs { ArePairsOf net.now pairs.now.list }
     requires ascending { ArePairs net.now pairs.now.list }
 {
-    match rates_of(rt.alloc(), net, pairs) {
-        Ok(rates) => simulate_rates(rt, net, pairs, &rates, is_timed),
-        Err(_) => Ok(()),
-    }
+    let rates = four_paths(alloc, net, failed, pairs)?;
+    Ok(lost_in_rounds(alloc, net, failed, &rates, rounds)?)
 }
 
-/// Prints how many units of the pairs of the first `sources` nodes were offered, delivered and lost on full links in a
-/// step, and if `is_timed` how many microseconds 20 steps took, and how many the least paths of the same pairs.
-pub fn measure_steps(
-    rt: &HostRuntime,
+/// How many units the pairs of the first `sources` nodes lose on full links in a step in which no link fails. The step is taken
+/// so many rounds.
+pub fn lost_in_steps(
+    alloc: Global,
     net: &Network,
     sources: u32,
-    is_timed: bool,
-) -> io::Result<()>
+    rounds: u32,
+) -> Result<u64, SchemeFault>
+    requires network { IsTrue (is_well_formed net.now) }
     requires nodes { node_count net.now ≡ 64 }
     requires sources { sources ≤ 64 }
-    requires network { IsTrue (is_well_formed net.now) }
 {
-    let pairs = pairs_from(rt.alloc(), net, sources)?;
-    simulate_pairs(rt, net, &pairs, is_timed)
+    let failed = vec![in alloc; false; net.links.as_slice().len()]?;
+    let pairs = pairs_from(alloc, net, sources)?;
+    lost_by_pairs(alloc, net, &failed, &pairs, rounds)
 }

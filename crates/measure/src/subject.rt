@@ -1,29 +1,34 @@
-//! What is measured on the network.
+//! What is counted on the network.
 ghost use Rattle.std.specs.Prelude.{◌≡◌, IsTrue};
 ghost use Rattle.te_model.specs.Network.{is_well_formed, node_count};
 
 use crate::network::{NODES, network};
-use crate::paths::measure_paths;
-use crate::searches::measure_searches;
-use crate::steps::measure_steps;
-use crate::trees::measure_trees;
-use std::io;
+use crate::paths::{links_of_least_paths, paths_of_sources};
+use crate::searches::{links_alone, links_together};
+use crate::steps::lost_in_steps;
+use crate::trees::paths_over_trees;
+use scheme::SchemeFault;
+use std::alloc::Global;
 use te_model::{Network, well_formed};
 
 /// The greatest number of trees.
 const TREES: u32 = 16;
 
-/// What is measured on the network.
+/// What is counted on the network.
 #[derive(Clone, Copy)]
 pub enum Subject {
-    /// A mix of decomposition trees.
+    /// The paths of all pairs over a mix of decomposition trees.
     Trees,
-    /// The four least paths of pairs.
+    /// The paths, up to four a pair, of the pairs of the first nodes.
     Paths,
-    /// Simulated steps.
+    /// The links of the least paths of these pairs.
+    LeastPaths,
+    /// The units that these pairs lose on full links in a step.
     Steps,
-    /// Least walks, sought alone and together.
-    Searches,
+    /// The links of the least walks to the first nodes, each sought alone.
+    WalksAlone,
+    /// The same of walks that are sought together.
+    WalksTogether,
 }
 
 /// The subject that the word names.
@@ -31,51 +36,63 @@ pub fn subject_of(word: &str) -> Option<Subject> {
     match word {
         "trees" => Some(Subject::Trees),
         "paths" => Some(Subject::Paths),
+        "least" => Some(Subject::LeastPaths),
         "steps" => Some(Subject::Steps),
-        "searches" => Some(Subject::Searches),
+        "alone" => Some(Subject::WalksAlone),
+        "together" => Some(Subject::WalksTogether),
         _ => None,
     }
 }
 
-fn measure_on(
-    rt: &HostRuntime,
-    net: &Network,
-    subject: Subject,
-    number: u32,
-    is_timed: bool,
-) -> io::Result<()>
+// Counts once what the subject names, but for the steps.
+fn count_once(alloc: Global, net: &Network, subject: Subject, size: u32) -> Result<u64, SchemeFault>
     requires network { IsTrue (is_well_formed net.now) }
     requires nodes { node_count net.now ≡ 64 }
 {
     match subject {
-        Subject::Trees => measure_trees(rt, net, number.clamp(1, TREES), is_timed),
-        Subject::Paths => measure_paths(rt, net, number.min(NODES), is_timed),
-        Subject::Steps => measure_steps(rt, net, number.min(NODES), is_timed),
-        Subject::Searches => measure_searches(rt, net, number.min(NODES), is_timed),
+        Subject::Trees => paths_over_trees(alloc, net, size.clamp(1, TREES)),
+        Subject::Paths => paths_of_sources(alloc, net, size.min(NODES)),
+        Subject::LeastPaths => links_of_least_paths(alloc, net, size.min(NODES)),
+        Subject::WalksAlone => links_alone(alloc, net, size.min(NODES)),
+        Subject::WalksTogether => links_together(alloc, net, size.min(NODES)),
+        Subject::Steps => Ok(0),
     }
 }
 
-// Measures the subject where the network is as it is meant to be.
-fn measure_if_formed(
-    rt: &HostRuntime,
+// Counts what the subject names in so many rounds, and gives the last count.
+fn count_in_rounds(
+    alloc: Global,
     net: &Network,
     subject: Subject,
-    number: u32,
-    is_timed: bool,
-) -> io::Result<()> {
-    if net.names.as_slice().len() == 64 && well_formed(net) {
-        measure_on(rt, net, subject, number, is_timed)
-    } else {
-        Ok(())
+    size: u32,
+    rounds: u32,
+) -> Result<u64, SchemeFault>
+    requires network { IsTrue (is_well_formed net.now) }
+    requires nodes { node_count net.now ≡ 64 }
+{
+    if let Subject::Steps = subject {
+        return lost_in_steps(alloc, net, size.min(NODES), rounds);
     }
+    let mut count = 0;
+    for _ in 0..rounds {
+        count = count_once(alloc, net, subject, size)?;
+    }
+    Ok(count)
 }
 
-/// Makes the network, and prints what is measured of the subject with this number: trees, first nodes or targets.
-pub fn measure(rt: &HostRuntime, subject: Subject, number: u32, is_timed: bool) -> io::Result<()> {
-    let unit = match subject {
-        Subject::Steps => 1000,
-        _ => 1,
-    };
-    let net = network(rt.alloc(), 10 * unit, 90 * unit)?;
-    measure_if_formed(rt, &net, subject, number, is_timed)
+/// Makes the network, and counts on it what the subject names for so many trees, first nodes or targets, in so many rounds.
+/// Gives the count of the last round.
+pub fn count_on_network(
+    alloc: Global,
+    subject: Subject,
+    size: u32,
+    rounds: u32,
+) -> Result<u64, SchemeFault> {
+    let net = network(alloc)?;
+    // No law says what the network is, so what the searches require is tested.
+    if net.names.as_slice().len() == 64 && well_formed(&net) {
+        count_in_rounds(alloc, &net, subject, size, rounds)
+    } else {
+        Ok(0)
+    }
 }

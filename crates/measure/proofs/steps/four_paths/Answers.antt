@@ -1,5 +1,4 @@
 use Rattle.std.proofs.Common.{◌≤◌, length, arith, ap, sym, subst, ◌∙◌}
-use Rattle.std.proofs.lemmas.List.{length-map}
 use Rattle.std.proofs.lemmas.List.Elements.{All-weaker}
 use Rattle.te_model.specs.declared.route.PairRoutes.{PairRoutes}
 use Rattle.te_model.specs.PathRouting.{IsPathRouting}
@@ -17,15 +16,10 @@ recover-requires-clause-few c =
     (All-weaker (λ (r : PairRoutes). length r.paths ≤ 32) (λ (r : PairRoutes). length r.paths ≤ 4096) (λ r few. omega (arith, few))
     c.in_ok-plan.plan.routing.routes c.in_ok-plan.ensures.plan.few)
 
-pub returns-clause-rates : goal.returns-clause-rates
-returns-clause-rates c = record {
+pub returns : goal.returns
+returns c = record {
   pairs = subst (ArePairs c.args.net.now)
       (sym (c.in_ok-rates.ensures.pairs ∙ (ap pairs_of c.fixed.ensures ∙ c.in_ok-plan.ensures.plan.routing.in_order))) c.requires.ascending;
   paths = c.in_ok-rates.ensures.paths;
   few = c.in_ok-rates.ensures.few;
 }
-
-pub returns-clause-count : goal.returns-clause-count
-returns-clause-count c =
-    sym (length-map c.in_ok-rates.rates.routes (λ (r : PairRoutes). r.pair))
-    ∙ ap length (c.in_ok-rates.ensures.pairs ∙ (ap pairs_of c.fixed.ensures ∙ c.in_ok-plan.ensures.plan.routing.in_order))

@@ -2,7 +2,7 @@ use Rattle.std.proofs.Common.{◌≤◌, ◌^◌, ◌∙◌, ℕ, List, All, len
 use Rattle.te_model.specs.declared.network.Link.{Link}
 use Rattle.shortest_path.proofs.Sound.{sound}
 use Rattle.measure.proofs.CostLimits.{costs_limit}
-use Rattle.measure.proofs.searches.links_alone.Goals as goal
+use Rattle.measure.proofs.searches.links_to.Goals as goal
 
 pub links_over-requires-clause-sound : goal.links_over-requires-clause-sound
 links_over-requires-clause-sound c = sound c.args.net.now c.requires.network
