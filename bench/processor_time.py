@@ -8,8 +8,8 @@ def least_time(runs, *words, status=0):
     times = []
     for _ in range(runs):
         before = resource.getrusage(resource.RUSAGE_CHILDREN).ru_utime
-        ran = subprocess.run(words, stdout=subprocess.PIPE, text=True, check=False)
+        ran = subprocess.run(words, stdout=subprocess.PIPE, stderr=subprocess.PIPE, text=True, check=False)
         times.append(resource.getrusage(resource.RUSAGE_CHILDREN).ru_utime - before)
         if ran.returncode != status:
-            sys.exit(f"{' '.join(words)} ended with {ran.returncode}")
+            sys.exit(f"{' '.join(words)} ended with {ran.returncode}: {ran.stderr}")
     return min(times), ran.stdout
