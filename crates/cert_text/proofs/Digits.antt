@@ -5,7 +5,7 @@ use Rattle.std.specs.Prelude.{slice_get}
 use Rattle.te_model.specs.Network.{is_name_byte}
 use Rattle.std.specs.Char.{is_ascii_digit}
 use Rattle.std.proofs.Math.Utf8.{encode}
-use Rattle.std.proofs.lemmas.Bool.{lt-ltb, le-ltb}
+use Rattle.std.proofs.lemmas.Bool.{ltb-true, lt-ltb}
 use Rattle.std.proofs.lemmas.Bool.Decides.{nat_tests}
 use Rattle.std.proofs.lemmas.Str.{encode_ascii}
 use Rattle.cert_text.specs.Place.{Place, place}
@@ -24,23 +24,22 @@ none_is (x ∷ xs) e = absurd cc
 pub nothing_left : (k : ℕ) (bs : List ℕ) → None ≡ slice_get bs 0 → ◌≡◌ {A = Result Place ℕ} (if length bs == 0 then Ok (place k bs) else Err k) (Ok (place k bs))
 nothing_left k bs none = rw (none_is bs none) refl
 
-pub digits_zero : (k v : ℕ) (bs : List ℕ) (b : ℕ) → Some b ≡ slice_get bs 0 → is_ascii_digit b ≡ true → v ≡ 0 → read_digits k v bs ≡ Err k
-digits_zero k v bs b first digit nothing = rw (first_is bs b first, digit, nothing) refl
+refused : (zero fits : Bool) (k : ℕ) (more : Result (ℕ × Place) ℕ) → ¬ ((zero ≡ false) × (fits ≡ true)) → cond zero (Err k) (cond fits more (Err k)) ≡ Err k
+refused true fits k more h = refl
+refused false true k more h = absurd (h (refl, refl))
+refused false false k more h = refl
 
-refused : (t : Bool) (k : ℕ) (more : Result (ℕ × Place) ℕ) → cond t (Err k) (cond false more (Err k)) ≡ Err k
-refused true k more = refl
-refused false k more = refl
-
-pub digits_over : (k v : ℕ) (bs : List ℕ) (b : ℕ) → Some b ≡ slice_get bs 0 → is_ascii_digit b ≡ true → ¬ (v * 10 + (b - 48) < 2 ^ 64) → read_digits k v bs ≡ Err k
-digits_over k v bs b first digit large =
-    let over : ltb (v * 10 + (b - 48)) (2 ^ 64) ≡ false = le-ltb _ _ (omega arith) in
-    rw (first_is bs b first, digit, over) (refused (eqb v 0) k (read_digits k (v * 10 + (b - 48)) (drop 1 bs)))
+-- no digit stands after a zero that leads, or after as many as are in range
+pub digits_over : (k v : ℕ) (bs : List ℕ) (b : ℕ) → Some b ≡ slice_get bs 0 → is_ascii_digit b ≡ true → ¬ ((0 < v) × (v * 10 + (b - 48) < 2 ^ 64)) → read_digits k v bs ≡ Err k
+digits_over k v bs b first digit over =
+    let none : ¬ ((eqb v 0 ≡ false) × (ltb (v * 10 + (b - 48)) (2 ^ 64) ≡ true)) = λ p. over (grind (arith, nat_tests), ltb-true _ _ p.1) in
+    rw (first_is bs b first, digit) (refused (eqb v 0) (ltb (v * 10 + (b - 48)) (2 ^ 64)) k (read_digits k (v * 10 + (b - 48)) (drop 1 bs)) none)
 
 -- a digit more
-pub digits_more : (k v : ℕ) (bs : List ℕ) (b : ℕ) → Some b ≡ slice_get bs 0 → is_ascii_digit b ≡ true → v ≢ 0 → v * 10 + (b - 48) < 2 ^ 64 → read_digits k v bs ≡ read_digits k (v * 10 + (b - 48)) (drop 1 bs)
-digits_more k v bs b first digit some fits =
+pub digits_more : (k v : ℕ) (bs : List ℕ) (b : ℕ) → Some b ≡ slice_get bs 0 → is_ascii_digit b ≡ true → (0 < v) × (v * 10 + (b - 48) < 2 ^ 64) → read_digits k v bs ≡ read_digits k (v * 10 + (b - 48)) (drop 1 bs)
+digits_more k v bs b first digit fits =
     let other : eqb v 0 ≡ false = grind (arith, nat_tests) in
-    let within : ltb (v * 10 + (b - 48)) (2 ^ 64) ≡ true = lt-ltb _ _ fits in
+    let within : ltb (v * 10 + (b - 48)) (2 ^ 64) ≡ true = lt-ltb _ _ fits.1 in
     rw (first_is bs b first, digit, other, within) refl
 
 pub digits_stop : (k v : ℕ) (bs : List ℕ) (b : ℕ) → Some b ≡ slice_get bs 0 → is_ascii_digit b ≡ false → read_digits k v bs ≡ Ok (v, place k bs)

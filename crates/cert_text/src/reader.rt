@@ -7,10 +7,13 @@ use crate::fault::Stop;
 use std::alloc::Global;
 use te_model::{Name, is_name_byte};
 
-// The number with one digit more, if it is in range.
+// The number with one digit more, if no zero leads it and it is in range.
 fn with_digit(value: u64, digit: u8) -> Option<u64>
-    ensures { SomeIff result (value * 10 + digit < 2 ^ 64) (value * 10 + digit) }
+    ensures { SomeIff result ((0 < value) × (value * 10 + digit < 2 ^ 64)) (value * 10 + digit) }
 {
+    if value == 0 {
+        return None;
+    }
     value.checked_mul(10)?.checked_add(u64::from(digit))
 }
 
@@ -116,9 +119,6 @@ impl<C: Cursor> Reader<C> {
         while let Some(b) = self.source.peek() {
             if !b.is_ascii_digit() {
                 break;
-            }
-            if value == 0 {
-                return Err(self.fault());
             }
             value = match with_digit(value, b - b'0') {
                 Some(longer) => longer,

@@ -1,22 +1,13 @@
-use Rattle.std.proofs.Common.{◌≢◌, sym, ◌∙◌, arith}
-use Rattle.cert_text.proofs.Digits.{digits_zero, digits_over, digits_more, digits_stop, digits_end}
+use Rattle.std.proofs.Common.{sym, ◌∙◌}
+use Rattle.cert_text.proofs.Digits.{digits_over, digits_more, digits_stop, digits_end}
 use Rattle.cert_text.proofs.reader.Reader.digits_after.Goals as goal
-
-pub returns-then-value-eq0-clause-takes : goal.returns-then-value-eq0-clause-takes
-returns-then-value-eq0-clause-takes g c = record {
-  told = λ t. (c.loop-b.invariant (c.peek.ensures.told t)).0;
-  reads = λ t.
-      let so_far = c.loop-b.invariant (c.peek.ensures.told t) in
-      rw c.fault.ensures (sym so_far.1 ∙ digits_zero _ _ _ c.in-Some.b
-      (sym c.in-Some.is ∙ c.peek.ensures.byte t) (sym c.is_ascii_digit.ensures.value ∙ c.if-not-is_ascii_digit.false) c.if-value-eq0.true);
-}
 
 pub returns-in-None-clause-takes : goal.returns-in-None-clause-takes
 returns-in-None-clause-takes g c = record {
   told = λ t. (c.loop-b.invariant (c.peek.ensures.told t)).0;
   reads = λ t.
       let so_far = c.loop-b.invariant (c.peek.ensures.told t) in
-      rw c.fault-in-None.ensures (sym so_far.1 ∙ digits_over _ _ _ c.in-Some.b
+      rw c.fault.ensures (sym so_far.1 ∙ digits_over _ _ _ c.in-Some.b
       (sym c.in-Some.is ∙ c.peek.ensures.byte t) (sym c.is_ascii_digit.ensures.value ∙ c.if-not-is_ascii_digit.false) c.in-None.ensures);
 }
 
@@ -43,7 +34,6 @@ pub loop-b-preserved : goal.loop-b-preserved
 loop-b-preserved g c = λ t.
     let told = c.advance.ensures.told t in
     let so_far = c.loop-b.invariant (c.peek.ensures.told told) in
-    let some : c.loop-b.value ≢ 0 = omega arith in
     let more = digits_more c.loop-b.self.line c.loop-b.value _ c.in-Some.b
-    (sym c.in-Some.is ∙ c.peek.ensures.byte told) (sym c.is_ascii_digit.ensures.value ∙ c.if-not-is_ascii_digit.false) some c.in-Some-with_digit.ensures.0 in
+    (sym c.in-Some.is ∙ c.peek.ensures.byte told) (sym c.is_ascii_digit.ensures.value ∙ c.if-not-is_ascii_digit.false) c.in-Some-with_digit.ensures.0 in
     (so_far.0, rw (c.in-Some-with_digit.ensures.1, c.advance.ensures.rest t, c.peek.ensures.same told) (sym more ∙ so_far.1))
