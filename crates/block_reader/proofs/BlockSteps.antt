@@ -3,6 +3,7 @@ use Rattle.std.proofs.Common.{◌≡◌, ◌∙◌, ℕ, Bool, true, List, [], R
 use Rattle.std.specs.Prelude.{codes}
 use Rattle.te_model.specs.declared.certificate.Row.{Row}
 use Rattle.te_model.specs.declared.certificate.Block.{Block}
+use Rattle.cert_text.specs.declared.limits.BlockLine.{BlockLine}
 use Rattle.cert_text.specs.declared.limits.Counts.{Counts}
 use Rattle.cert_text.specs.declared.cursor.Cursor.{Ghosts}
 use Rattle.cert_text.specs.declared.reader.Reader.{Reader}
@@ -56,33 +57,33 @@ module _ (bounded : Bool) (pairs m l : ℕ) (p0 : Place) (has : bounded ≡ true
   both_read plus minus p1 p2 first second = rw (has, rw plus_count at first, rw minus_count at second) refl
 
 -- what is read behind the weights
-abbrev rows_and_sides : Counts → ℕ → ℕ → ℕ → ℕ → List ℕ → Place → Result (Block × Place) ℕ
-rows_and_sides counts link a b n weights p = do
-  rows ← read_many n (read_row narrow_number counts.nodes) p
+abbrev rows_and_sides : Counts → BlockLine → List ℕ → Place → Result (Block × Place) ℕ
+rows_and_sides counts line weights p = do
+  rows ← read_many line.rows (read_row narrow_number counts.nodes) p
   sides ← read_sides counts.bounded counts.pairs rows.1
-  Ok (record { link = link; a = a; b = b; weights = weights; rows = rows.0; plus = sides.0.0; minus = sides.0.1 }, sides.1)
+  Ok (record { link = line.link; a = line.a; b = line.b; weights = weights; rows = rows.0; plus = sides.0.0; minus = sides.0.1 }, sides.1)
 
-pub weights_stop : {C : Type 0} {cursor : Ghosts C} (counts : Counts) (m link a b n : ℕ) (e : Stop) (r0 r1 : Reader C cursor) →
+pub weights_stop : {C : Type 0} {cursor : Ghosts C} (counts : Counts) (m : ℕ) (line : BlockLine) (e : Stop) (r0 r1 : Reader C cursor) →
     m ≡ counts.links → Takes {R = Result (List ℕ × Place) ℕ} r0 r1 (λ after read. Stops e read) (read_number_line m) →
-    Takes {R = Result (Block × Place) ℕ} r0 r1 (λ after read. Stops e read) (read_block_rest narrow_number counts link a b n)
+    Takes {R = Result (Block × Place) ℕ} r0 r1 (λ after read. Stops e read) (read_block_rest narrow_number counts line)
 unfolding read_block_rest
-weights_stop counts m link a b n e r0 r1 same one =
+weights_stop counts m line e r0 r1 same one =
     one_stopped e _ (subst (λ k. Takes {R = Result (List ℕ × Place) ℕ} r0 r1 (λ after read. Stops e read) (read_number_line k)) same one)
 
-pub weights_read : {C : Type 0} {cursor : Ghosts C} (counts : Counts) (m link a b n : ℕ) (weights : List ℕ) (u : Unit {0}) (r0 r1 : Reader C cursor) →
+pub weights_read : {C : Type 0} {cursor : Ghosts C} (counts : Counts) (m : ℕ) (line : BlockLine) (weights : List ℕ) (u : Unit {0}) (r0 r1 : Reader C cursor) →
     m ≡ counts.links → Takes r0 r1 (ReadsViewed (λ _. weights) (Ok u)) (read_number_line m) →
-    Takes r0 r1 (λ p whole. whole ≡ rows_and_sides counts link a b n weights p) (read_block_rest narrow_number counts link a b n)
+    Takes r0 r1 (λ p whole. whole ≡ rows_and_sides counts line weights p) (read_block_rest narrow_number counts line)
 unfolding read_block_rest
-weights_read {cursor = cursor} counts m link a b n weights u r0 r1 same one = record {
+weights_read {cursor = cursor} counts m line weights u r0 r1 same one = record {
   told = one.told;
   reads = λ t.
       let first = ap (λ k. read_number_line k (place r0.line (cursor.rest r0.source))) (sym same) ∙ one.reads t in
       rw first refl;
 }
 
-module _ (counts held : Counts) (link a b n : ℕ) (weights : List ℕ) (p : Place) (m width : ℕ) (whole : Result (Block × Place) ℕ)
-    (same : held ≡ counts) (count : m ≡ n) (wide : width ≡ held.nodes) (is : whole ≡ rows_and_sides counts link a b n weights p) where
-  rows_of : read_many n (read_row narrow_number counts.nodes) p ≡ read_many m (read_row narrow_number width) p
+module _ (counts held : Counts) (line : BlockLine) (weights : List ℕ) (p : Place) (m width : ℕ) (whole : Result (Block × Place) ℕ)
+    (same : held ≡ counts) (count : m ≡ line.rows) (wide : width ≡ held.nodes) (is : whole ≡ rows_and_sides counts line weights p) where
+  rows_of : read_many line.rows (read_row narrow_number counts.nodes) p ≡ read_many m (read_row narrow_number width) p
   rows_of =
       ap (λ k. read_many k (read_row narrow_number counts.nodes) p) (sym count)
       ∙ ap (λ w. read_many m (read_row narrow_number w) p) (sym (wide ∙ ap (λ (k : Counts). k.nodes) same))
@@ -92,7 +93,7 @@ module _ (counts held : Counts) (link a b n : ℕ) (weights : List ℕ) (p : Pla
   rows_stop (stops.Shape k) at = is ∙ rw (rows_of ∙ at) refl
 
   pub sides_read : (link' a' b' : ℕ) (weights' : List ℕ) (rows : List Row) (plus minus : List ℕ) (q : Place) (r : Result (Unit {0}) Stop) (after : Place) →
-      link' ≡ link → a' ≡ a → b' ≡ b → weights' ≡ weights → read_many m (read_row narrow_number width) p ≡ Ok (rows, q) →
+      link' ≡ line.link → a' ≡ line.a → b' ≡ line.b → weights' ≡ weights → read_many m (read_row narrow_number width) p ≡ Ok (rows, q) →
       ReadsViewed (λ _. (plus, minus)) r after (read_sides held.bounded held.pairs q) →
       ReadsViewed (λ _. record { link = link'; a = a'; b = b'; weights = weights'; rows = rows; plus = plus; minus = minus }) r after whole
   sides_read link' a' b' weights' rows plus minus q r after el ea eb ew at sides = go r (rw same at sides)

@@ -11,9 +11,10 @@ ghost use Rattle.cert_text.specs.Fits.{AreWords, FitsList, FitsRow, FitsSides, F
 ghost use Rattle.block_reader.specs.Room.{HasWidth, IsShelf, sides_of};
 
 use crate::room::Room;
-use cert_text::Stop;
 use cert_text::cursor::Cursor;
+use cert_text::grammar::block_line;
 use cert_text::reader::Reader;
+use cert_text::{BlockLine, Stop};
 use te_model::{Items, Row};
 
 // Numbers with a space before each, in the place of those of the list from this one on.
@@ -116,28 +117,21 @@ fn sides<C: Cursor>(
     Ok(())
 }
 
-// The lines of a block behind its first line, whose numbers these are.
-fn rest_of_block<C: Cursor>(
-    r: &mut Reader<C>,
-    room: &mut Room,
-    link: u32,
-    a: u64,
-    b: u64,
-    count: u64,
-) -> Result<(), Stop>
-    requires { is_count 0 room.old.limits.nodes count ≡ true }
+// The lines of a block behind its first line.
+fn rest_of_block<C: Cursor>(r: &mut Reader<C>, room: &mut Room, line: BlockLine) -> Result<(), Stop>
+    requires { is_count 0 room.old.limits.nodes line.rows ≡ true }
     ensures limits { room.new.limits ≡ room.old.limits }
     ensures counts { room.new.counts ≡ room.old.counts }
     ensures fits { OnOk result (FitsBlock room.old.limits room.old.counts room.new.block) }
     ensures room { result ≢ Err Stop.Memory }
     ensures takes { Takes r.old r.new (ReadsViewed (λ _. room.new.block) result)
-        (read_block_rest narrow_number room.old.counts link a b count) }
+        (read_block_rest narrow_number room.old.counts line) }
 {
-    room.block.link = link;
-    room.block.a = a;
-    room.block.b = b;
+    room.block.link = line.link;
+    room.block.a = line.a;
+    room.block.b = line.b;
     number_line(r, &mut room.block.weights)?;
-    room.lend(count as usize);
+    room.lend(line.rows as usize);
     rows(r, &mut room.block.rows, &mut room.spare)?;
     let counts = room.counts;
     sides(
@@ -154,7 +148,6 @@ fn rest_of_block<C: Cursor>(
 /// # Errors
 ///
 /// `Stop::Shape` with the first line that is not so.
-#[tactic(auto, unfolding(cert_text::specs::Grammar::read_block))]
 pub(crate) fn block<C: Cursor>(r: &mut Reader<C>, room: &mut Room) -> Result<(), Stop>
     ensures limits { room.new.limits ≡ room.old.limits }
     ensures counts { room.new.counts ≡ room.old.counts }
@@ -163,10 +156,6 @@ pub(crate) fn block<C: Cursor>(r: &mut Reader<C>, room: &mut Room) -> Result<(),
     ensures takes { Takes r.old r.new (ReadsViewed (λ _. room.new.block) result)
         (read_block room.old.limits narrow_number room.old.counts) }
 {
-    let link = r.narrow()?;
-    let a = r.next_number()?;
-    let b = r.next_number()?;
-    let count = r.next_count(0, room.limits.nodes)?;
-    r.end_line()?;
-    rest_of_block(r, room, link, a, b, count)
+    let line = block_line(r, room.limits.nodes)?;
+    rest_of_block(r, room, line)
 }

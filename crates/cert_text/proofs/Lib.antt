@@ -6,6 +6,7 @@ pub mod Decimals
 pub mod Tokens
 pub mod Productions
 pub mod Halves
+pub mod BlockParts
 pub mod Whole
 pub mod Lines
 pub mod Natural

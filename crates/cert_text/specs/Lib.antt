@@ -2,6 +2,7 @@ pub mod Place
 pub mod Takes
 pub mod Reading
 pub mod Grammar
+pub mod BlockLine
 pub mod BlockRest
 pub mod Halves
 pub mod LineEnds

@@ -1,13 +1,14 @@
 //! Reading a certificate's parts, line by line. What is handed out is shaped whether or not the content is told.
 //!
 //! The first line names the format, whose limits the lines after it keep.
-ghost use Rattle.std.specs.Prelude.{◌≡◌, ◌<◌, ◌≤◌, true, false, IfOk};
+ghost use Rattle.std.specs.Prelude.{◌≡◌, ◌≢◌, ◌<◌, ◌≤◌, true, false, IfOk, Err};
 ghost use Rattle.cert_text.specs.LineEnds.{read_line_end_after, read_last_numbers};
 ghost use Rattle.cert_text.specs.Place.{Reads, Passes};
 ghost use Rattle.cert_text.specs.Takes.{Takes};
 ghost use Rattle.cert_text.specs.Reading.{narrow_number, read_next_narrow};
 ghost use Rattle.te_model.specs.Shape.{is_count};
 ghost use Rattle.cert_text.specs.Fits.{IsWord, IsNamed, FitsLink, FitsNetwork, FitsPath, FitsPair, FitsRoutes, FitsList, FitsSet, FitsHead, FitsRow, FitsSides, FitsBlock};
+ghost use Rattle.cert_text.specs.BlockLine.{read_block_line};
 ghost use Rattle.cert_text.specs.BlockRest.{read_block_rest};
 ghost use Rattle.cert_text.specs.Halves.{read_format_and_head, read_blocks};
 ghost use Rattle.cert_text.specs.Grammar.{read_counted, read_listing, read_name_line, read_link_line, read_network, read_path, read_pair, read_routes, read_all, read_margin, read_set, read_ratio, read_head, read_number_line, read_row, read_sides, read_block, read_closing, read_certificate, counts_of, read_box, has_boxes, read_digit, read_format};
@@ -16,7 +17,7 @@ ghost use Rattle.te_model.specs.Formats.{limits_of};
 use crate::cursor::Cursor;
 use crate::fault::Stop;
 use crate::item::{Item, many};
-use crate::limits::Counts;
+use crate::limits::{BlockLine, Counts};
 use crate::reader::Reader;
 use std::alloc::Global;
 use te_model::{
@@ -28,6 +29,7 @@ use te_model::{
 #[tactic(auto, unfolding(crate::specs::LineEnds::read_line_end_after))]
 fn line_end_after<C: Cursor, T: Drop>(r: &mut Reader<C>, value: T) -> Result<T, Stop>
     ensures same { IfOk result (λ x. x ≡ value) }
+    ensures room { result ≢ Err Stop.Memory }
     ensures takes { Takes r.old r.new (Reads result) (read_line_end_after value) }
 {
     r.end_line()?;
@@ -399,6 +401,24 @@ fn sides<C: Cursor>(
     Ok((plus, minus))
 }
 
+/// The first line of a block, which has at most so many rows.
+///
+/// # Errors
+///
+/// `Stop::Shape` with the line, where it is not so.
+#[tactic(auto, unfolding(crate::specs::BlockLine::read_block_line, crate::specs::LineEnds::read_line_end_after))]
+pub fn block_line<C: Cursor>(r: &mut Reader<C>, most: u64) -> Result<BlockLine, Stop>
+    ensures fits { IfOk result (λ x. is_count 0 most x.rows ≡ true) }
+    ensures room { result ≢ Err Stop.Memory }
+    ensures takes { Takes r.old r.new (Reads result) (read_block_line narrow_number most) }
+{
+    let link = r.narrow()?;
+    let a = r.next_number()?;
+    let b = r.next_number()?;
+    let rows = r.next_count(0, most)?;
+    line_end_after(r, BlockLine { link, a, b, rows })
+}
+
 // A block, which has a weight for each link, and at least one.
 #[derive(Drop)]
 struct BlockLines<'a> {
@@ -408,31 +428,28 @@ struct BlockLines<'a> {
 }
 
 impl<'a> BlockLines<'a> {
-    // The lines after the first one of a block, whose numbers these are.
+    // The lines after the first one of a block.
     #[tactic(auto, unfolding(crate::specs::BlockRest::read_block_rest))]
     fn rest<C: Cursor>(
         &self,
         r: &mut Reader<C>,
         alloc: Global,
-        link: u32,
-        a: u64,
-        b: u64,
-        count: u64,
+        line: BlockLine,
     ) -> Result<Block, Stop>
-        requires { is_count 0 self.now.limits.now.nodes count ≡ true }
+        requires { is_count 0 self.now.limits.now.nodes line.rows ≡ true }
         ensures fits { IfOk result (λ x. FitsBlock self.now.limits.now self.now.counts.now x) }
         ensures takes { Takes r.old r.new (Reads result)
-            (read_block_rest narrow_number self.now.counts.now link a b count) }
+            (read_block_rest narrow_number self.now.counts.now line) }
     {
         let counts = self.counts;
         let weights = number_line(r, alloc, counts.links)?;
         let nodes = counts.nodes;
-        let rows = many(r, alloc, count, &RowLine { nodes })?;
+        let rows = many(r, alloc, line.rows, &RowLine { nodes })?;
         let (plus, minus) = sides(r, alloc, counts.bounded, counts.pairs)?;
         Ok(Block {
-            link,
-            a,
-            b,
+            link: line.link,
+            a: line.a,
+            b: line.b,
             weights,
             rows,
             plus,
@@ -448,14 +465,9 @@ impl<'a> Item for BlockLines<'a> {
 
     ghost Fits = { λ lines x. FitsBlock lines.limits.now lines.counts.now x };
 
-    #[tactic(auto, unfolding(crate::specs::Grammar::read_block))]
     fn read<C: Cursor>(&self, r: &mut Reader<C>, alloc: Global) -> Result<Block, Stop> {
-        let link = r.narrow()?;
-        let a = r.next_number()?;
-        let b = r.next_number()?;
-        let count = r.next_count(0, self.limits.nodes)?;
-        r.end_line()?;
-        self.rest(r, alloc, link, a, b, count)
+        let line = block_line(r, self.limits.nodes)?;
+        self.rest(r, alloc, line)
     }
 }
 

@@ -13,7 +13,7 @@ pub mod spelling;
 mod upgrading;
 
 pub use fault::{CertFault, Stop};
-pub use limits::Counts;
+pub use limits::{BlockLine, Counts};
 pub use printing::print;
 pub use reading::read;
 pub use upgrading::upgrade;
