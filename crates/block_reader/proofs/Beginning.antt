@@ -1,5 +1,5 @@
 -- The parts of what stands before the blocks, one after another.
-use Rattle.std.proofs.Common.{◌≡◌, ℕ, ◌≤◌, List, length, Result, Ok, Err, true, subst, arith}
+use Rattle.std.proofs.Common.{◌≡◌, ◌∙◌, ℕ, ◌≤◌, List, length, Result, Ok, Err, true, sym, ap, subst, arith}
 use Rattle.std.specs.Prelude.{codes}
 use Rattle.std.proofs.lemmas.Bool.Decides.{nat_tests}
 use Rattle.te_model.specs.declared.certificate.Head.{Head}
@@ -11,7 +11,10 @@ use Rattle.te_model.specs.Formats.{limits_of}
 use Rattle.te_model.specs.Shape.{is_count}
 use Rattle.cert_text.specs.Place.{Place, ◌>>=◌}
 use Rattle.cert_text.specs.Reading.{narrow_number, read_many}
-use Rattle.cert_text.specs.Grammar.{read_counted, read_network, read_pair, read_routes, read_set, read_ratio, read_head, read_format, read_opening}
+use Rattle.cert_text.specs.Halves.{read_format_and_head}
+use Rattle.cert_text.specs.Fits.{FitsHead}
+use Rattle.cert_text.specs.Grammar.{read_counted, read_network, read_pair, read_routes, read_set, read_ratio, read_head, read_format}
+use Rattle.cert_text.proofs.Halves.{own_limits}
 use Rattle.block_reader.specs.declared.lines.Lines.{Lines}
 use Rattle.block_reader.specs.declared.stream_fault.StreamFault.{StreamFault}
 use Rattle.block_reader.specs.Answers.{Gives, AnswersPart}
@@ -90,44 +93,22 @@ head_from_ratio g0 g1 l0 l1 limits network routes set ratio first =
     answers_then g0 g1 g1 l0 l1 l1 read_ratio (λ ratio p. Ok (head_of limits network routes set ratio, p)) ratio (Ok (head_of limits network routes set ratio)) first
     (done_gives g1 l1 (head_of limits network routes set ratio))
 
--- ---- the head and the count of the blocks
+-- ---- the first line and the head
 
-abbrev pub after_head : ℕ → Head → Place → Result ((Head × ℕ) × Place) ℕ
-after_head format head p = read_counted (codes "blocks ") 0 (limits_of format).links p >>= λ n. Ok ((head, n.0), n.1)
+pub format_stops : (g0 g1 : Gave) (l0 l1 : Lines) (fault : StreamFault) →
+    AnswersPart {X = ℕ} g0 g1 l0 l1 read_format (Err fault) → AnswersPart {X = Head} g0 g1 l0 l1 (read_format_and_head narrow_number) (Err fault)
+unfolding read_format_and_head
+format_stops g0 g1 l0 l1 fault stopped = answers_err g0 g1 l0 l1 read_format (λ format p. read_head (limits_of format) narrow_number p) fault stopped
 
-abbrev pub after_format : ℕ → Place → Result ((Head × ℕ) × Place) ℕ
-after_format format p = read_head (limits_of format) narrow_number p >>= λ head. after_head format head.0 head.1
+pub head_from_format : (g0 g1 g2 : Gave) (l0 l1 l2 : Lines) (limits : Limits) (format : ℕ) (r : Result Head StreamFault) → limits ≡ limits_of format →
+    Gives g0 g1 l0 l1 read_format format → AnswersPart g1 g2 l1 l2 (read_head limits narrow_number) r → AnswersPart g0 g2 l0 l2 (read_format_and_head narrow_number) r
+unfolding read_format_and_head
+head_from_format g0 g1 g2 l0 l1 l2 limits format r same first next =
+    answers_then g0 g1 g2 l0 l1 l2 read_format (λ format p. read_head (limits_of format) narrow_number p) format r first
+    (subst (λ (l : Limits). AnswersPart g1 g2 l1 l2 (read_head l narrow_number) r) same next)
 
-pub opening_stops : (g0 g1 : Gave) (l0 l1 : Lines) (fault : StreamFault) → AnswersPart {X = ℕ} g0 g1 l0 l1 read_format (Err fault) → AnswersPart {X = Head × ℕ} g0 g1 l0 l1 (read_opening narrow_number) (Err fault)
-unfolding read_opening
-opening_stops g0 g1 l0 l1 fault stopped = answers_err g0 g1 l0 l1 read_format after_format fault stopped
-
-pub opening_from_format : (g0 g1 g2 : Gave) (l0 l1 l2 : Lines) (format : ℕ) (r : Result (Head × ℕ) StreamFault) →
-    Gives g0 g1 l0 l1 read_format format → AnswersPart g1 g2 l1 l2 (after_format format) r → AnswersPart g0 g2 l0 l2 (read_opening narrow_number) r
-unfolding read_opening
-opening_from_format g0 g1 g2 l0 l1 l2 format r first next = answers_then g0 g1 g2 l0 l1 l2 read_format after_format format r first next
-
-pub after_format_stops : (g0 g1 : Gave) (l0 l1 : Lines) (limits : Limits) (format : ℕ) (fault : StreamFault) → limits ≡ limits_of format →
-    AnswersPart {X = Head} g0 g1 l0 l1 (read_head limits narrow_number) (Err fault) → AnswersPart {X = Head × ℕ} g0 g1 l0 l1 (after_format format) (Err fault)
-after_format_stops g0 g1 l0 l1 limits format fault same stopped =
-    answers_err g0 g1 l0 l1 (read_head (limits_of format) narrow_number) (after_head format) fault
-    (subst (λ (l : Limits). AnswersPart {X = Head} g0 g1 l0 l1 (read_head l narrow_number) (Err fault)) same stopped)
-
-pub opening_from_head : (g0 g1 g2 : Gave) (l0 l1 l2 : Lines) (limits : Limits) (format : ℕ) (head : Head) (r : Result (Head × ℕ) StreamFault) → limits ≡ limits_of format →
-    Gives g0 g1 l0 l1 (read_head limits narrow_number) head → AnswersPart g1 g2 l1 l2 (after_head format head) r → AnswersPart g0 g2 l0 l2 (after_format format) r
-opening_from_head g0 g1 g2 l0 l1 l2 limits format head r same first next =
-    answers_then g0 g1 g2 l0 l1 l2 (read_head (limits_of format) narrow_number) (after_head format) head r
-    (subst (λ (l : Limits). Gives g0 g1 l0 l1 (read_head l narrow_number) head) same first) next
-
-pub after_head_stops : (g0 g1 : Gave) (l0 l1 : Lines) (limits : Limits) (format : ℕ) (head : Head) (fault : StreamFault) → limits ≡ limits_of format →
-    AnswersPart {X = ℕ} g0 g1 l0 l1 (read_counted (codes "blocks ") 0 limits.links) (Err fault) → AnswersPart {X = Head × ℕ} g0 g1 l0 l1 (after_head format head) (Err fault)
-after_head_stops g0 g1 l0 l1 limits format head fault same stopped =
-    answers_err g0 g1 l0 l1 (read_counted (codes "blocks ") 0 (limits_of format).links) (λ n p. Ok ((head, n), p)) fault
-    (subst (λ (l : Limits). AnswersPart {X = ℕ} g0 g1 l0 l1 (read_counted (codes "blocks ") 0 l.links) (Err fault)) same stopped)
-
-pub opening_from_count : (g0 g1 : Gave) (l0 l1 : Lines) (limits : Limits) (format : ℕ) (head : Head) (n : ℕ) → limits ≡ limits_of format →
-    Gives g0 g1 l0 l1 (read_counted (codes "blocks ") 0 limits.links) n → AnswersPart g0 g1 l0 l1 (after_head format head) (Ok (head, n))
-opening_from_count g0 g1 l0 l1 limits format head n same first =
-    answers_then g0 g1 g1 l0 l1 l1 (read_counted (codes "blocks ") 0 (limits_of format).links) (λ n p. Ok ((head, n), p)) n (Ok (head, n))
-    (subst (λ (l : Limits). Gives g0 g1 l0 l1 (read_counted (codes "blocks ") 0 l.links) n) same first)
-    (done_gives g1 l1 (head, n))
+-- a head within the limits of a format has these by its own
+pub fits_own : (limits : Limits) (format : ℕ) (head : Head) → limits ≡ limits_of format → FitsHead limits head → FitsHead (limits_of head.format) head
+fits_own limits format head same fits =
+    let own : limits ≡ limits_of head.format = same ∙ sym (own_limits format) ∙ ap (λ (l : Limits). limits_of l.format) (sym same) ∙ ap limits_of (sym fits.format) in
+    subst (λ (l : Limits). FitsHead l head) own fits

@@ -17,9 +17,11 @@ use Rattle.te_model.proofs.RuleParts.{first_rule-parts, blocks_fault-more}
 use Rattle.te_model.proofs.Tests.{and_true, and_three, or_else_none, unless_none}
 use Rattle.cert_text.specs.Place.{Place, place, ◌>>=◌}
 use Rattle.cert_text.specs.Reading.{narrow_number, read_many}
-use Rattle.cert_text.specs.Grammar.{read_block, read_closing, read_opening, read_certificate, counts_of}
+use Rattle.cert_text.specs.Grammar.{read_block, read_closing, read_certificate, counts_of}
+use Rattle.cert_text.specs.Halves.{read_format_and_head, read_blocks}
 use Rattle.cert_text.specs.Fits.{FitsHead, FitsBlock}
 use Rattle.cert_text.specs.declared.fault.CertFault.TheVariants as cert_faults
+use Rattle.cert_text.proofs.Halves.{after_many, closed, halves_are, made_of, with_blocks}
 use Rattle.cert_text.proofs.Laws.{fault_is}
 use Rattle.cert_text.proofs.Local.{quiet}
 use Rattle.cert_text.proofs.Outcomes.{is_spelled, is_rule_fault}
@@ -32,7 +34,7 @@ use Rattle.block_reader.specs.declared.stream_fault.StreamFault.TheVariants as f
 use Rattle.block_reader.specs.Ahead.{with_no_value}
 use Rattle.block_reader.specs.Standing.{StandsIn}
 use Rattle.block_reader.specs.Answers.{place_in, IsBehind, IsWhole, Gives, StopsAs, IsClosed}
-use Rattle.block_reader.specs.Blocks.{rest_at, AreOf, AreBehind, KeepsRules, IsEarliest, IsShapeOf, IsTextOf, IsFaultOf}
+use Rattle.block_reader.specs.Blocks.{block_count, rest_at, AreOf, AreBehind, KeepsRules, IsEarliest, IsShapeOf, IsTextOf, IsFaultOf}
 
 -- ---- what is left to read
 
@@ -240,32 +242,47 @@ valid_block head b fits of_block numbers small =
 abbrev start : ℕ → List ℕ → Place
 start line content = place line content
 
--- what is read behind the head and the count of the blocks
-abbrev all_behind : (Head × ℕ) × Place → Result (Certificate × Place) ℕ
-all_behind x = read_many x.0.1 (block_in x.0.0) x.1 >>= λ bs. read_closing bs.1 >>= λ e. Ok (made x.0.0 bs.0, e)
+-- the whole, where the head was read
+head_whole : (content : List ℕ) (line : ℕ) (head : Head) (p : Place) → line ≡ 1 → read_format_and_head narrow_number (start line content) ≡ Ok (head, p) →
+    read_certificate narrow_number (place 1 content) ≡ with_blocks narrow_number (head, p)
+head_whole content line head p first read =
+    ap (λ k. read_certificate narrow_number (place k content)) (sym first)
+    ∙ sym (halves_are narrow_number (start line content)) ∙ ap (λ (r : Result (Head × Place) ℕ). r >>= with_blocks narrow_number) read
 
-pub opened : (gave given : ℕ → List ℕ → Type 0) (old : Lines) (new : Blocks) (head : Head) (count : ℕ) → old.line ≡ 1 → IsBehind gave old [] →
-    Gives gave given old new.lines (read_opening narrow_number) (head, count) → new.left ≡ count → new.place ≡ 0 → new.before ≡ None → AreOf new head → AreBehind given new head []
-unfolding read_certificate rest_at
-opened gave given old new head count line behind gives left place before of_head =
-    let one = gives [] behind in record {
-      passed = one.0;
-      behind = one.1;
+pub opened : (g0 g1 g2 : ℕ → List ℕ → Type 0) (old mid : Lines) (new : Blocks) (head : Head) → old.line ≡ 1 → IsBehind g0 old [] →
+    Gives g0 g1 old mid (read_format_and_head narrow_number) head → Gives g1 g2 mid new.lines (block_count head) new.left → new.place ≡ 0 → new.before ≡ None → AreOf new head → AreBehind g2 new head []
+unfolding rest_at read_blocks
+opened g0 g1 g2 old mid new head line behind of_head_read of_count place before of_head =
+    let one = of_head_read [] behind in
+    let two = of_count one.0 one.1 in record {
+      passed = one.0 ++ two.0;
+      behind = two.1;
       read = λ content s.
-          let moved = one.2 content s in
-          let first : read_opening narrow_number (place_in old [] content) ≡ Ok ((head, count), place_in new.lines one.0 content) = moved.1 in
-          ap (λ k. read_certificate narrow_number (start k content)) (sym line)
-          ∙ ap (λ (r : Result ((Head × ℕ) × Place) ℕ). r >>= all_behind) first
-          ∙ ap (λ n. read_many n (block_in head) (place_in new.lines one.0 content) >>= finish head []) (sym left);
+          let count = two.2 content s in
+          let first = one.2 content count.0 in
+          let at = place_in new.lines (one.0 ++ two.0) content in
+          head_whole content old.line head (place_in mid one.0 content) line first.1
+          ∙ ap (λ (r : Result (ℕ × Place) ℕ). (r >>= λ n. read_many n.0 (block_in head) n.1 >>= closed) >>= made_of head) count.1
+          ∙ after_many head (read_many new.left (block_in head) at);
       counted = record { place = place; before = before };
       of_head = of_head;
     }
 
-pub opening_refused : (given : ℕ → List ℕ → Type 0) (old : Lines) (fault : StreamFault) → old.line ≡ 1 → StopsAs given old [] (read_opening narrow_number) fault → IsFaultOf given fault
-unfolding read_certificate
-opening_refused given old fault line stops =
-    stop_refused given old [] (read_opening narrow_number) fault
+pub head_refused : (given : ℕ → List ℕ → Type 0) (old : Lines) (fault : StreamFault) → old.line ≡ 1 → StopsAs given old [] (read_format_and_head narrow_number) fault → IsFaultOf given fault
+head_refused given old fault line stops =
+    stop_refused given old [] (read_format_and_head narrow_number) fault
     (λ content s k stop.
     ap (λ i. read_certificate narrow_number (place i content)) (sym line)
-    ∙ ap (λ (r : Result ((Head × ℕ) × Place) ℕ). r >>= all_behind) stop)
+    ∙ sym (halves_are narrow_number (place_in old [] content)) ∙ ap (λ (r : Result (Head × Place) ℕ). r >>= with_blocks narrow_number) stop)
     stops
+
+pub count_refused : (g0 g1 g2 : ℕ → List ℕ → Type 0) (old mid : Lines) (head : Head) (fault : StreamFault) → old.line ≡ 1 → IsBehind g0 old [] →
+    Gives g0 g1 old mid (read_format_and_head narrow_number) head → ((passed : List ℕ) → IsBehind g1 mid passed → StopsAs g2 mid passed (block_count head) fault) → IsFaultOf g2 fault
+unfolding read_blocks
+count_refused g0 g1 g2 old mid head fault line behind of_head_read stops =
+    let one = of_head_read [] behind in
+    stop_refused g2 mid one.0 (block_count head) fault
+    (λ content s k stop.
+    head_whole content old.line head (place_in mid one.0 content) line (one.2 content s).1
+    ∙ ap (λ (r : Result (ℕ × Place) ℕ). (r >>= λ n. read_many n.0 (block_in head) n.1 >>= closed) >>= made_of head) stop)
+    (stops one.0 one.1)

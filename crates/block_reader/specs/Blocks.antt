@@ -1,5 +1,5 @@
 -- Where a reader of blocks stands in the file of a certificate.
-use Rattle.std.specs.Prelude.{◌≡◌, ℕ, List, ◌++◌, Bool, true, false, Option, Some, None, length, string_bytes, Result, Ok, Err}
+use Rattle.std.specs.Prelude.{◌≡◌, ℕ, List, ◌++◌, Bool, true, false, Option, Some, None, length, string_bytes, codes, Result, Ok, Err}
 use Rattle.te_model.specs.declared.certificate.Block.{Block}
 use Rattle.te_model.specs.declared.certificate.Certificate.{Certificate}
 use Rattle.te_model.specs.declared.certificate.Head.{Head}
@@ -12,7 +12,7 @@ use Rattle.te_model.specs.Validity.{head_fault, blocks_fault, link_before, earli
 use Rattle.te_ports.specs.Record.{IsReadPastAllowed}
 use Rattle.cert_text.specs.Place.{Place, place, ◌>>=◌}
 use Rattle.cert_text.specs.Reading.{narrow_number, read_many}
-use Rattle.cert_text.specs.Grammar.{read_block, read_closing, read_certificate, counts_of}
+use Rattle.cert_text.specs.Grammar.{read_counted, read_block, read_closing, read_certificate, counts_of}
 use Rattle.cert_text.specs.Fits.{FitsHead}
 use Rattle.block_reader.specs.declared.block_reader.BlockReader.{BlockReader}
 use Rattle.block_reader.specs.declared.blocks.Blocks.{Blocks}
@@ -20,7 +20,7 @@ use Rattle.block_reader.specs.declared.lines.Lines.{Lines}
 use Rattle.block_reader.specs.declared.stream_fault.StreamFault.{StreamFault}
 use Rattle.block_reader.specs.declared.stream_fault.StreamFault.TheVariants as faults
 use Rattle.block_reader.specs.Standing.{StandsIn}
-use Rattle.block_reader.specs.Answers.{IsBehind, IsWhole, place_in}
+use Rattle.block_reader.specs.Answers.{Gives, IsBehind, IsWhole, StopsAs, place_in}
 
 -- the name of the file
 abbrev pub name_of : BlockReader → List ℕ
@@ -121,17 +121,24 @@ IsFaultOf gave (faults.Shape line) = (bytes : List ℕ) × IsWhole gave bytes ×
 IsFaultOf gave (faults.Rule rule) = (bytes : List ℕ) × IsWhole gave bytes × IsRuleFault bytes rule
 IsFaultOf gave faults.Memory = Unit {0}
 
--- a reader behind a head with so many blocks, of which none was read
-pub record IsBehindHead (r : BlockReader) (name : List ℕ) (lines : Lines) (head : Head) (count : ℕ) : Type 0 where
+-- a reader behind a head and the count of its blocks, of which none was read
+pub record IsBehindHead (r : BlockReader) (name : List ℕ) (head : Head) : Type 0 where
   pub named : name_of r ≡ name
-  pub stands : r.blocks.lines ≡ lines
   pub limits : r.blocks.room.limits ≡ limits_of head.format
   pub counts : r.blocks.room.counts ≡ counts_of head
-  pub left : r.blocks.left ≡ count
   pub place : r.blocks.place ≡ 0
   pub before : r.blocks.before ≡ None
   pub no_fault : r.fault ≡ None
   pub not_over : r.over ≡ false
+
+-- the line of the count of the blocks
+abbrev pub block_count : Head → Place → Result (ℕ × Place) ℕ
+block_count head = read_counted (codes "blocks ") 0 (limits_of head.format).links
+
+-- the count was read behind the head, and the reader stands behind it; or why there is none
+abbrev pub CountsBlocks : (ℕ → List ℕ → Type 0) → (ℕ → List ℕ → Type 0) → Lines → Head → Result BlockReader StreamFault → Type 0
+CountsBlocks gave given lines head (Ok r) = Gives gave given lines r.blocks.lines (block_count head) r.blocks.left
+CountsBlocks gave given lines head (Err fault) = (passed : List ℕ) → IsBehind gave lines passed → StopsAs given lines passed (block_count head) fault
 
 -- reads gave the text of the certificate of this head and these blocks
 abbrev pub IsTextOf : (ℕ → List ℕ → Type 0) → Head → List Block → Type 0

@@ -6,7 +6,8 @@ ghost use Rattle.block_reader.specs.Standing.{state_of};
 
 use crate::blocks::Blocks;
 use crate::lines::Lines;
-use crate::opening::{block_size, opening};
+use crate::opening::{block_size, format_and_head};
+use crate::parts::{BlockCount, read_part};
 use crate::room::Room;
 use crate::stream_fault::StreamFault;
 use cert_text::grammar::counts_of_head;
@@ -39,7 +40,7 @@ impl BlockReader {
     ghost use Rattle.te_ports.specs.Shown.{shown_by};
     ghost use Rattle.block_reader.specs.Answers.{IsWell};
     ghost use Rattle.block_reader.specs.Depots.{ReadsNamed};
-    ghost use Rattle.block_reader.specs.Blocks.{AreBehind, HasRead, IsReaderOf, IsFaultOf, IsTextOf, IsBehindHead, name_of, lent_block, last_link, blocks_left, holds_block, noted_fault, is_over};
+    ghost use Rattle.block_reader.specs.Blocks.{AreBehind, HasRead, IsReaderOf, IsFaultOf, IsTextOf, IsBehindHead, CountsBlocks, name_of, lent_block, last_link, blocks_left, holds_block, noted_fault, is_over};
 
     /// Reads what stands before the blocks of the file of this name.
     ///
@@ -90,26 +91,29 @@ impl BlockReader {
             name.now result }
     {
         let mut lines = Lines::open(alloc, depot, name)?;
-        let (head, count) = opening(alloc, depot, name, &mut lines)?;
-        let reader = BlockReader::behind(alloc, name, lines, &head, count)?;
+        let head = format_and_head(alloc, depot, name, &mut lines)?;
+        let reader = BlockReader::behind(alloc, depot, name, lines, &head)?;
         Ok((reader, head))
     }
 
-    // Stands behind what stands before the blocks.
-    fn behind(
+    // Reads the count of the blocks, and stands behind it.
+    fn behind<D: Depot>(
         alloc: Global,
+        depot: &mut D,
         name: &str,
-        lines: Lines,
+        mut lines: Lines,
         head: &Head,
-        count: u64,
     ) -> Result<BlockReader, StreamFault>
         requires well { IsWell lines }
         requires fits { FitsHead (limits_of head.now.format) head.now }
-        requires count { count ≤ (limits_of head.now.format).links }
-        ensures behind { IfOk result (λ r. IsBehindHead r name.now lines head.now count) }
-        ensures memory { (fault : StreamFault) → result ≡ Err fault → fault ≡ StreamFault.Memory }
+        ensures behind { IfOk result (λ r. IsBehindHead r name.now head.now) }
+        ensures counts { CountsBlocks (D.gave depot.old name.now) (D.gave depot.new name.now) lines head.now result }
+        ensures reads { ReadsNamed (shown_by D.content D.gave D.faults depot.old) (shown_by D.content D.gave D.faults depot.new)
+            name.now result }
     {
         let limits = limits_of(head.format);
+        let part = BlockCount { limits: &limits };
+        let left = read_part(alloc, depot, name, &mut lines, &part)?;
         let counts = counts_of_head(head);
         let size = block_size(&limits, &counts);
         let name = String::from_str(alloc, name)?;
@@ -120,7 +124,7 @@ impl BlockReader {
                 lines,
                 room,
                 size,
-                left: count,
+                left,
                 place: 0,
                 before: None,
             },

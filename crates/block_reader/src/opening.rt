@@ -1,9 +1,9 @@
 //! Reading what stands before the blocks, part by part.
-ghost use Rattle.std.specs.Prelude.{◌≡◌, ◌≤◌, length, IfOk, OnOk, true};
+ghost use Rattle.std.specs.Prelude.{◌≡◌, ◌≤◌, length, IfOk, OnOk};
 ghost use Rattle.te_model.specs.Formats.{limits_of};
-ghost use Rattle.te_model.specs.Shape.{is_count};
 ghost use Rattle.cert_text.specs.Reading.{narrow_number, read_many};
-ghost use Rattle.cert_text.specs.Grammar.{read_format, read_pair, read_routes, read_head, read_opening};
+ghost use Rattle.cert_text.specs.Grammar.{read_format, read_pair, read_routes, read_head};
+ghost use Rattle.cert_text.specs.Halves.{read_format_and_head};
 ghost use Rattle.cert_text.specs.Fits.{FitsPair, FitsRoutes, FitsHead};
 ghost use Rattle.cert_text.specs.Listed.{IsListOf};
 ghost use Rattle.block_reader.specs.Sizes.{block_size};
@@ -14,7 +14,7 @@ ghost use Rattle.block_reader.specs.Depots.{ReadsNamed};
 
 use crate::lines::Lines;
 use crate::parts::{
-    BlockCount, FormatLine, NetworkLines, PairCount, PairLines, RatioLine, SetLines, read_part,
+    FormatLine, NetworkLines, PairCount, PairLines, RatioLine, SetLines, read_part,
 };
 use crate::stream_fault::StreamFault;
 use cert_text::Counts;
@@ -130,24 +130,21 @@ fn head<D: Depot>(
     })
 }
 
-/// The head, and the count of the blocks.
-pub(crate) fn opening<D: Depot>(
+/// The first line, which gives the limits, and the head.
+pub(crate) fn format_and_head<D: Depot>(
     alloc: Global,
     depot: &mut D,
     name: &str,
     lines: &mut Lines,
-) -> Result<(Head, u64), StreamFault>
+) -> Result<Head, StreamFault>
     requires well { IsWell lines.old }
     ensures well { OnOk result (IsWell lines.new) }
-    ensures fits { IfOk result (λ x. FitsHead (limits_of x.0.format) x.0) }
-    ensures count { IfOk result (λ x. is_count 0 (limits_of x.0.format).links x.1 ≡ true) }
+    ensures fits { IfOk result (λ x. FitsHead (limits_of x.format) x) }
     ensures answers { AnswersPart (D.gave depot.old name.now) (D.gave depot.new name.now) lines.old lines.new
-        (read_opening narrow_number) result }
+        (read_format_and_head narrow_number) result }
     ensures reads { ReadsNamed (shown_by D.content D.gave D.faults depot.old) (shown_by D.content D.gave D.faults depot.new)
         name.now result }
 {
     let limits = limits_of(first_line(alloc, depot, name, lines)?);
-    let head = head(alloc, depot, name, lines, &limits)?;
-    let count = read_part(alloc, depot, name, lines, &BlockCount { limits: &limits })?;
-    Ok((head, count))
+    head(alloc, depot, name, lines, &limits)
 }

@@ -26,7 +26,7 @@ head_of limits keep p x e =
     let made : Head = record { format = limits.format; network = s0.0.0; routes = s1.0.0; set = s2.0.0; ratio = s3.0.0 } in
     subst (λ (y : Head × Place). limits.format ≡ y.0.format) (ok_is {A = Head × Place} (made, s3.0.1) x s3.2) refl
 
-own_limits : (format : ℕ) → limits_of (limits_of format).format ≡ limits_of format
+pub own_limits : (format : ℕ) → limits_of (limits_of format).format ≡ limits_of format
 own_limits format = either (eqb format 2)
   where
     either : (t : Bool) → limits_of (cond t FORMAT_2 FORMAT_1).format ≡ cond t FORMAT_2 FORMAT_1
@@ -34,16 +34,16 @@ own_limits format = either (eqb format 2)
     either false = refl
 
 -- the certificate of a head and its blocks
-abbrev made : Head → List Block → Place → Result (Certificate × Place) ℕ
+abbrev pub made : Head → List Block → Place → Result (Certificate × Place) ℕ
 made head blocks e = Ok (record { head = head; blocks = blocks }, e)
 
-abbrev kept : List Block → Place → Result (List Block × Place) ℕ
+abbrev pub kept : List Block → Place → Result (List Block × Place) ℕ
 kept blocks e = Ok (blocks, e)
 
 abbrev counted : Head → ℕ × Place → Result ((Head × ℕ) × Place) ℕ
 counted head n = Ok ((head, n.0), n.1)
 
-abbrev made_of : Head → List Block × Place → Result (Certificate × Place) ℕ
+abbrev pub made_of : Head → List Block × Place → Result (Certificate × Place) ℕ
 made_of head blocks = made head blocks.0 blocks.1
 
 -- the certificate of such a head, with the blocks that are read
@@ -53,10 +53,10 @@ with_blocks keep h = read_blocks keep h.0 h.1 >>= made_of h.0
 abbrev listed : (ℕ → ℕ) → Head → ℕ × Place → Result (List Block × Place) ℕ
 listed keep head n = read_many n.0 (read_block (limits_of head.format) keep (counts_of head)) n.1
 
-abbrev closed : List Block × Place → Result (List Block × Place) ℕ
+abbrev pub closed : List Block × Place → Result (List Block × Place) ℕ
 closed blocks = read_closing blocks.1 >>= kept blocks.0
 
-abbrev closed_with : Head → List Block × Place → Result (Certificate × Place) ℕ
+abbrev pub closed_with : Head → List Block × Place → Result (Certificate × Place) ℕ
 closed_with head blocks = read_closing blocks.1 >>= made head blocks.0
 
 abbrev opened_then : (ℕ → ℕ) → (Head × ℕ) × Place → Result (Certificate × Place) ℕ
@@ -72,7 +72,7 @@ after_closing : (head : Head) (blocks : List Block) (m : Result Place ℕ) → (
 after_closing head blocks (Ok e) = refl
 after_closing head blocks (Err k) = refl
 
-after_many : (head : Head) (m : Result (List Block × Place) ℕ) → ((m >>= closed) >>= made_of head) ≡ (m >>= closed_with head)
+pub after_many : (head : Head) (m : Result (List Block × Place) ℕ) → ((m >>= closed) >>= made_of head) ≡ (m >>= closed_with head)
 after_many head (Ok b) = after_closing head b.0 (read_closing b.1)
 after_many head (Err k) = refl
 
@@ -95,7 +95,7 @@ after_format keep (Ok f) =
     after_head keep (limits_of f.0) (read_head (limits_of f.0) keep f.1) (λ x e. ap limits_of (sym (head_of (limits_of f.0) keep f.1 x e)) ∙ own_limits f.0)
 after_format keep (Err k) = refl
 
-halves_are : (keep : ℕ → ℕ) (p : Place) → (read_format_and_head keep p >>= with_blocks keep) ≡ read_certificate keep p
+pub halves_are : (keep : ℕ → ℕ) (p : Place) → (read_format_and_head keep p >>= with_blocks keep) ≡ read_certificate keep p
 unfolding read_format_and_head read_certificate read_opening
 halves_are keep p = after_format keep (read_format p)
 

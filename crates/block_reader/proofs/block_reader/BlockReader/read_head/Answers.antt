@@ -1,10 +1,10 @@
-use Rattle.std.proofs.Common.{[], Ok, Err, refl, subst}
+use Rattle.std.proofs.Common.{[], Ok, Err, subst}
 use Rattle.std.proofs.lemmas.Result.{err_from_is_err_and}
 use Rattle.block_reader.specs.Blocks.{IsFaultOf}
-use Rattle.block_reader.proofs.Handing.{opening_refused}
+use Rattle.block_reader.proofs.Handing.{count_refused, head_refused}
 use Rattle.block_reader.proofs.Advancing.{fault_is}
 use Rattle.block_reader.proofs.Starting.{opened_reader}
-use Rattle.block_reader.proofs.Reading.{reads_then, reads_as, reads_err, reads_short}
+use Rattle.block_reader.proofs.Reading.{reads_then, reads_as, reads_err}
 use Rattle.block_reader.proofs.block_reader.BlockReader.read_head.Goals as goal
 
 pub returns-in_err-head-clause-refused : goal.returns-in_err-head-clause-refused
@@ -13,13 +13,22 @@ returns-in_err-head-clause-refused g c =
     let f = c.in_err-head.field-0.0 in
     let lines = c.in_ok-lines.ensures in
     rw (p.1, p.2) (λ fault is.
-    subst (IsFaultOf _) (fault_is f fault is) (opening_refused _ c.in_ok-lines.lines f lines.line (c.in_err-head.ensures.answers [] lines.behind)))
+    subst (IsFaultOf _) (fault_is f fault is) (head_refused _ c.in_ok-lines.lines f lines.line (c.in_err-head.ensures.answers [] lines.behind)))
+
+pub returns-in_err-reader-clause-refused : goal.returns-in_err-reader-clause-refused
+returns-in_err-reader-clause-refused g c =
+    let p = err_from_is_err_and c.from_residual-in_err-reader.result c.from_residual-in_err-reader.ensures.1 in
+    let f = c.in_err-reader.field-0.0 in
+    let lines = c.in_ok-lines.ensures in
+    rw (p.1, p.2) (λ fault is.
+    subst (IsFaultOf _) (fault_is f fault is)
+    (count_refused _ _ _ c.in_ok-lines.lines c.format_and_head.new.lines c.in_ok-head.head f lines.line lines.behind c.in_ok-head.ensures.answers c.in_err-reader.ensures.counts))
 
 pub returns-clause-stands : goal.returns-clause-stands
 returns-clause-stands g c =
     let lines = c.in_ok-lines.ensures in
-    opened_reader _ _ c.in_ok-lines.lines c.opening.new.lines c.in_ok-reader.reader _ c.in_ok-head.head c.in_ok-head.count lines.line lines.behind
-    c.in_ok-head.ensures.answers c.in_ok-head.ensures.fits c.in_ok-reader.ensures.behind
+    opened_reader _ _ _ c.in_ok-lines.lines c.format_and_head.new.lines c.in_ok-reader.reader _ c.in_ok-head.head lines.line lines.behind
+    c.in_ok-head.ensures.answers c.in_ok-head.ensures.fits c.in_ok-reader.ensures.behind c.in_ok-reader.ensures.counts
 
 pub returns-in_err-lines-clause-reads : goal.returns-in_err-lines-clause-reads
 returns-in_err-lines-clause-reads g c =
@@ -35,10 +44,11 @@ pub returns-in_err-reader-clause-reads : goal.returns-in_err-reader-clause-reads
 returns-in_err-reader-clause-reads g c =
     let p = err_from_is_err_and c.from_residual-in_err-reader.result c.from_residual-in_err-reader.ensures.1 in
     let f = c.in_err-reader.field-0.0 in
-    let memory = c.in_err-reader.ensures.memory f refl in
     rw (p.1, p.2)
     (reads_then _ _ _ _ c.in_ok-lines.lines (Err f) c.in_ok-lines.ensures.reads
-    (reads_then _ _ _ _ (c.in_ok-head.head, c.in_ok-head.count) (Err f) c.in_ok-head.ensures.reads (reads_short _ c.args.name.now f memory)))
+    (reads_then _ _ _ _ c.in_ok-head.head (Err f) c.in_ok-head.ensures.reads (reads_err _ _ _ f c.in_err-reader.ensures.reads)))
 
 pub returns-clause-reads : goal.returns-clause-reads
-returns-clause-reads g c = reads_then _ _ _ _ c.in_ok-lines.lines (Ok _) c.in_ok-lines.ensures.reads (reads_as _ _ _ (c.in_ok-head.head, c.in_ok-head.count) _ c.in_ok-head.ensures.reads)
+returns-clause-reads g c =
+    reads_then _ _ _ _ c.in_ok-lines.lines (Ok _) c.in_ok-lines.ensures.reads
+    (reads_then _ _ _ _ c.in_ok-head.head (Ok _) c.in_ok-head.ensures.reads (reads_as _ _ _ c.in_ok-reader.reader _ c.in_ok-reader.ensures.reads))
