@@ -58,3 +58,6 @@ ok_sound x e = cc
 
 pub at_least : (a b c : ℕ) → a ≤ b → b ≤ c → a ≤ c
 at_least a b c first next = omega (arith, first, next)
+
+pub at_most_itself : (a : ℕ) → a ≤ a
+at_most_itself a = omega arith

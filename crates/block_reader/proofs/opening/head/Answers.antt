@@ -1,4 +1,4 @@
-use Rattle.std.proofs.Common.{◌≤◌, List, length, Ok, Err, refl, ap, subst, arith}
+use Rattle.std.proofs.Common.{◌≤◌, List, length, Ok, Err, refl, sym, subst}
 use Rattle.te_model.specs.declared.route.PairRoutes.{PairRoutes}
 use Rattle.cert_text.specs.Fits.{FitsSet}
 use Rattle.std.proofs.lemmas.Result.{err_from_is_err_and}
@@ -64,7 +64,7 @@ read_part-requires-clause-part g c = network_part c.args.limits.now c.requires.l
 pub read_part-requires-2-clause-part : goal.read_part-requires-2-clause-part
 read_part-requires-2-clause-part g c =
     let few : length c.in_ok-routes.routes ≤ c.args.limits.now.pairs = few_of_count 0 c.args.limits.now.pairs (length c.in_ok-routes.routes) c.in_ok-routes.ensures.fits.pairs in
-    set_part c.args.limits.now (length c.as_slice.result.now) c.requires.limits (omega (arith, few, ap length c.as_slice.ensures))
+    set_part c.args.limits.now (length c.as_slice.result.now) c.requires.limits (subst (λ (rs : List PairRoutes). length rs ≤ c.args.limits.now.pairs) (sym c.as_slice.ensures) few)
 
 pub read_part-requires-3-clause-part : goal.read_part-requires-3-clause-part
 read_part-requires-3-clause-part g c = ratio_part

@@ -3,6 +3,7 @@ use Rattle.te_ports.specs.Ports.{Rose}
 use Rattle.block_reader.specs.declared.window.State.TheVariants.{Open, Failed}
 use Rattle.block_reader.specs.Standing.{ready, StandsAt, StandsIn}
 use Rattle.block_reader.proofs.Going.{at_clear, in_clear}
+use Rattle.block_reader.proofs.Reading.{at_least, at_most_itself}
 use Rattle.block_reader.proofs.window.Window.drain.Goals as goal
 
 pub pieces-init : goal.pieces-init
@@ -19,7 +20,7 @@ pieces-init g c =
       (λ closed. (clear.state, refl)),
       (λ is. inl (sym clear.state ∙ is)),
       (λ is. refl),
-      (λ other. omega arith),
+      (λ other. at_most_itself _),
       (λ other at bytes given. given),
       omega (arith, clear.fetched),
       (λ closed. clear.fetched),
@@ -54,7 +55,7 @@ pieces-preserved g c =
       (λ closed. absurd (closed (sym (all.7 closed).0 ∙ is_open))),
       (λ is. inr (subst (λ f. Rose (f name) (g.D.Depot.faults c.fetch.new.depot name)) (all.9 sound) (next.failed (sym clear.state ∙ is)))),
       (λ is. next.steady (λ failed. is (clear.state ∙ failed)) ∙ all.9 sound),
-      (λ other. omega (arith, all.10 other, next.later other)),
+      (λ other. at_least _ _ _ (all.10 other) (next.later other)),
       (λ other at bytes given. next.kept other at bytes (all.11 other at bytes given)),
       omega (arith, all.12, clear.fetched, next.count, ap length next.behind.1, length-append (ready c.pieces.self) next.behind.0),
       (λ closed. absurd (closed (sym (all.7 closed).0 ∙ is_open))),

@@ -1,9 +1,10 @@
-use Rattle.std.proofs.Common.{◌≡◌, ◌≢◌, ◌∙◌, ◌+◌, ◌≤◌, ◌++◌, ℕ, List, [], length, refl, sym, ap, subst, arith, rules, append_assoc, append-nil, inr}
+use Rattle.std.proofs.Common.{◌≡◌, ◌≢◌, ◌∙◌, ◌+◌, ◌-◌, ◌<◌, ◌≤◌, ◌++◌, ℕ, List, [], length, refl, sym, ap, subst, arith, rules, append_assoc, append-nil, inr}
 use Rattle.te_ports.specs.Ports.{Rose}
 use Rattle.block_reader.specs.declared.window.State.TheVariants.{Open, Failed}
 use Rattle.block_reader.specs.declared.window.Window.{Window}
 use Rattle.block_reader.specs.Standing.{ready, fetched_of, limit_of, state_of, room_of, IsEndOf, IsStateOf, StandsAt, StandsIn}
 use Rattle.block_reader.proofs.Going.{at_still, in_still}
+use Rattle.block_reader.proofs.Reading.{at_least, at_most_itself}
 use Rattle.block_reader.proofs.window.Window.fill.Goals.{then-len-self, else-len-self}
 use Rattle.block_reader.proofs.window.Window.fill.Goals as goal
 
@@ -19,6 +20,24 @@ module _ (w w' : Window) (passed : List ℕ) (same : ready w' ≡ ready w) (at :
       in_still content w w' passed same at
       (subst (λ k. IsStateOf content k w'.fetched w'.state) (sym limit) (subst (λ k. IsStateOf content w.limit k w'.state) (sym at) (subst (IsStateOf content w.limit w.fetched) (sym state) s.ends))) s
 
+front_fits : (start wanted room old : ℕ) → start ≡ 0 → room ≡ old → wanted ≤ old → start + wanted ≤ room
+front_fits start wanted room old first same fits = omega (arith, first, same, fits)
+
+room_fits : (len start end wanted room : ℕ) → wanted ≤ len - start → len ≡ room → start ≤ end → end ≤ room → start + wanted ≤ room
+room_fits len start end wanted room long same ordered inside = omega (arith, long, same, ordered, inside)
+
+still_fits : (start wanted room start' room' : ℕ) → start + wanted ≤ room → start' ≡ start → room' ≡ room → start' + wanted ≤ room'
+still_fits start wanted room start' room' fits front same = omega (arith, fits, front, same)
+
+some_space : (start wanted end room : ℕ) → end < start + wanted → start + wanted ≤ room → end < room
+some_space start wanted end room few fits = omega (arith, few, fits)
+
+same_counts : (f f' n n' : ℕ) → f' ≡ f → n' ≡ n → f' + n ≡ f + n'
+same_counts f f' n n' fetched count = omega (arith, fetched, count)
+
+more_counts : (f n f' n' f'' n'' : ℕ) → f' + n ≡ f + n' → f'' + n' ≡ f' + n'' → f'' + n ≡ f + n''
+more_counts f n f' n' f'' n'' first next = omega (arith, first, next)
+
 pub pieces-init : goal.pieces-init
 pieces-init g c =
     let w = c.args.self.now in
@@ -28,8 +47,8 @@ pieces-init g c =
     elim c.if-len-self.branch [
       | then-len-self b ↦
           let e = b.compact.ensures in
-          rw b.self-is (e.ready, e.fetched, e.limit, e.state, e.room, omega (arith, e.front, e.room, c.requires))
-      | else-len-self b ↦ rw b.self-is (refl, refl, refl, refl, refl, omega (arith, b.if-len-self.false, c.len.ensures, w.ordered, w.inside))
+          rw b.self-is (e.ready, e.fetched, e.limit, e.state, e.room, front_fits _ _ _ _ e.front e.room c.requires)
+      | else-len-self b ↦ rw b.self-is (refl, refl, refl, refl, refl, room_fits _ _ _ _ _ b.if-len-self.false c.len.ensures w.ordered w.inside)
     ]
     in (
       refl,
@@ -41,9 +60,9 @@ pieces-init g c =
       moved.5,
       (λ (is : state_of w' ≡ Failed). let no : Open ≡ Failed = sym is_open ∙ sym moved.3 ∙ is in absurd cc),
       (λ is. refl),
-      (λ other. omega arith),
+      (λ other. at_most_itself _),
       (λ other at bytes given. given),
-      omega (arith, moved.1, ap length moved.0),
+      same_counts _ _ _ _ moved.1 (ap length moved.0),
     )
 
 pub pieces-preserved : goal.pieces-preserved
@@ -62,19 +81,19 @@ pieces-preserved g c =
       ),
       next.room ∙ all.4,
       next.limit ∙ all.5,
-      omega (arith, all.6, next.front, next.room),
+      still_fits _ _ _ _ _ all.6 next.front next.room,
       (λ is. subst (λ f. Rose (f name) (g.D.Depot.faults c.fetch.new.depot name)) (all.8 sound) (next.failed is)),
       (λ is. next.steady is ∙ all.8 sound),
-      (λ other. omega (arith, all.9 other, next.later other)),
+      (λ other. at_least _ _ _ (all.9 other) (next.later other)),
       (λ other at bytes given. next.kept other at bytes (all.10 other at bytes given)),
-      omega (arith, all.11, next.count),
+      more_counts _ _ _ _ _ _ all.11 next.count,
     )
 
 pub returns-then-ne-clause-behind : goal.returns-then-ne-clause-behind
 returns-then-ne-clause-behind g c = ([], sym (append-nil (ready c.args.self.now)))
 
 pub returns-then-ne-clause-later : goal.returns-then-ne-clause-later
-returns-then-ne-clause-later g c = λ other. omega arith
+returns-then-ne-clause-later g c = λ other. at_most_itself _
 
 pub returns-then-ne-clause-kept : goal.returns-then-ne-clause-kept
 returns-then-ne-clause-kept g c = λ other at bytes given. given
@@ -113,4 +132,4 @@ pub returns-clause-enough : goal.returns-clause-enough
 returns-clause-enough g c = c.needs.ensures.enough c.pieces-test.false
 
 pub fetch-requires-clause-space : goal.fetch-requires-clause-space
-fetch-requires-clause-space g c = omega (arith, c.needs.ensures.few c.pieces-test.true, c.pieces.invariant.6)
+fetch-requires-clause-space g c = some_space _ _ _ _ (c.needs.ensures.few c.pieces-test.true) c.pieces.invariant.6
