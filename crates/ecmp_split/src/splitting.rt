@@ -1,5 +1,5 @@
 //! The flow of one pair, split equally over the next links at each node.
-ghost use Rattle.std.specs.Prelude.{◌≡◌, ◌<◌, ◌≤◌, ℕ, IfOk, IfNone, IfSome, IsTrue, length, slice_index};
+ghost use Rattle.std.specs.Prelude.{◌≡◌, ◌+◌, ◌^◌, ◌<◌, ◌≤◌, ℕ, IfOk, IfNone, IfSome, IsTrue, length, slice_index, slice_set};
 ghost use Rattle.te_model.specs.declared.units.TheConstants.{SHARE_UNIT};
 ghost use Rattle.te_model.specs.Network.{is_well_formed, link_count, node_count};
 ghost use Rattle.routing.specs.Decomposition.{IsAcyclicFlow};
@@ -20,6 +20,15 @@ fn equal_part(units: u64, count: u64, place: u64) -> u64
     ensures { result ≡ equal_part units count place }
 {
     units / count + u64::from(place < units % count)
+}
+
+/// Adds the units to those that have arrived at the node.
+fn add_arrival(arrived: &mut [u64], node: u32, units: u64)
+    requires node { node < length arrived.old }
+    requires fits { slice_index arrived.old node + units < 2 ^ 64 }
+    ensures { arrived.new ≡ slice_set arrived.old node (slice_index arrived.old node + units) }
+{
+    arrived[node as usize] += units;
 }
 
 /// Splits one million units at the source over the next links, and again at each node that they
@@ -43,7 +52,7 @@ fn share_out(alloc: Global, net: &Network, hops: &NextHops, src: u32) -> Result<
         let tail = link.tail as usize;
         let part = equal_part(arrived[tail], counts[tail], next.place);
         flow[next.link as usize] = part;
-        arrived[link.head as usize] += part;
+        add_arrival(&mut arrived, link.head, part);
     }
     Ok(flow)
 }

@@ -3,8 +3,9 @@ use Rattle.te_model.specs.declared.network.Link.{Link}
 use Rattle.te_model.specs.declared.units.TheConstants.{SHARE_UNIT}
 use Rattle.te_model.specs.Network.{no_link, tail_of, head_of}
 use Rattle.te_model.proofs.SoundLinks.{costs_small}
+use Rattle.te_model.proofs.Lists.{written_whole}
 use Rattle.te_model.proofs.WellFormed.{links_join}
-use Rattle.std.proofs.lemmas.List.{get_or_read, nil_from_length, length-append}
+use Rattle.std.proofs.lemmas.List.{get_or_read, nil_from_length, length-append, length-set}
 use Rattle.ecmp_split.specs.Equal.{next_count, equal_part}
 use Rattle.ecmp_split.specs.declared.next.NextLink.{NextLink}
 use Rattle.ecmp_split.proofs.Collecting.{not_some}
@@ -61,10 +62,6 @@ units_at_tail : (c : In-Some) (n : ℕ) → n ≡ get_or c.loop-next.arrived.ite
     n ≡ slice_index c.loop-next.arrived.items (tail_of c.args.net.now c.in-Some.next.link)
 units_at_tail c n read = read_at c.loop-next.arrived.items _ _ n read (last c).tail_arrived (tail c)
 
-units_at_head : (c : In-Some) (n : ℕ) → n ≡ get_or c.loop-next.arrived.items (link c).head n →
-    n ≡ slice_index c.loop-next.arrived.items (head_of c.args.net.now c.in-Some.next.link)
-units_at_head c n read = read_at c.loop-next.arrived.items _ _ n read (last c).head_arrived (head c)
-
 pub index-requires : goal.index-requires
 index-requires c =
     let at = (goal.at.index-requires c).In-Some in
@@ -88,18 +85,20 @@ equal_part-part-requires-clause-units c =
 pub index_mut-requires-in-Some : goal.index_mut-requires-in-Some
 index_mut-requires-in-Some c = omega (arith, (last (goal.at.index_mut-requires-in-Some c).In-Some).in_flow, c.loop-next.flow.ok.0)
 
-pub index_mut-requires-in-Some-2 : goal.index_mut-requires-in-Some-2
-index_mut-requires-in-Some-2 c =
-    let at = (goal.at.index_mut-requires-in-Some-2 c).In-Some in
-    omega (arith, head at, (last at).head_arrived, c.loop-next.arrived.ok.0)
+pub add_arrival-requires-clause-node : goal.add_arrival-requires-clause-node
+add_arrival-requires-clause-node c =
+    let at = (goal.at.add_arrival-requires-clause-node c).In-Some in
+    omega (arith, head at, (last at).head_arrived, ap (λ (l : List ℕ). length l) c.deref_mut.ensures.value)
 
-pub overflow_add-index_mut : goal.overflow_add-index_mut
-overflow_add-index_mut c =
-    let at = (goal.at.overflow_add-index_mut c).In-Some in
+pub add_arrival-requires-clause-fits : goal.add_arrival-requires-clause-fits
+add_arrival-requires-clause-fits c =
+    let at = (goal.at.add_arrival-requires-clause-fits c).In-Some in
     let n = slice_index c.as_slice-counts.result.now (link at).tail in
     let part = equal_part-le c.index.result.now n c.in-Some.next.place (omega (arith, count at, (last at).some)) in
     let from = units_at_tail at c.index.result.now c.index.ensures in
-    let to = units_at_head at c.index_mut-in-Some-2.result.now c.index_mut-in-Some-2.ensures.value in
+    let to =
+    ap (λ (l : List ℕ). slice_index l (link at).head) c.deref_mut.ensures.value ∙ ap (slice_index c.loop-next.arrived.items) (head at)
+    in
     omega (arith, to, (last at).old, c.equal_part-part.ensures, part, from, (last at).units)
 
 pub loop-next-preserved : goal.loop-next-preserved
@@ -121,9 +120,15 @@ loop-next-preserved c =
     let more = sharing_more net sums c.args.src rest x flow arrived part (links_join net c.requires.network) c.requires.src
     (λ h inside. (costs_small net c.requires.network h inside).0) (last at).far is_part
     in
-    subst (λ (v : ℕ). IsSharing net sums c.args.src rest (set flow x.link part) (set arrived v (c.index_mut-in-Some-2.result.now + part))) (sym (head at))
-    (subst (λ (a : ℕ). IsSharing net sums c.args.src rest (set flow x.link part) (set arrived (head_of net x.link) (a + part)))
-    (sym (units_at_head at c.index_mut-in-Some-2.result.now c.index_mut-in-Some-2.ensures.value)) more)
+    let added : c.add_arrival.new.arrived ≡ set arrived (head_of net x.link) (slice_index arrived (head_of net x.link) + part) =
+    c.add_arrival.ensures
+    ∙ (ap (λ (l : List ℕ). set l (link at).head (slice_index l (link at).head + part)) c.deref_mut.ensures.value
+    ∙ ap (λ (v : ℕ). set arrived v (slice_index arrived v + part)) (head at))
+    in
+    let whole = written_whole c.loop-next.arrived.len c.add_arrival.new.arrived arrived
+    (ap (λ (l : List ℕ). length l) added ∙ length-set arrived (head_of net x.link) (slice_index arrived (head_of net x.link) + part)) c.loop-next.arrived.ok.0
+    in
+    rw whole (subst (IsSharing net sums c.args.src rest (set flow x.link part)) (sym added) more)
 
 pub returns : goal.returns
 returns c =
