@@ -11,6 +11,13 @@ use Rattle.k_paths.specs.Search.{IsOf, IsLeastCandidate, IsPartOf, SplitsBelow, 
 use Rattle.k_paths.proofs.Ordering.{below-trans, below-cases, below-irrefl}
 use Rattle.k_paths.proofs.Deviating.{leaves_somewhere, leaves_inside}
 
+pub splits_start : (net : Network) (s t : ℕ) (c : Candidate) (old : List Candidate) → SplitsBelow net s t c c.fixed old old
+splits_start net s t c old = record {
+  kept = λ d has. has;
+  added = λ d has. inl has;
+  cover = λ j le below q in'. absurd (omega (arith, le, below));
+}
+
 pub splits_none : (net : Network) (s t : ℕ) (c : Candidate) (i : ℕ) (old new : List Candidate) → SplitsBelow net s t c i old new →
     ((q : List ℕ) → InClass net s t (take i c.links) (excluded_at c.links c.fixed c.excluded i) q → ⊥) → SplitsBelow net s t c (i + 1) old new
 splits_none net s t c i old new so none = record {

@@ -6,7 +6,7 @@ ghost use Rattle.shortest_path.specs.Links.{HasSoundLinks};
 ghost use Rattle.shortest_path.specs.Ways.{AreWays};
 ghost use Rattle.k_paths.specs.Ways.{IsFirstLeastValue, is_visited, sum_over};
 
-use crate::marks::{is_allowed, leads_to};
+use crate::marks::{is_allowed, is_visited};
 use shortest_path::Ways;
 use te_model::{Link, Network};
 
@@ -84,7 +84,7 @@ pub fn meets(links: &[Link], src: u32, prefix: &[u32], way: &[u32]) -> bool
 {
     for h in way {
         let head = links[*h as usize].head;
-        if src == head || leads_to(links, prefix, head) {
+        if is_visited(links, src, prefix, head) {
             return true;
         }
     }

@@ -4,12 +4,13 @@ ghost use Rattle.std.specs.List.{list_any};
 ghost use Rattle.te_model.specs.Network.{link_count, no_link};
 ghost use Rattle.shortest_path.specs.Links.{HasSoundLinks};
 ghost use Rattle.k_paths.specs.Classes.{AreClassMarks, is_allowed_link};
+ghost use Rattle.k_paths.specs.Ways.{is_visited};
 
 use std::alloc::Global;
 use te_model::{Link, Memory, Network};
 
 /// Whether one of the links leads to the node.
-pub fn leads_to(links: &[Link], prefix: &[u32], node: u32) -> bool
+fn leads_to(links: &[Link], prefix: &[u32], node: u32) -> bool
     requires { All (λ h. h < length links.now) prefix.now }
     ensures { result ≡ list_any (λ h. (slice_index_or links.now h no_link).head == node) prefix.now }
 {
@@ -19,6 +20,14 @@ pub fn leads_to(links: &[Link], prefix: &[u32], node: u32) -> bool
         }
     }
     false
+}
+
+/// Whether the links of the prefix, from `src` on, lead to the node.
+pub fn is_visited(links: &[Link], src: u32, prefix: &[u32], node: u32) -> bool
+    requires { All (λ h. h < length links.now) prefix.now }
+    ensures { result ≡ is_visited links.now src prefix.now node }
+{
+    src == node || leads_to(links, prefix, node)
 }
 
 /// Whether paths that begin with the prefix may go on from the node over the link.
@@ -35,8 +44,7 @@ pub fn is_allowed(
     ensures { result ≡ is_allowed_link links.now src prefix.now excluded.now node h }
 {
     let link = links[h as usize];
-    !(src == link.head || leads_to(links, prefix, link.head))
-        && !(link.tail == node && excluded.contains(&h))
+    !is_visited(links, src, prefix, link.head) && !(link.tail == node && excluded.contains(&h))
 }
 
 /// The marks of the links over which paths that begin with the prefix may go on from the node.
