@@ -25,8 +25,8 @@ loop-tree-preserved c =
 
 pub loop-tree-init : goal.loop-tree-init
 loop-tree-init c =
-    subst (λ (rs : List Round). MixSoFar c.args.net.now c.args.seed 0 c.generator_of-rng.result c.in_ok-multipliers.multipliers.items rs) (sym c.new-rounds.ensures.items)
-    (mix_none c.args.net.now c.args.seed c.generator_of-rng.result c.in_ok-multipliers.multipliers.items c.generator_of-rng.ensures c.in_ok-multipliers.ensures)
+    subst (λ (rs : List Round). MixSoFar c.args.net.now c.args.seed 0 c.words_of-rng.result c.in_ok-multipliers.multipliers.items rs) (sym c.new-rounds.ensures.items)
+    (mix_none c.args.net.now c.args.seed c.words_of-rng.result c.in_ok-multipliers.multipliers.items c.words_of-rng.ensures c.in_ok-multipliers.ensures)
 
 pub returns : goal.returns
 returns c =
