@@ -54,6 +54,9 @@ pub record SumsSoFar (net : Network) (lengths : List ℕ) (n : ℕ) (sums : List
   pub count : length sums ≡ n
   pub each : (t : ℕ) → t < n → AreLeastSums net lengths (every_link net) t (sums_to sums t)
 
+pub sums_none : (net : Network) (lengths : List ℕ) → SumsSoFar net lengths 0 []
+sums_none net lengths = record { count = refl; each = λ t below. absurd (omega (arith, below)) }
+
 pub sums_more : (net : Network) (lengths : List ℕ) (n : ℕ) (sums : List (List (Option ℕ))) (row : List (Option ℕ)) →
     SumsSoFar net lengths n sums → AreLeastSums net lengths (every_link net) n row → SumsSoFar net lengths (n + 1) (sums ++ row ∷ [])
 sums_more net lengths n sums row so_far are = record {

@@ -1,5 +1,5 @@
 -- The first element of a list that passes a test.
-use Rattle.std.proofs.Common.{◌≡◌, ℕ, zero, suc, ◌<◌, Bool, true, false, cond, List, [], ◌∷◌, Some, None, length, find, slice_index, arith, refl, ap, ◌∙◌, subst}
+use Rattle.std.proofs.Common.{◌≡◌, ℕ, zero, suc, ◌<◌, Bool, true, false, cond, List, [], ◌∷◌, Some, None, length, find, slice_index, get_or, drop, drop-cons, arith, refl, ap, sym, ◌∙◌, subst}
 use Rattle.std.specs.List.{Contains}
 
 -- what is found passes, and no earlier element does
@@ -47,3 +47,12 @@ found_none p (y ∷ ys) x e has passes = go (λ e' has'. found_none p ys x e' ha
     go on true is e' has' = cc
     go on false is e' (zero, below, at) = let never : p y ≡ true = ap p at ∙ passes in cc
     go on false is e' (suc k, below, at) = on e' (k, omega arith, at)
+
+found_first : (p : ℕ → Bool) (x : ℕ) (xs : List ℕ) → p x ≡ true → find p (x ∷ xs) ≡ Some x
+found_first p x xs passes = rw passes refl
+
+-- where none before place k passes, and the one there does, that one is found
+pub found_here : (p : ℕ → Bool) (xs : List ℕ) (k : ℕ) → find p xs ≡ find p (drop k xs) → k < length xs → p (get_or xs k 0) ≡ true →
+    Some (get_or xs k 0) ≡ find p xs
+found_here p xs k later below passes =
+    sym (later ∙ (ap (find p) (drop-cons xs k 0 below) ∙ found_first p (get_or xs k 0) (drop (suc k) xs) passes))

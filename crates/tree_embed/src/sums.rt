@@ -1,12 +1,39 @@
 //! The least sums of lengths between all nodes.
 ghost use Rattle.std.specs.Prelude.{◌≡◌, ◌^◌, ◌<◌, ◌≤◌, IfOk, IsTrue, All, length};
-ghost use Rattle.te_model.specs.Network.{is_well_formed, link_count};
+ghost use Rattle.te_model.specs.Network.{is_well_formed, link_count, node_count};
+ghost use Rattle.shortest_path.specs.declared.rows.Direction.TheVariants.{Backward};
+ghost use Rattle.shortest_path.specs.Least.{AreLeastSums};
+ghost use Rattle.shortest_path.specs.Links.{every_link};
+ghost use Rattle.shortest_path.specs.Rows.{IsSearchGraph};
 ghost use Rattle.tree_embed.specs.Centers.{greater_of};
 ghost use Rattle.tree_embed.specs.Tables.{AreSums, IsSquare, is_at_most, is_within, sum_between};
 
 use shortest_path::{Direction, Searches};
 use std::alloc::Global;
 use te_model::{Items, Memory, Network};
+
+/// The least sums of lengths from all nodes to one. The searches are against links in the network.
+fn sums_toward(
+    alloc: Global,
+    net: &Network,
+    searches: &mut Searches,
+    lengths: &[u64],
+    every: &[bool],
+    node: u32,
+) -> Result<Items<Option<u64>>, Memory>
+    requires network { IsTrue (is_well_formed net.now) }
+    requires against { IsSearchGraph net.now Backward searches.old }
+    requires lengths { length lengths.now ≡ link_count net.now }
+    requires every { every.now ≡ every_link net.now }
+    requires limit { All (λ l. l ≤ 2 ^ 28) lengths.now }
+    requires node { node < node_count net.now }
+    ensures sums { IfOk result (AreLeastSums net.now lengths.now (every_link net.now) node) }
+    ensures same { searches.new ≡ searches.old }
+{
+    let mut row: Vec<Option<u64>> = vec![in alloc; None; net.names.as_slice().len()]?;
+    searches.toward(net, lengths, every, node, &mut row);
+    Ok(Items::new(row))
+}
 
 /// For each node the least sums of lengths from all nodes to it.
 pub fn sums_of(
@@ -24,9 +51,8 @@ pub fn sums_of(
     let mut searches = Searches::new(alloc, net, Direction::Backward)?;
     let mut sums = Vec::with_capacity(alloc, nodes)?;
     for node in 0..nodes {
-        let mut row: Vec<Option<u64>> = vec![in alloc; None; nodes]?;
-        searches.toward(net, lengths, &every, node as u32, &mut row);
-        sums.push(Items::new(row))?;
+        let row = sums_toward(alloc, net, &mut searches, lengths, &every, node as u32)?;
+        sums.push(row)?;
     }
     Ok(sums)
 }
