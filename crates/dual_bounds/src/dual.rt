@@ -1,10 +1,21 @@
 //! The bracket of lengths, once the distances of the pairs are known.
-ghost use Rattle.std.specs.Prelude.{◌≡◌, ◌^◌, ◌<◌, ◌≤◌, All, IsTrue, length, slice_index};
+ghost use Rattle.std.specs.Prelude.{◌≡◌, ◌^◌, ◌<◌, ◌≤◌, All, IfOk, IsTrue, length, slice_index};
 ghost use Rattle.te_model.specs.Network.{is_well_formed, link_count};
 ghost use Rattle.routing.specs.Routes.{AreDemands};
-ghost use Rattle.dual_bounds.specs.Dual.{demand_by, IsBoundBy};
+ghost use Rattle.dual_bounds.specs.Dual.{demand_by, unit_lengths, IsBoundBy};
 
-use te_model::{Bracket, Items, Network, Row, capacity_by};
+use std::alloc::Global;
+use te_model::{Bracket, Items, Memory, Network, Row, capacity_by};
+
+/// A length of 1 for each link.
+pub fn unit_lengths(alloc: Global, net: &Network) -> Result<Vec<u64>, Memory>
+    ensures lengths { IfOk result (λ l. l.items ≡ unit_lengths net.now) }
+    ensures count { IfOk result (λ l. length l.items ≡ link_count net.now) }
+    ensures limit { IfOk result (λ l. All (λ x. x ≤ 2 ^ 28) l.items) }
+{
+    let unit = vec![in alloc; 1; net.links.as_slice().len()]?;
+    Ok(unit)
+}
 
 /// The sum of the demands of the pairs by their distances.
 fn demand_by(demand: &[u64], distances: &[u64]) -> u128

@@ -11,7 +11,7 @@ ghost use Rattle.dual_bounds.specs.Dual.{IsBoundOf};
 ghost use Rattle.dual_bounds.specs.Rows.{sources_of, AreDistancesUnder, AreSourceRows, IsBracket};
 
 use crate::choice::better;
-use crate::dual::bracket_by;
+use crate::dual::{bracket_by, unit_lengths};
 use crate::rows::{distances_by, rows_of, sources_of};
 use routing::Routing;
 use std::alloc::Global;
@@ -75,7 +75,7 @@ pub fn bracket(
 {
     let most = routing.greatest_utilisation(alloc, net, matrix)?;
     let sources = sources_of(alloc, net, routing.routes.as_slice())?;
-    let unit = vec![in alloc; 1; net.links.as_slice().len()]?;
+    let unit = unit_lengths(alloc, net)?;
     let mut best = by_lengths(alloc, net, routing, matrix, &sources, &unit, most)?;
     for offered in lengths {
         let lengths = offered.as_slice();

@@ -11,7 +11,7 @@ ghost use Rattle.dual_bounds.specs.Dual.{IsBoundOf};
 ghost use Rattle.dual_bounds.specs.GivenPaths.{link_lists, AreFewLinks, AreShortest, IsBracketOnPaths, IsShortest};
 
 use crate::choice::better;
-use crate::dual::bracket_by;
+use crate::dual::{bracket_by, unit_lengths};
 use routing::Routing;
 use shortest_path::length_along;
 use std::alloc::Global;
@@ -115,7 +115,7 @@ pub fn bracket_on_paths(
     ensures low { IfOk result HasLow }
 {
     let most = routing.greatest_utilisation(alloc, net, matrix)?;
-    let unit = vec![in alloc; 1; net.links.as_slice().len()]?;
+    let unit = unit_lengths(alloc, net)?;
     let mut best = by_lengths(alloc, net, fixed, matrix, &unit, most)?;
     for offered in lengths {
         let other = by_lengths(alloc, net, fixed, matrix, offered.as_slice(), most)?;

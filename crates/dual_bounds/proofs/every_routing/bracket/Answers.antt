@@ -1,4 +1,4 @@
-use Rattle.std.proofs.Common.{◌≡◌, [], ◌∷◌, length, take, arith, rules, ◌∙◌, subst}
+use Rattle.std.proofs.Common.{◌≡◌, [], ◌∷◌, length, take, arith, ◌∙◌, subst}
 use Rattle.std.proofs.lemmas.List.{get_or_read}
 use Rattle.routing.specs.Utilisation.{parts}
 use Rattle.dual_bounds.specs.Dual.{unit_lengths, IsBoundOf}
@@ -13,7 +13,7 @@ loop-offered-init c =
     let routes = c.args.routing.now.routes in
     let demand = c.args.matrix.now.demand in
     let b = c.in_ok-best.best in
-    let unit : b.lengths ≡ unit_lengths net = search rules in
+    let unit : b.lengths ≡ unit_lengths net = c.in_ok-best.ensures.lengths ∙ (c.deref-2.ensures.value ∙ c.in_ok-unit.ensures.lengths) in
     choice_first net (length routes) demand (parts net routes demand) (AreDistancesUnder net routes) (keeps_rows net routes) b (pairs_unique net routes) unit
     (subst (λ most. IsBoundOf net (length routes) demand most (AreDistancesUnder net routes) b) c.in_ok-most.ensures c.in_ok-best.ensures.bound)
     c.in_ok-best.ensures.rows c.in_ok-best.ensures.low

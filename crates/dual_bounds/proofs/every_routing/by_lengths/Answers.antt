@@ -5,7 +5,7 @@ use Rattle.te_model.specs.declared.route.PairRoutes.{PairRoutes}
 use Rattle.te_model.specs.Network.{node_count}
 use Rattle.shortest_path.specs.Pairs.{AreValues}
 use Rattle.dual_bounds.specs.Dual.{IsBoundBy}
-use Rattle.dual_bounds.specs.Rows.{distance_by, AreSourceRows}
+use Rattle.dual_bounds.specs.Rows.{distance_by, sources_of, AreSourceRows}
 use Rattle.dual_bounds.proofs.SourceRows.{sources_inside}
 use Rattle.dual_bounds.proofs.RoutingBounds.{keeps_rows, bound_of, has_low}
 use Rattle.dual_bounds.proofs.every_routing.by_lengths.Goals as goal
@@ -14,6 +14,17 @@ pub rows_of-requires-clause-nodes : goal.rows_of-requires-clause-nodes
 rows_of-requires-clause-nodes c =
     let net = c.args.net.now in
     subst (λ (nodes : List ℕ). All (λ i. i < node_count net) nodes) (sym c.requires.sources) (sources_inside net c.args.routing.now.routes)
+
+pub returns-clause-lengths : goal.returns-clause-lengths
+returns-clause-lengths c = c.bracket_by.ensures.lengths ∙ c.in_ok-lengths.ensures.items
+
+pub returns-clause-rows : goal.returns-clause-rows
+returns-clause-rows c =
+    let net = c.args.net.now in
+    let sources = sources_of net c.args.routing.now.routes in
+    let kept = subst (λ (nodes : List ℕ). AreSourceRows net c.args.lengths.now nodes c.in_ok-rows.rows.items) c.requires.sources c.in_ok-rows.ensures in
+    subst (λ (l : List ℕ). AreSourceRows net l sources c.bracket_by.result.rows) (sym (c.bracket_by.ensures.lengths ∙ c.in_ok-lengths.ensures.items))
+    (subst (λ (rs : List Row). AreSourceRows net c.args.lengths.now sources rs) (sym c.bracket_by.ensures.rows) kept)
 
 pub returns-clause-bound : goal.returns-clause-bound
 returns-clause-bound c =

@@ -1,4 +1,4 @@
-use Rattle.std.proofs.Common.{◌≡◌, [], ◌∷◌, length, take, arith, rules, ◌∙◌, subst}
+use Rattle.std.proofs.Common.{◌≡◌, [], ◌∷◌, length, take, arith, ◌∙◌, subst}
 use Rattle.std.proofs.lemmas.List.{get_or_read}
 use Rattle.routing.specs.Utilisation.{parts}
 use Rattle.dual_bounds.specs.Dual.{unit_lengths, IsBoundOf}
@@ -13,7 +13,7 @@ loop-offered-init c =
     let fixed = c.args.fixed.now.routes in
     let demand = c.args.matrix.now.demand in
     let b = c.in_ok-best.best in
-    let unit : b.lengths ≡ unit_lengths net = search rules in
+    let unit : b.lengths ≡ unit_lengths net = c.in_ok-best.ensures.lengths ∙ (c.deref.ensures.value ∙ c.in_ok-unit.ensures.lengths) in
     choice_first net (length fixed) demand (parts net c.args.routing.now.routes demand) (AreShortest fixed) keeps_none b (shortests_unique fixed) unit
     (subst (λ most. IsBoundOf net (length fixed) demand most (AreShortest fixed) b) c.in_ok-most.ensures c.in_ok-best.ensures.bound)
     c.in_ok-best.ensures.rows c.in_ok-best.ensures.low
@@ -27,7 +27,7 @@ loop-offered-preserved c =
     let i = c.loop-offered.offered-index in
     let other = c.in_ok-other.other in
     let same =
-    c.in_ok-other.ensures.lengths ∙ c.as_slice-in-loop-offered.ensures
+    c.in_ok-other.ensures.lengths ∙ c.as_slice.ensures
     ∙ get_or_read offered i c.offered-item.result c.loop-offered-test.true c.offered-item.is []
     in
     choice_more net (length fixed) demand (parts net c.args.routing.now.routes demand) (AreShortest fixed) keeps_none offered i c.loop-offered.best other

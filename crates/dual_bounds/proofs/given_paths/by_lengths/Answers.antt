@@ -5,6 +5,9 @@ use Rattle.dual_bounds.specs.GivenPaths.{AreShortest}
 use Rattle.dual_bounds.proofs.PathBounds.{bound_of, has_low}
 use Rattle.dual_bounds.proofs.given_paths.by_lengths.Goals as goal
 
+pub returns-clause-lengths : goal.returns-clause-lengths
+returns-clause-lengths c = c.bracket_by.ensures.lengths ∙ c.in_ok-lengths.ensures.items
+
 pub returns-clause-bound : goal.returns-clause-bound
 returns-clause-bound c =
     let net = c.args.net.now in
