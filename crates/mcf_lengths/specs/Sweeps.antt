@@ -23,13 +23,14 @@ pub record AreLeastSweeps (n : ℕ) (net : Network) (pairs : List Pair) (sweeps 
   pub weights : All (λ s. IsWeight s.weight) sweeps
   pub least : All (IsLeastSweep net pairs) sweeps
 
--- pairs of a network with a path each, marks of their destinations, and a demand for each
+-- pairs of a network with a path each, marks of their destinations, a demand for each, and at most 28 paths of each to start from
 pub record AreCommodities (c : Commodities) : Type 0 where
   pub network : IsTrue (is_well_formed c.net.now)
   pub ends : ArePairsOf c.net.now c.pairs.now.list
   pub reached : AllReached c.net.now c.pairs.now.list
   pub marks : MarksDestinations c.net.now c.pairs.now.list c.wanted.now
   pub demands : AreDemands (length c.pairs.now.list) c.matrix.now.demand
+  pub limit : c.limit ≡ 28
 
 -- a routing of the pairs of at most 28 paths each
 pub record IsFewRouting (c : Commodities) (routes : List PairRoutes) : Type 0 where

@@ -1,5 +1,12 @@
 //! The scheme.
-ghost use Rattle.std.specs.Prelude.{◌≡◌, IfOk};
+ghost use Rattle.std.specs.Prelude.{◌≡◌, ◌^◌, ◌<◌, ◌≤◌, List, All, IfOk, IsTrue, length};
+ghost use Rattle.te_model.specs.declared.route.Pair.{Pair};
+ghost use Rattle.te_model.specs.declared.route.PairRoutes.{PairRoutes};
+ghost use Rattle.te_model.specs.Network.{is_well_formed, link_count};
+ghost use Rattle.routing.specs.Routes.{AreDemands, HasFewPaths, IsRoutingOf};
+ghost use Rattle.routing.specs.Utilisation.{parts};
+ghost use Rattle.mcf_lengths.specs.Flow.{IsFlowPlan};
+ghost use Rattle.mcf_lengths.specs.Rounds.{IsRoundsRouting};
 
 use crate::rounds::rounds_routing;
 use crate::sweeps::sweep;
@@ -37,6 +44,31 @@ fn copy_pairs(alloc: Global, pairs: &Pairs) -> Result<Pairs, Memory>
     })
 }
 
+/// The routing from which the moves start, and the lengths that are offered to bound the utilisation of every routing.
+fn starting_routing(
+    alloc: Global,
+    net: &Network,
+    plan: &McfPlan,
+    matrix: &Matrix,
+) -> Result<(Routing, Vec<Items<u64>>), Memory>
+    requires network { IsTrue (is_well_formed net.now) }
+    requires plan { (pairs : List Pair) × IsFlowPlan net.now pairs plan.now × AreDemands (length pairs) matrix.now.demand }
+    ensures routing { (pairs : List Pair) → IsFlowPlan net.now pairs plan.now → IfOk result (λ r. IsRoutingOf net.now pairs r.0.routes) }
+    ensures routings { IfOk result (λ r. (pairs : List Pair) × IsRoutingOf net.now pairs r.0.routes × IsRoutingOf net.now pairs plan.now.candidates.routes) }
+    ensures pairs { IfOk result (λ r. length r.0.routes < 2 ^ 32) }
+    ensures demands { IfOk result (λ r. AreDemands (length r.0.routes) matrix.now.demand) }
+    ensures few { IfOk result (λ r. HasFewPaths 28 r.0.routes) }
+    ensures no_greater { (pairs : List Pair) → IsFlowPlan net.now pairs plan.now → IfOk result (λ r. (rounds : List PairRoutes) × IsRoundsRouting net.now pairs matrix.now.demand rounds × (parts net.now r.0.routes matrix.now.demand ≤ parts net.now rounds matrix.now.demand)) }
+    ensures count { IfOk result (λ r. All (λ l. length l ≡ link_count net.now) r.1.items) }
+    ensures limit { IfOk result (λ r. All (λ l. All (λ x. x ≤ 2 ^ 28) l) r.1.items) }
+{
+    let (rounds, offered) = rounds_routing(alloc, net, &plan.pairs, matrix)?;
+    let (start, swept) = sweep(alloc, net, &plan.pairs, matrix, rounds)?;
+    let mut lengths = offered;
+    lengths.push(swept)?;
+    Ok((start, lengths))
+}
+
 impl Scheme for Mcf {
     ghost use Rattle.mcf_lengths.specs.Flow.{IsBalanced, IsFlowPlan};
 
@@ -68,10 +100,7 @@ impl Scheme for Mcf {
         plan: &McfPlan,
         matrix: &Matrix,
     ) -> Result<(Routing, Bracket), Memory> {
-        let (rounds, offered) = rounds_routing(alloc, net, &plan.pairs, matrix)?;
-        let (start, swept) = sweep(alloc, net, &plan.pairs, matrix, rounds)?;
-        let mut lengths = offered;
-        lengths.push(swept)?;
+        let (start, lengths) = starting_routing(alloc, net, plan, matrix)?;
         let routing = settle(alloc, net, matrix, start, &plan.candidates)?;
         let note = bracket(alloc, net, &routing, matrix, &lengths)?;
         Ok((routing, note))

@@ -33,6 +33,8 @@ struct Commodities<'a> {
     /// Marks the nodes that are destinations of the pairs.
     wanted: &'a [bool],
     matrix: &'a Matrix,
+    /// How many paths of a pair the moves start from at most.
+    limit: u32,
 }
 
 impl<'a> Commodities<'a> {
@@ -66,7 +68,7 @@ impl<'a> Commodities<'a> {
         for _ in 0..STAGES {
             let sweeps = self.stage(alloc, rates, parts)?;
             let mixed = routing_by(alloc, self.net, &sweeps, &best)?;
-            let other = trim(alloc, &mixed, STARTING_PATHS)?;
+            let other = trim(alloc, &mixed, self.limit)?;
             best = lesser(alloc, self.net, self.matrix, best, other)?;
             parts = (2 * parts).min(MAX_PARTS);
         }
@@ -103,7 +105,7 @@ impl<'a> Commodities<'a> {
         ensures few { BothKeep (HasFewPaths 28) descent → IfOk result (BothKeep (HasFewPaths 28)) }
         ensures rates { AreRates self.now.net.now rates.new }
     {
-        let limit = STARTING_PATHS as usize;
+        let limit = self.limit as usize;
         let (lengths, paths) = self.least_turn(alloc, &descent, rates)?;
         take_turn(
             alloc,
@@ -184,6 +186,7 @@ pub fn sweep(
         pairs,
         wanted: &wanted,
         matrix,
+        limit: STARTING_PATHS,
     };
     let routing = commodities.best_routing(alloc, start, &mut rates)?;
     Ok((routing, Items::new(rates.lengths)))

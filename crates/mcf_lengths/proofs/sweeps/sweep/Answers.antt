@@ -1,4 +1,4 @@
-use Rattle.std.proofs.Common.{arith, sym, subst}
+use Rattle.std.proofs.Common.{arith, refl, sym, subst}
 use Rattle.te_model.specs.Pairs.{AreDemands}
 use Rattle.routing.proofs.InOrder.{routes_count}
 use Rattle.mcf_lengths.specs.Rounds.{AreLengths}
@@ -27,6 +27,7 @@ best_routing-requires-clause-commodities c = record {
   reached = c.requires.reached;
   marks = subst (MarksDestinations c.args.net.now c.args.pairs.now.list) (sym c.deref.ensures.value) c.in_ok-wanted.ensures;
   demands = c.requires.demands;
+  limit = refl;
 }
 
 pub best_routing-requires-clause-start : goal.best_routing-requires-clause-start

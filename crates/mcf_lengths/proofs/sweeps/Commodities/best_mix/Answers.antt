@@ -32,6 +32,12 @@ routing_by-requires-clause-paths c =
     subst (λ (l : List Sweep). All (λ (s : Sweep). ArePathsOfPairs net best (paths_in s)) l) (sym c.deref.ensures.value)
     (sweeps_ways net c.args.self.now.pairs.now.list best c.in_ok-sweeps.sweeps.items c.loop.invariant.0.routing c.in_ok-sweeps.ensures.sweeps.least)
 
+pub trim-requires-clause-some : goal.trim-requires-clause-some
+trim-requires-clause-some c = omega (arith, c.requires.commodities.limit)
+
+pub trim-requires-clause-few : goal.trim-requires-clause-few
+trim-requires-clause-few c = omega (arith, c.requires.commodities.limit)
+
 pub lesser-requires-clause-pairs : goal.lesser-requires-clause-pairs
 lesser-requires-clause-pairs c =
     let count = routes_count c.args.self.now.pairs.now.list c.loop.best.routes c.loop.invariant.0.routing.in_order in
@@ -60,7 +66,8 @@ loop-preserved c =
     let doubled = c.min-parts.ensures in (
       record {
         routing = taken_keeps (IsRoutingOf net pairs) best other taken c.in_ok-best.ensures.either c.loop.invariant.0.routing is;
-        few = taken_keeps (HasFewPaths 28) best other taken c.in_ok-best.ensures.either c.loop.invariant.0.few c.in_ok-other.ensures.few;
+        few = taken_keeps (HasFewPaths 28) best other taken c.in_ok-best.ensures.either c.loop.invariant.0.few
+            (subst (λ n. HasFewPaths n other) c.requires.commodities.limit c.in_ok-other.ensures.few);
         no_greater = omega (arith, c.in_ok-best.ensures.first, c.loop.invariant.0.no_greater);
       },
       c.stage.ensures.rates,

@@ -1,4 +1,5 @@
 use Rattle.std.proofs.Common.{ℕ, ◌^◌, ◌≤◌, List, All, length, map, arith, ap, sym, ◌∙◌, subst}
+use Rattle.std.specs.Prelude.{IfOk}
 use Rattle.std.proofs.lemmas.Result.{IfOk-weaker}
 use Rattle.te_model.specs.declared.route.Path.{Path}
 use Rattle.te_model.specs.Pairs.{AreDemands}
@@ -41,7 +42,11 @@ take_turn-requires-clause-lengths c =
 pub returns-clause-descent : goal.returns-clause-descent
 returns-clause-descent c = c.take_turn.ensures.descent
 
+pub take_turn-requires-clause-limit : goal.take_turn-requires-clause-limit
+take_turn-requires-clause-limit c = omega (arith, c.requires.commodities.limit)
+
 pub returns-clause-few : goal.returns-clause-few
 returns-clause-few c = λ few.
-    IfOk-weaker c.take_turn.result (IsTurn 28 (map links_in c.deref.result.now) c.args.descent) (BothKeep (HasFewPaths 28)) (λ d made. made.few few)
-    c.take_turn.ensures.turn
+    let turn = IsTurn 28 (map links_in c.deref.result.now) c.args.descent in
+    IfOk-weaker c.take_turn.result turn (BothKeep (HasFewPaths 28)) (λ d made. made.few few)
+    (subst (λ n. IfOk c.take_turn.result (IsTurn n (map links_in c.deref.result.now) c.args.descent)) c.requires.commodities.limit c.take_turn.ensures.turn)
