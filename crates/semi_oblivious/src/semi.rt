@@ -1,5 +1,15 @@
 //! The scheme.
-ghost use Rattle.std.specs.Prelude.{◌≡◌, ◌≤◌};
+ghost use Rattle.std.specs.Prelude.{◌≡◌, ◌^◌, ◌<◌, ◌≤◌, ℕ, List, All, IfOk, IsTrue, length, slice_index};
+ghost use Rattle.te_model.specs.declared.route.Pair.{Pair};
+ghost use Rattle.te_model.specs.LowerBound.{IsLowerBoundOnPaths};
+ghost use Rattle.te_model.specs.Network.{is_well_formed, link_count};
+ghost use Rattle.te_model.specs.PathRouting.{IsPathRouting};
+ghost use Rattle.routing.specs.Routes.{AreDemands, HasFewPaths, IsRoutingOf};
+ghost use Rattle.routing.specs.Utilisation.{parts};
+ghost use Rattle.scheme.specs.Low.{HasLow};
+ghost use Rattle.local_search.specs.Moves.{IsStable};
+ghost use Rattle.dual_bounds.specs.GivenPaths.{IsBracketOnPaths, link_lists};
+ghost use Rattle.semi_oblivious.specs.Semi.{KeepsTo};
 
 use crate::sweeps::sweep;
 use crate::usage::usage_lengths;
@@ -9,7 +19,7 @@ use path_budget::trim;
 use routing::Routing;
 use scheme::{Oblivious, Scheme, SchemeFault};
 use std::alloc::Global;
-use te_model::{Bracket, Matrix, Memory, Network, Pairs};
+use te_model::{Bracket, Items, Matrix, Memory, Network, Pairs};
 
 /// Semi-oblivious routing: of each pair the `budget` heaviest paths of the base's routing are fixed, and for each matrix weight is
 /// moved between them until no single move helps by a stated share (`local_search::settle`).
@@ -27,6 +37,56 @@ pub struct Semi<S: Oblivious + Drop> {
 pub struct SemiPlan<P: Drop> {
     pub base: P,
     pub fixed: Routing,
+}
+
+/// The routing of a matrix over the fixed paths, and lengths to bound the utilisation of all such routings.
+fn adapt(
+    alloc: Global,
+    net: &Network,
+    fixed: &Routing,
+    matrix: &Matrix,
+) -> Result<(Routing, Items<u64>), Memory>
+    requires network { IsTrue (is_well_formed net.now) }
+    requires fixed { (pairs : List Pair) × IsRoutingOf net.now pairs fixed.now.routes }
+    requires pairs { length fixed.now.routes < 2 ^ 32 }
+    requires demands { AreDemands (length fixed.now.routes) matrix.now.demand }
+    ensures routing { (pairs : List Pair) → IsRoutingOf net.now pairs fixed.now.routes → IfOk result (λ r. IsRoutingOf net.now pairs r.0.routes) }
+    ensures pairs { IfOk result (λ r. length r.0.routes ≡ length fixed.now.routes) }
+    ensures few { (limit : ℕ) → HasFewPaths limit fixed.now.routes → IfOk result (λ r. HasFewPaths limit r.0.routes) }
+    ensures keeps { IfOk result (λ r. KeepsTo fixed.now.routes r.0.routes) }
+    ensures stable { IfOk result (λ r. IsStable net.now matrix.now.demand fixed.now.routes r.0.routes) }
+    ensures no_greater { IfOk result (λ r. parts net.now r.0.routes matrix.now.demand ≤ parts net.now fixed.now.routes matrix.now.demand) }
+    ensures count { IfOk result (λ r. length r.1 ≡ link_count net.now) }
+    ensures small { IfOk result (λ r. All (λ x. x ≤ 2 ^ 28) r.1) }
+{
+    let (start, swept) = sweep(alloc, net, fixed, matrix)?;
+    let routing = settle(alloc, net, matrix, start, fixed)?;
+    Ok((routing, swept))
+}
+
+/// The bracket of the routing, by lengths that are great on its most used links and by those that are offered.
+fn bracket_by_usage(
+    alloc: Global,
+    net: &Network,
+    fixed: &Routing,
+    routing: &Routing,
+    matrix: &Matrix,
+    offered: Items<u64>,
+) -> Result<Bracket, Memory>
+    requires network { IsTrue (is_well_formed net.now) }
+    requires fixed { IsPathRouting net.now fixed.now.routes }
+    requires count { length routing.now.routes ≡ length fixed.now.routes }
+    requires pairs { length fixed.now.routes < 2 ^ 32 }
+    requires demands { AreDemands (length fixed.now.routes) matrix.now.demand }
+    requires lengths { length offered ≡ link_count net.now }
+    requires limit { All (λ x. x ≤ 2 ^ 28) offered }
+    ensures sound { IfOk result (IsBracketOnPaths net.now fixed.now.routes routing.now.routes matrix.now.demand) }
+    ensures lower { IfOk result (λ b. IsLowerBoundOnPaths net.now (length fixed.now.routes) (link_lists fixed.now.routes) (slice_index matrix.now.demand) b.low_num b.low_den) }
+    ensures low { IfOk result HasLow }
+{
+    let mut lengths = usage_lengths(alloc, net, routing, matrix)?;
+    lengths.push(offered)?;
+    bracket_on_paths(alloc, net, fixed, routing, matrix, &lengths)
 }
 
 impl<S: Oblivious + Drop> Scheme for Semi<S> {
@@ -62,11 +122,8 @@ impl<S: Oblivious + Drop> Scheme for Semi<S> {
         plan: &SemiPlan<S::Plan>,
         matrix: &Matrix,
     ) -> Result<(Routing, Bracket), Memory> {
-        let (start, swept) = sweep(alloc, net, &plan.fixed, matrix)?;
-        let routing = settle(alloc, net, matrix, start, &plan.fixed)?;
-        let mut lengths = usage_lengths(alloc, net, &routing, matrix)?;
-        lengths.push(swept)?;
-        let note = bracket_on_paths(alloc, net, &plan.fixed, &routing, matrix, &lengths)?;
+        let (routing, swept) = adapt(alloc, net, &plan.fixed, matrix)?;
+        let note = bracket_by_usage(alloc, net, &plan.fixed, &routing, matrix, swept)?;
         Ok((routing, note))
     }
 }
