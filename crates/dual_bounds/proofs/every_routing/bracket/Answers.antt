@@ -1,11 +1,40 @@
-use Rattle.std.proofs.Common.{◌≡◌, [], ◌∷◌, length, take, arith, ◌∙◌, subst}
+use Rattle.std.proofs.Common.{◌≡◌, ℕ, ◌≤◌, ◌^◌, List, [], ◌∷◌, All, length, take, arith, ap, sym, ◌∙◌, subst}
 use Rattle.std.proofs.lemmas.List.{get_or_read}
+use Rattle.std.proofs.lemmas.List.Elements.{All-get_or}
+use Rattle.te_model.specs.declared.route.PairRoutes.{PairRoutes}
+use Rattle.te_model.specs.Network.{link_count}
 use Rattle.routing.specs.Utilisation.{parts}
 use Rattle.dual_bounds.specs.Dual.{unit_lengths, IsBoundOf}
-use Rattle.dual_bounds.specs.Rows.{AreDistancesUnder}
+use Rattle.dual_bounds.specs.Rows.{sources_of, AreDistancesUnder}
 use Rattle.dual_bounds.proofs.Choosing.{choice_first, choice_more, choice_best}
 use Rattle.dual_bounds.proofs.RoutingBounds.{keeps_rows, pairs_unique, is_bracket, is_lower}
 use Rattle.dual_bounds.proofs.every_routing.bracket.Goals as goal
+
+pub by_lengths-requires-clause-sources : goal.by_lengths-requires-clause-sources
+by_lengths-requires-clause-sources c =
+    c.deref.ensures.value ∙ (c.in_ok-sources.ensures ∙ ap (λ (r : List PairRoutes). sources_of c.args.net.now r) c.as_slice.ensures)
+
+pub by_lengths-requires-clause-lengths : goal.by_lengths-requires-clause-lengths
+by_lengths-requires-clause-lengths c = ap (λ (l : List ℕ). length l) c.deref-2.ensures.value ∙ c.in_ok-unit.ensures.count
+
+pub by_lengths-requires-clause-limit : goal.by_lengths-requires-clause-limit
+by_lengths-requires-clause-limit c = subst (All (λ (x : ℕ). x ≤ 2 ^ 28)) (sym c.deref-2.ensures.value) c.in_ok-unit.ensures.limit
+
+pub by_lengths-requires-in-loop-offered-clause-lengths : goal.by_lengths-requires-in-loop-offered-clause-lengths
+by_lengths-requires-in-loop-offered-clause-lengths c =
+    let offered = c.args.lengths.now in
+    let i = c.loop-offered.offered-index in
+    let is = c.as_slice-lengths.ensures ∙ get_or_read offered i c.offered-item.result c.loop-offered-test.true c.offered-item.is [] in
+    ap (λ (l : List ℕ). length l) is
+    ∙ All-get_or (λ (l : List ℕ). length l ≡ link_count c.args.net.now) offered i [] c.loop-offered-test.true c.requires.lengths
+
+pub by_lengths-requires-in-loop-offered-clause-limit : goal.by_lengths-requires-in-loop-offered-clause-limit
+by_lengths-requires-in-loop-offered-clause-limit c =
+    let offered = c.args.lengths.now in
+    let i = c.loop-offered.offered-index in
+    let is = c.as_slice-lengths.ensures ∙ get_or_read offered i c.offered-item.result c.loop-offered-test.true c.offered-item.is [] in
+    subst (All (λ (x : ℕ). x ≤ 2 ^ 28)) (sym is)
+    (All-get_or (λ (l : List ℕ). All (λ (x : ℕ). x ≤ 2 ^ 28) l) offered i [] c.loop-offered-test.true c.requires.limit)
 
 pub loop-offered-init : goal.loop-offered-init
 loop-offered-init c =
