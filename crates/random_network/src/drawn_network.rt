@@ -1,10 +1,12 @@
 //! The network that a seed draws.
 ghost use Rattle.std.specs.Prelude.{◌≡◌, ◌≤◌, IfOk, IsTrue};
 ghost use Rattle.te_model.specs.Network.{is_well_formed, link_count};
+ghost use Rattle.random_words.specs.Words.{generator};
 ghost use Rattle.random_network.specs.Drawn.{IsConnected, network_of};
 
 use crate::links::{add_chords, add_ring};
 use crate::names::node_names;
+use rand_chacha::ChaCha8Rng;
 use random_words::generator_of;
 use std::alloc::Global;
 use te_model::{Items, Memory, Network};
@@ -25,7 +27,7 @@ pub fn network(alloc: Global, nodes: u32, seed: u64) -> Result<Network, Memory>
     ensures connected { IfOk result IsConnected }
 {
     let names = node_names(alloc, nodes)?;
-    let mut rng = generator_of(seed, NETWORK_PURPOSE);
+    let mut rng = network_words(seed);
     let mut links = Vec::new(alloc);
     add_ring(&mut rng, &mut links, nodes)?;
     add_chords(&mut rng, &mut links, nodes)?;
@@ -33,4 +35,11 @@ pub fn network(alloc: Global, nodes: u32, seed: u64) -> Result<Network, Memory>
         names: Items::new(names),
         links: Items::new(links),
     })
+}
+
+// The words of the seed for networks, of which none was taken.
+fn network_words(seed: u64) -> ChaCha8Rng
+    ensures { result ≡ generator seed 2 0 }
+{
+    generator_of(seed, NETWORK_PURPOSE)
 }

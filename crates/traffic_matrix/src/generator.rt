@@ -5,6 +5,7 @@ ghost use Rattle.std.specs.List.{range_with_len};
 ghost use Rattle.te_model.specs.Network.{is_well_formed, node_count};
 ghost use Rattle.te_model.specs.declared.limits.TheConstants.{FORMAT_2};
 ghost use Rattle.te_model.specs.Pairs.{IsNodePair};
+ghost use Rattle.random_words.specs.Words.{generator};
 ghost use Rattle.traffic_matrix.specs.Gravity.{every_pair, size_at, products, gravity_of};
 ghost use Rattle.traffic_matrix.specs.Limits.{IsSeries};
 
@@ -27,7 +28,7 @@ pub fn gravity(alloc: Global, net: &Network, seed: u64, steps: u32) -> Result<Se
 {
     let nodes = net.names.as_slice().len();
     let pairs = every_pair(alloc, nodes)?;
-    let mut rng = generator_of(seed, PURPOSE);
+    let mut rng = matrix_words(seed);
     let mut matrices = Vec::new(alloc);
     for _step in 0..steps {
         let sizes = draw_sizes(alloc, &mut rng, nodes)?;
@@ -39,6 +40,13 @@ pub fn gravity(alloc: Global, net: &Network, seed: u64, steps: u32) -> Result<Se
         },
         steps: Items::new(matrices),
     })
+}
+
+// The words of the seed for matrices, of which none was taken.
+fn matrix_words(seed: u64) -> ChaCha8Rng
+    ensures { result ≡ generator seed 1 0 }
+{
+    generator_of(seed, PURPOSE)
 }
 
 // All pairs of two nodes, ascending.

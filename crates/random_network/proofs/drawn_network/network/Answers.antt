@@ -13,7 +13,7 @@ made c =
     let seed = c.args.seed in
     let ring = c.in_ok-add_ring.ensures in
     network_is c.args.nodes seed _ c.new-links.result.items c.add_ring.new.links.items _ (c.new.ensures ∙ c.in_ok-names.ensures) c.new-links.ensures.items
-    (ring.ring seed c.generator_of-rng.ensures) (c.new-2.ensures ∙ c.in_ok-add_chords.ensures seed (ring.state seed c.generator_of-rng.ensures))
+    (ring.ring seed c.network_words-rng.ensures) (c.new-2.ensures ∙ c.in_ok-add_chords.ensures seed (ring.state seed c.network_words-rng.ensures))
 
 pub returns-clause-drawn : goal.returns-clause-drawn
 returns-clause-drawn c = made c
