@@ -32,12 +32,20 @@ pub fn drawn_file(
     requires reached { AllReached network.now pairs.now.list }
     ensures { IfOk result (λ file. IsDrawnFile seed network.now pairs.now.list file.items) }
 {
-    let scheme = Racke { trees: 4, seed };
+    let scheme = four_trees(seed);
     match publish(alloc, &scheme, network, pairs, DemandSet::All, BUDGET) {
         Ok(certificate) => print(alloc, &certificate),
         Err(SchemeFault::Memory) => Err(Memory),
         Err(SchemeFault::NoPath(_)) => unreachable!(),
     }
+}
+
+// The routing over four trees of the seed.
+fn four_trees(seed: u64) -> Racke
+    ensures trees { result.trees ≡ 4 }
+    ensures seed { result.seed ≡ seed }
+{
+    Racke { trees: 4, seed }
 }
 
 /// The certificate that the bytes spell. The only error is `Memory`, where memory is wanting.
