@@ -1,8 +1,8 @@
 -- What reads give, piece by piece, and what it is of a told file.
-use Rattle.std.proofs.Common.{◌≡◌, ℕ, ◌+◌, ◌<◌, ◌≤◌, List, [], ◌++◌, length, take, drop, refl, sym, ap, ◌∙◌, subst, arith, length-append, length-take}
+use Rattle.std.proofs.Common.{◌≡◌, ℕ, ◌<◌, ◌≤◌, List, [], ◌∷◌, ◌++◌, length, take, drop, refl, sym, ap, ◌∙◌, subst, arith, length-append, length-take, append-nil}
 use Rattle.std.proofs.lemmas.Grind.{common_steps}
 use Rattle.std.proofs.Math.Seq.{take-add}
-use Rattle.std.proofs.lemmas.List.{take-append-le, take-append-drop}
+use Rattle.std.proofs.lemmas.List.{take-append-drop}
 use Rattle.te_ports.specs.Record.{IsPiece, HasGiven, nothing, more, IsRead, IsReadPast, IsReadPastAllowed}
 use Rattle.te_ports.specs.Limit.{IsLimit}
 
@@ -18,22 +18,30 @@ pub read_kept : (old new : ℕ → List ℕ → Type 0) (bytes : List ℕ) → (
 read_kept old new bytes grows read =
     record { given = given_kept old new bytes grows read.given; ends = grows (length bytes) [] read.ends }
 
--- a read gave the first n bytes of a buffer
-pub given_more : (old new : ℕ → List ℕ → Type 0) (bytes buf rest now : List ℕ) (at n : ℕ) →
-    ((place : ℕ) (piece : List ℕ) → old place piece → new place piece) → HasGiven old bytes → at ≡ length bytes →
-    new at (take n buf) → n ≤ length buf → now ≡ bytes ++ take n (buf ++ rest) → HasGiven new now
-given_more old new bytes buf rest now at n grows given place next fits is =
-    more now bytes (take n buf) (given_kept old new bytes grows given) (subst (λ k. new k (take n buf)) place next)
-    (is ∙ ap (λ f. bytes ++ f) (take-append-le n buf rest fits))
+-- a read at the end of the bytes gave the first n bytes of a buffer, which were appended
+pub piece_given : (gave : ℕ → List ℕ → Type 0) (bytes buf now : List ℕ) (at n : ℕ) → at ≡ length bytes → gave at (take n buf) →
+    n ≤ length buf → now ≡ bytes ++ take n buf →
+    (piece : List ℕ) × gave (length bytes) piece × (now ≡ bytes ++ piece) × (length piece ≡ n)
+piece_given gave bytes buf now at n place given fits is =
+    (take n buf, subst (λ k. gave k (take n buf)) place given, is, omega (arith, length-take n buf))
 
--- a read gave nothing
-pub given_end : (old new : ℕ → List ℕ → Type 0) (bytes buf : List ℕ) (at n : ℕ) →
-    ((place : ℕ) (piece : List ℕ) → old place piece → new place piece) → HasGiven old bytes → at ≡ length bytes →
-    new at (take n buf) → n ≡ 0 → IsRead new bytes
-given_end old new bytes buf at n grows given place next none = record {
-  given = given_kept old new bytes grows given;
-  ends = subst (λ k. new k []) place (subst (λ f. new at f) (ap (λ k. take k buf) none) next);
-}
+-- a read gave a piece more
+pub given_more : (old new : ℕ → List ℕ → Type 0) (bytes piece now : List ℕ) →
+    ((place : ℕ) (p : List ℕ) → old place p → new place p) → HasGiven old bytes → new (length bytes) piece → now ≡ bytes ++ piece →
+    HasGiven new now
+given_more old new bytes piece now grows given next is = more now bytes piece (given_kept old new bytes grows given) next is
+
+-- a read gave nothing more
+pub nothing_more : (bytes piece now : List ℕ) → now ≡ bytes ++ piece → length piece ≡ 0 → now ≡ bytes
+nothing_more bytes [] now is none = is ∙ append-nil bytes
+nothing_more bytes (b ∷ piece) now is none = absurd (omega arith)
+
+pub given_end : (old new : ℕ → List ℕ → Type 0) (bytes piece now : List ℕ) →
+    ((place : ℕ) (p : List ℕ) → old place p → new place p) → HasGiven old bytes → new (length bytes) piece → now ≡ bytes ++ piece →
+    length piece ≡ 0 → IsRead new now
+given_end old new bytes [] now grows given next is none =
+    subst (IsRead new) (sym (nothing_more bytes [] now is none)) (record { given = given_kept old new bytes grows given; ends = next })
+given_end old new bytes (b ∷ piece) now grows given next is none = absurd (omega arith)
 
 take_append : (t bytes piece : List ℕ) → take (length bytes) t ≡ bytes → piece ≡ take (length piece) (drop (length bytes) t) →
     take (length (bytes ++ piece)) t ≡ bytes ++ piece
@@ -83,9 +91,3 @@ past_allowed gave content allowed limit pieces read =
 pub allowed_rises : (allowed : List ℕ → ℕ) → IsLimit allowed → (front rest whole : List ℕ) → whole ≡ front ++ rest →
     allowed front ≤ allowed whole
 allowed_rises allowed limit front rest whole is = subst (λ bytes. allowed front ≤ allowed bytes) (sym is) (limit.rises front rest)
-
--- by how much the bytes grow
-pub longer : (bytes buf rest now : List ℕ) (n : ℕ) → now ≡ bytes ++ take n (buf ++ rest) → n ≤ length buf →
-    length now ≡ length bytes + n
-longer bytes buf rest now n is fits =
-    omega (arith, ap length is, length-append bytes (take n (buf ++ rest)), length-take n (buf ++ rest), length-append buf rest)

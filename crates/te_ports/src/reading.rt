@@ -1,5 +1,5 @@
 //! Reading a whole file.
-ghost use Rattle.std.specs.Prelude.{◌≡◌, ◌≢◌, ◌≤◌, ◌<◌, ◌^◌, ℕ, List, length, IfOk, IsErrOf, Err};
+ghost use Rattle.std.specs.Prelude.{◌≡◌, ◌≢◌, ◌≤◌, ◌<◌, ◌^◌, ◌++◌, ℕ, List, length, IfOk, IsErrOf, Err};
 ghost use Rattle.te_ports.specs.Ports.{Rose, Told};
 ghost use Rattle.te_ports.specs.Limit.{IsLimit};
 ghost use Rattle.te_ports.specs.Record.{IsRead, IsReadPast, IsReadPastAllowed, Grows};
@@ -73,16 +73,38 @@ pub fn load_within<D: Depot, L: Limit>(
     let mut allowed = limit.allowed(&bytes);
     let mut chunk = [0u8; CHUNK];
     'chunks: while bytes.len() as u64 <= allowed {
-        let at = bytes.len() as u64;
-        let want = CHUNK.min((allowed + 1 - at) as usize);
-        let count = depot.fetch(name, at, &mut chunk[..want])?;
+        let want = CHUNK.min((allowed + 1 - bytes.len() as u64) as usize);
+        let count = append_piece(depot, name, &mut chunk[..want], &mut bytes)?;
         if count == 0 {
             return Ok(bytes);
         }
-        bytes.extend_from_slice(&chunk[..count])?;
         allowed = limit.allowed(&bytes);
     }
     Err(LoadFault::TooLong)
+}
+
+// Reads once from where the bytes end, appends what the read gave, and answers how many bytes those are.
+fn append_piece<D: Depot>(
+    depot: &mut D,
+    name: &str,
+    chunk: &mut [u8],
+    bytes: &mut Vec<u8>,
+) -> Result<usize, LoadFault>
+    requires { 0 < length chunk.old }
+    ensures piece { IfOk result (λ n. (piece : List ℕ) × D.gave depot.new name.now (length bytes.old.items) piece
+        × (bytes.new.items ≡ bytes.old.items ++ piece) × (length piece ≡ n)) }
+    ensures few { IfOk result (λ n. n ≤ length chunk.old) }
+    ensures kept { Grows (D.gave depot.old) (D.gave depot.new) }
+    ensures failed { IsErrOf result LoadFault.Failed → Rose (D.faults depot.old name.now) (D.faults depot.new name.now) }
+    ensures not_too_long { result ≢ Err LoadFault.TooLong }
+    ensures steady { result ≢ Err LoadFault.Failed → D.faults depot.new ≡ D.faults depot.old }
+    ensures later { (other : List ℕ) → D.faults depot.old other ≤ D.faults depot.new other }
+    ensures content { D.content depot.new ≡ D.content depot.old }
+{
+    let at = bytes.len() as u64;
+    let count = depot.fetch(name, at, chunk)?;
+    bytes.extend_from_slice(&chunk[..count])?;
+    Ok(count)
 }
 
 /// Reads a file as `load_within` does, with one limit for all files.

@@ -1,6 +1,6 @@
-use Rattle.std.proofs.Common.{arith, take, drop, ◌++◌, ◌∙◌, ap, refl, length-take, length}
+use Rattle.std.proofs.Common.{◌≤◌, ◌∙◌, ap, refl, sym, subst, arith, length, length-append, length-take}
 use Rattle.te_ports.specs.Record.{nothing}
-use Rattle.te_ports.proofs.Giving.{given_more, given_end, longer, read_is, past_allowed, allowed_rises}
+use Rattle.te_ports.proofs.Giving.{given_more, given_end, nothing_more, read_is, past_allowed, allowed_rises}
 use Rattle.te_ports.proofs.reading.load_within.Goals as goal
 
 pub chunks-init : goal.chunks-init
@@ -15,37 +15,42 @@ chunks-init g c = (
 
 pub returns-then-count-eq0-clause-read : goal.returns-then-count-eq0-clause-read
 returns-then-count-eq0-clause-read g c =
-    given_end _ _ _ _ _ _ (c.in_ok-count.ensures.kept c.args.name.now) c.chunks.invariant.3 (omega arith)
-    (c.in_ok-count.ensures.gave (omega (arith, length-take c.min-want.result c.chunks.chunk))) c.if-count-eq0.true
+    let piece = c.in_ok-count.ensures.piece in
+    given_end _ _ _ piece.0 _ (c.in_ok-count.ensures.kept c.args.name.now) c.chunks.invariant.3 piece.1 piece.2 (piece.3 ∙ c.if-count-eq0.true)
 
 pub returns-then-count-eq0-clause-told : goal.returns-then-count-eq0-clause-told
 returns-then-count-eq0-clause-told g c = λ told is.
+    let piece = c.in_ok-count.ensures.piece in
     let same = ap (λ f. f c.args.name.now) (c.in_ok-count.ensures.content ∙ c.chunks.invariant.0) in
-    read_is _ _ _ (g.met.D.Depot.gave_told c.fetch.new.self c.args.name.now told (same ∙ is))
-    (given_end _ _ _ _ _ _ (c.in_ok-count.ensures.kept c.args.name.now) c.chunks.invariant.3 (omega arith)
-    (c.in_ok-count.ensures.gave (omega (arith, length-take c.min-want.result c.chunks.chunk))) c.if-count-eq0.true)
+    read_is _ _ _ (g.met.D.Depot.gave_told c.append_piece.new.depot c.args.name.now told (same ∙ is))
+    (given_end _ _ _ piece.0 _ (c.in_ok-count.ensures.kept c.args.name.now) c.chunks.invariant.3 piece.1 piece.2 (piece.3 ∙ c.if-count-eq0.true))
+
+pub returns-then-count-eq0-clause-within : goal.returns-then-count-eq0-clause-within
+returns-then-count-eq0-clause-within g c =
+    let piece = c.in_ok-count.ensures.piece in
+    let same = nothing_more c.chunks.bytes.items piece.0 c.append_piece.new.bytes.items piece.2 (piece.3 ∙ c.if-count-eq0.true) in
+    subst (λ bytes. length bytes ≤ g.L.Limit.allowed c.args.limit.now bytes) (sym same) (omega (arith, c.chunks.invariant.4))
 
 pub chunks-preserved : goal.chunks-preserved
 chunks-preserved g c =
-    let room = c.in_ok-count.ensures.room in
-    let items = c.in_ok-extend_from_slice.ensures.items in
+    let piece = c.in_ok-count.ensures.piece in
     let now = c.allowed-allowed-in-chunks.ensures ∙ ap (g.L.Limit.allowed c.args.limit.now) c.deref-in-chunks.ensures.value in
-    let rises = allowed_rises (g.L.Limit.allowed c.args.limit.now) c.requires c.chunks.bytes.items
-    (take c.in_ok-count.count (c.fetch.new.buf ++ drop c.min-want.result c.chunks.chunk)) c.extend_from_slice.new.self.items items in (
+    let rises = allowed_rises (g.L.Limit.allowed c.args.limit.now) c.requires c.chunks.bytes.items piece.0 c.append_piece.new.bytes.items piece.2 in (
       c.in_ok-count.ensures.content ∙ c.chunks.invariant.0,
-      c.in_ok-count.ensures.steady ∙ c.chunks.invariant.1,
+      c.in_ok-count.ensures.steady (λ e. cc e) ∙ c.chunks.invariant.1,
       (λ name at bytes given. c.in_ok-count.ensures.kept name at bytes (c.chunks.invariant.2 name at bytes given)),
-      given_more _ _ _ _ _ _ _ _ (c.in_ok-count.ensures.kept c.args.name.now) c.chunks.invariant.3 (omega arith)
-          (c.in_ok-count.ensures.gave (omega (arith, length-take c.min-want.result c.chunks.chunk))) (omega (arith, room)) items,
+      given_more _ _ _ piece.0 _ (c.in_ok-count.ensures.kept c.args.name.now) c.chunks.invariant.3 piece.1 piece.2,
       now,
       omega (
         arith,
-        room,
         rises,
         now,
         c.chunks.invariant.4,
+        c.in_ok-count.ensures.few,
         length-take c.min-want.result c.chunks.chunk,
-        longer _ c.fetch.new.buf _ _ c.in_ok-count.count items (omega (arith, room)),
+        ap length piece.2,
+        length-append c.chunks.bytes.items piece.0,
+        piece.3,
       ),
     )
 
