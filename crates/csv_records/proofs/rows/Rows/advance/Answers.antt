@@ -1,4 +1,5 @@
-use Rattle.std.proofs.Common.{◌≡◌, ◌∷◌, false}
+use Rattle.std.proofs.Common.{◌≡◌, ◌∷◌, false, sym}
+use Rattle.std.proofs.lemmas.Bool.{false≢true}
 use Rattle.csv.specs.Records.{fields_of}
 use Rattle.csv_records.specs.Rest.{IsReadyReader, rest_of}
 use Rattle.csv_records.proofs.ReaderLemmas.{read-more, read-end, is-ready}
@@ -17,6 +18,9 @@ invariant_of-self c = λ going. (more c going).0
 
 pub returns-in-Ok-true-clause-found : goal.returns-in-Ok-true-clause-found
 returns-in-Ok-true-clause-found c = λ _. rw (← c.self.view_is, c.if-self.false) (more c c.if-self.false).1
+
+pub returns-in-Ok-true-clause-ended : goal.returns-in-Ok-true-clause-ended
+returns-in-Ok-true-clause-ended c = λ none. absurd (false≢true (sym none))
 
 pub returns-in-Ok-false-clause-ended : goal.returns-in-Ok-false-clause-ended
 returns-in-Ok-false-clause-ended c = λ _.
