@@ -9,12 +9,12 @@ use Rattle.te_command.specs.Files.{Files, given_files, told_files, known_files}
 use Rattle.te_command.specs.Reading.{Means, MeansStatus, IsTold, ReadFailed}
 use Rattle.te_command.specs.Commands.{Command, command_of, reading_of}
 use Rattle.te_command.specs.Form.{MayAnswer}
-use Rattle.te_command.specs.Outcome.{status_of, answer_text}
+use Rattle.te_command.specs.Outcome.{status_of, answer_text, Delivers}
 use Rattle.te_command.specs.Run.{OfCommand, OfToldCommand, Change, Says, SaysSome, Answered, WritesMeant, SaysMeant, WritesProof, WritesPartMeant, HasForm, IsOrFails, GivesOrMemory}
 use Rattle.te_command.proofs.Telling.{Agrees, given_is_known, means_along, failed_along, means_told, failed_told}
 use Rattle.te_command.proofs.Ending.{proved, formed, status_once, status_of_text}
 use Rattle.te_command.proofs.Table.{sound, regular}
-use Rattle.te_command.proofs.Delivering.{Delivered, answered, refused, has_form, exact, complete}
+use Rattle.te_command.proofs.Delivering.{answered, refused, has_form, exact, complete}
 
 -- the command that was read from the words
 pub record IsAsked (asked : Command) (words : List (List ℕ)) : Type 0 where
@@ -60,7 +60,7 @@ at_each_status words files result out err of = record {
 
 -- what reads gave, of any depot
 pub answer_given : (asked : Command) (words : List (List ℕ)) (content : List ℕ → Option (List ℕ)) (gave : List ℕ → ℕ → List ℕ → Type 0) (answer : Answer) (result : ℕ)
-    (out err : Change) → IsAsked asked words → Agrees content gave → Delivered result answer out err →
+    (out err : Change) → IsAsked asked words → Agrees content gave → Delivers result (status_of answer) (answer_text answer) out err →
     Means (reading_of asked) (given_files gave) (status_of answer) (answer_text answer) →
     AnsweredBy words (known_files gave content) result out err
 answer_given asked words content gave answer result out err is agrees delivered means =
@@ -78,7 +78,7 @@ refusal_given asked words content gave line err is agrees says means =
 
 -- and of told files
 pub answer_told : (asked : Command) (words : List (List ℕ)) (content : List ℕ → Option (List ℕ)) (gave : List ℕ → ℕ → List ℕ → Type 0) (answer : Answer) (result : ℕ)
-    (out err : Change) → IsAsked asked words → Agrees content gave → Delivered result answer out err →
+    (out err : Change) → IsAsked asked words → Agrees content gave → Delivers result (status_of answer) (answer_text answer) out err →
     Means (reading_of asked) (given_files gave) (status_of answer) (answer_text answer) →
     OfToldCommand words content (λ command. Answered (reading_of command) (told_files content) result out err)
 answer_told asked words content gave answer result out err is agrees delivered means =
@@ -102,7 +102,7 @@ no_refusal (NoPath line) is = omega (arith, is)
 
 -- the form of an answer
 pub answer_form : (asked : Command) (words : List (List ℕ)) (gave : List ℕ → ℕ → List ℕ → Type 0) (answer : Answer) (result : ℕ)
-    (out err : Change) → IsAsked asked words → Delivered result answer out err →
+    (out err : Change) → IsAsked asked words → Delivers result (status_of answer) (answer_text answer) out err →
     Means (reading_of asked) (given_files gave) (status_of answer) (answer_text answer) → OfCommand words (λ command. HasForm command result out err)
 answer_form asked words gave answer result out err is delivered means =
     of_asked (λ k. HasForm k result out err) asked words is
@@ -116,7 +116,7 @@ one_status asked content s status text means is =
     (status_of_text (MayAnswer asked) (reading_of asked) (told_files content) s text (sound asked) means) is
 
 pub answer_exact : (asked : Command) (words : List (List ℕ)) (content : List ℕ → Option (List ℕ)) (gave : List ℕ → ℕ → List ℕ → Type 0) (answer : Answer) (result : ℕ)
-    (out err : Change) → IsAsked asked words → Agrees content gave → Delivered result answer out err →
+    (out err : Change) → IsAsked asked words → Agrees content gave → Delivers result (status_of answer) (answer_text answer) out err →
     Means (reading_of asked) (given_files gave) (status_of answer) (answer_text answer) →
     OfToldCommand words content (λ command. (status : ℕ) → MeansStatus (reading_of command) (told_files content) status →
     IsOrFails result status)
@@ -137,7 +137,7 @@ refusal_exact asked words content gave line is agrees means =
 
 -- and its text
 pub answer_complete : (asked : Command) (words : List (List ℕ)) (content : List ℕ → Option (List ℕ)) (gave : List ℕ → ℕ → List ℕ → Type 0) (Fails : List ℕ → Type 0)
-    (answer : Answer) (result : ℕ) (out err : Change) → IsAsked asked words → Agrees content gave → Delivered result answer out err →
+    (answer : Answer) (result : ℕ) (out err : Change) → IsAsked asked words → Agrees content gave → Delivers result (status_of answer) (answer_text answer) out err →
     Means (reading_of asked) (given_files gave) (status_of answer) (answer_text answer) →
     OfToldCommand words content (λ command. (status : ℕ) → MeansStatus (reading_of command) (told_files content) status →
     ¬ ReadFailed (reading_of command) (told_files content) Fails → ¬ Rose out.before out.now →

@@ -1,5 +1,5 @@
 -- What the program does with an answer of the command of the words.
-use Rattle.std.proofs.Common.{◌≡◌, ◌≢◌, ◌≤◌, ◌⊎◌, ℕ, List, inl, inr, refl, sym, ◌∙◌, subst, arith}
+use Rattle.std.proofs.Common.{◌≡◌, ◌≢◌, ◌≤◌, ◌⊎◌, ℕ, List, Option, inl, inr, refl, sym, ◌∙◌, subst, arith}
 use Rattle.std.specs.Io.KnownBytes.{append_known}
 use Rattle.te_ports.specs.Ports.{Rose, AppendsPart}
 use Rattle.te_command.specs.declared.answer.Answer.{Answer}
@@ -7,7 +7,7 @@ use Rattle.te_command.specs.declared.answer.Answer.TheVariants.{Done, No, NoPath
 use Rattle.te_command.specs.Files.{Files}
 use Rattle.te_command.specs.Reading.{Reading, Means, Proves}
 use Rattle.te_command.specs.Commands.{Command}
-use Rattle.te_command.specs.Outcome.{status_of, answer_text}
+use Rattle.te_command.specs.Outcome.{status_of, answer_text, Delivers}
 use Rattle.te_command.specs.Run.{Change, Says, SaysSome, Writes, WritesPart, Answered, HasForm, IsOrFails, GivesOrMemory, Written, message}
 use Rattle.te_command.specs.Form.{MayAnswer}
 
@@ -15,14 +15,63 @@ use Rattle.te_command.specs.Form.{MayAnswer}
 abbrev pub IsForm : ℕ → Type 0
 IsForm result = (result ≤ 1) ⊎ (result ≡ 5) ⊎ (result ≡ 7)
 
--- how an answer was delivered
-pub record Delivered (result : ℕ) (answer : Answer) (out err : Change) : Type 0 where
-  pub status : (result ≡ status_of answer) ⊎ ((result ≡ 5) × (status_of answer ≤ 1))
-  pub form : IsForm result
-  pub whole : result ≤ 1 → out.new ≡ append_known out.old (answer_text answer)
-  pub part : result ≡ 5 → AppendsPart out.old out.new (answer_text answer)
-  pub named : result ≡ 7 → Says err (answer_text answer)
-  pub write : result ≡ 5 → Rose out.before out.now
+-- a sink to which nothing was written
+abbrev pub untouched : Option (List ℕ) → ℕ → Change
+untouched text faults = record { old = text; new = text; before = faults; now = faults }
+
+-- a text of status 0 or 1 was written whole
+pub delivers_whole : (status : ℕ) (text : List ℕ) (out : Change) (said : Option (List ℕ)) (faults : ℕ) → status ≤ 1 →
+    out.new ≡ append_known out.old text → out.now ≡ out.before → out.before ≤ out.now → Delivers status status text out (untouched said faults)
+delivers_whole status text out said faults small whole steady later = record {
+  status = inl refl;
+  form = inl small;
+  whole = λ is. whole;
+  part = λ five. absurd (omega (arith, five, small));
+  write = λ five. absurd (omega (arith, five, small));
+  named = λ seven. absurd (omega (arith, seven, small));
+  silent = λ low other. absurd (omega (arith, low, small));
+  said = λ five. absurd (omega (arith, five, small));
+  quiet = λ is. refl;
+  out_faults = λ other. steady;
+  out_later = later;
+  err_later = omega arith;
+}
+
+-- a write of it failed
+pub delivers_part : (status : ℕ) (text : List ℕ) (out err : Change) → status ≤ 1 → AppendsPart out.old out.new text → Rose out.before out.now →
+    out.before ≤ out.now → Says err (message 5) → err.before ≤ err.now → Delivers 5 status text out err
+delivers_part status text out err small part rose later says err_later = record {
+  status = inr (refl, small);
+  form = inr (inl refl);
+  whole = λ is. absurd (omega (arith, is));
+  part = λ five. part;
+  write = λ five. rose;
+  named = λ seven. absurd (omega (arith, seven));
+  silent = λ low other. absurd (other refl);
+  said = λ five. says;
+  quiet = λ is. absurd (omega (arith, is));
+  out_faults = λ other. absurd (other refl);
+  out_later = later;
+  err_later = err_later;
+}
+
+-- a pair without a path was named
+pub delivers_name : (line : List ℕ) (text : Option (List ℕ)) (faults : ℕ) (err : Change) → Says err line → err.before ≤ err.now →
+    Delivers 7 7 line (untouched text faults) err
+delivers_name line text faults err says later = record {
+  status = inl refl;
+  form = inr (inr refl);
+  whole = λ is. absurd (omega (arith, is));
+  part = λ five. absurd (omega (arith, five));
+  write = λ five. absurd (omega (arith, five));
+  named = λ seven. says;
+  silent = λ low other. refl;
+  said = λ five. absurd (omega (arith, five));
+  quiet = λ is. absurd (omega (arith, is));
+  out_faults = λ other. refl;
+  out_later = omega arith;
+  err_later = later;
+}
 
 pub other_status : (result status : ℕ) → IsForm result → 2 ≤ status → status ≢ 5 → status ≢ 7 → result ≡ status → ⊥
 other_status result status (inl small) low five seven is = omega (arith, small, low, is)
@@ -34,19 +83,19 @@ status_is result answer (inl is) other = sym is
 status_is result answer (inr failed) other = absurd (other failed.0)
 
 -- the answer has the meaning of the status that was given
-at_status : (P : ℕ → List ℕ → Type 0) (answer : Answer) (result status : ℕ) (out err : Change) → Delivered result answer out err → result ≡ status → result ≢ 5 →
+at_status : (P : ℕ → List ℕ → Type 0) (answer : Answer) (result status : ℕ) (out err : Change) → Delivers result (status_of answer) (answer_text answer) out err → result ≡ status → result ≢ 5 →
     P (status_of answer) (answer_text answer) → P status (answer_text answer)
 at_status P answer result status out err delivered is other meant =
     subst (λ (n : ℕ). P n (answer_text answer)) (status_is result answer delivered.status other ∙ is) meant
 
 -- the text of that meaning was written
-written : (P : ℕ → List ℕ → Type 0) (answer : Answer) (result status : ℕ) (out err : Change) → Delivered result answer out err →
+written : (P : ℕ → List ℕ → Type 0) (answer : Answer) (result status : ℕ) (out err : Change) → Delivers result (status_of answer) (answer_text answer) out err →
     P (status_of answer) (answer_text answer) → status ≤ 1 → result ≡ status → Writes (P status) out
 written P answer result status out err delivered meant small is =
     (answer_text answer, at_status P answer result status out err delivered is (λ five. absurd (omega arith)) meant, delivered.whole (omega arith))
 
 -- the message of that meaning was said
-said : (P : ℕ → List ℕ → Type 0) (answer : Answer) (result : ℕ) (out err : Change) → Delivered result answer out err →
+said : (P : ℕ → List ℕ → Type 0) (answer : Answer) (result : ℕ) (out err : Change) → Delivers result (status_of answer) (answer_text answer) out err →
     P (status_of answer) (answer_text answer) → result ≡ 7 → SaysSome (P 7) err
 said P answer result out err delivered meant is =
     (answer_text answer, at_status P answer result 7 out err delivered is (λ five. absurd (omega arith)) meant, delivered.named is)
@@ -60,7 +109,7 @@ part_written P (NoPath line) result out (inl seven) meant is part = absurd (omeg
 part_written P (NoPath line) result out (inr failed) meant is part = absurd (omega (arith, failed.1))
 
 -- an answer that the files mean
-pub answered : (r : Reading) (files : Files) (answer : Answer) (result : ℕ) (out err : Change) → Delivered result answer out err →
+pub answered : (r : Reading) (files : Files) (answer : Answer) (result : ℕ) (out err : Change) → Delivers result (status_of answer) (answer_text answer) out err →
     ((text : List ℕ) → Means r files 0 text → Proves r files text) → Means r files (status_of answer) (answer_text answer) → Answered r files result out err
 answered r files answer result out err delivered proves meant = record {
   yes = λ is. written (Means r files) answer result 0 out err delivered meant (omega arith) is;
@@ -85,7 +134,7 @@ refused r files line out err says meant = record {
 }
 
 -- an answer of the command's form
-pub has_form : (command : Command) (answer : Answer) (result : ℕ) (out err : Change) → Delivered result answer out err →
+pub has_form : (command : Command) (answer : Answer) (result : ℕ) (out err : Change) → Delivers result (status_of answer) (answer_text answer) out err →
     MayAnswer command (status_of answer) (answer_text answer) → HasForm command result out err
 has_form command answer result out err delivered form = record {
   written = λ small. written (MayAnswer command) answer result result out err delivered form small refl;
@@ -93,7 +142,7 @@ has_form command answer result out err delivered form = record {
 }
 
 -- the status is the one that is meant, unless a write failed
-pub exact : (answer : Answer) (result status : ℕ) (out err : Change) → Delivered result answer out err → status_of answer ≡ status →
+pub exact : (answer : Answer) (result status : ℕ) (out err : Change) → Delivers result (status_of answer) (answer_text answer) out err → status_of answer ≡ status →
     IsOrFails result status
 exact answer result status out err delivered same = go delivered.status
   where
@@ -102,7 +151,7 @@ exact answer result status out err delivered same = go delivered.status
     go (inr failed) = inr (inr (inl failed.0))
 
 -- and its text was written whole
-pub complete : (P : ℕ → List ℕ → Type 0) (answer : Answer) (result status : ℕ) (out err : Change) → Delivered result answer out err → status_of answer ≡ status →
+pub complete : (P : ℕ → List ℕ → Type 0) (answer : Answer) (result status : ℕ) (out err : Change) → Delivers result (status_of answer) (answer_text answer) out err → status_of answer ≡ status →
     P (status_of answer) (answer_text answer) → ¬ Rose out.before out.now → GivesOrMemory result out status (P status)
 complete P answer result status out err delivered same meant steady = go delivered.status
   where

@@ -10,6 +10,7 @@ pub mod Alike
 pub mod Table
 pub mod Delivering
 pub mod Answering
+pub mod Running
 pub mod Refusing
 mod Generating
 mod Texts

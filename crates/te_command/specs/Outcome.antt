@@ -1,6 +1,7 @@
 -- What the functions of the program answer of the files that they read.
-use Rattle.std.specs.Prelude.{◌≡◌, ◌≢◌, ◌≤◌, ℕ, ◌↔◌, List, Bool, IsTrue, string_bytes, Option, Some, None, Result, Ok, Err}
-use Rattle.te_ports.specs.Ports.{Rose}
+use Rattle.std.specs.Prelude.{◌≡◌, ◌≢◌, ◌≤◌, ◌⊎◌, ℕ, ◌↔◌, List, Bool, IsTrue, string_bytes, Option, Some, None, Result, Ok, Err}
+use Rattle.std.specs.Io.KnownBytes.{append_known}
+use Rattle.te_ports.specs.Ports.{Rose, AppendsPart}
 use Rattle.te_ports.specs.Record.{Grows}
 use Rattle.te_ports.specs.Shown.{Shown}
 use Rattle.te_model.specs.declared.certificate.Certificate.{Certificate}
@@ -27,6 +28,7 @@ use Rattle.te_command.specs.PlanFile.{plans}
 use Rattle.te_command.specs.Refusals.{reason}
 use Rattle.te_command.specs.Check.{yes_line, no_line}
 use Rattle.te_command.specs.Commands.{with_plan}
+use Rattle.te_command.specs.Run.{Change, Says, message}
 
 -- what a call may do to a depot
 pub record KeepsDepot (old new : Shown) : Type 0 where
@@ -44,6 +46,32 @@ abbrev pub answer_text : Answer → List ℕ
 answer_text (Done text) = text.items
 answer_text (No line) = line.items
 answer_text (NoPath line) = line.items
+
+-- the status of a fault, and its text
+abbrev pub status_of_fault : Fault → ℕ
+status_of_fault (Refused line) = 3
+status_of_fault Read = 4
+status_of_fault Memory = 6
+
+abbrev pub fault_text : Fault → List ℕ
+fault_text (Refused line) = string_bytes line
+fault_text Read = message 4
+fault_text Memory = message 6
+
+-- the contract of a call that writes a text where one of this status belongs
+pub record Delivers (result meant : ℕ) (text : List ℕ) (out err : Change) : Type 0 where
+  pub status : (result ≡ meant) ⊎ ((result ≡ 5) × (meant ≤ 1))
+  pub form : (result ≤ 1) ⊎ (result ≡ 5) ⊎ (result ≡ 7)
+  pub whole : result ≤ 1 → out.new ≡ append_known out.old text
+  pub part : result ≡ 5 → AppendsPart out.old out.new text
+  pub write : result ≡ 5 → Rose out.before out.now
+  pub named : result ≡ 7 → Says err text
+  pub silent : 2 ≤ result → result ≢ 5 → out.new ≡ out.old
+  pub said : result ≡ 5 → Says err (message 5)
+  pub quiet : result ≤ 1 → err.new ≡ err.old
+  pub out_faults : result ≢ 5 → out.now ≡ out.before
+  pub out_later : out.before ≤ out.now
+  pub err_later : err.before ≤ err.now
 
 -- the answer says what was found of the certificate
 abbrev pub IsLineOf : Certificate → Finding → Answer → Type 0

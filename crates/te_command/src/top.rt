@@ -7,10 +7,9 @@ ghost use Rattle.te_command.specs.Reading.{Means, MeansStatus, ReadFailed};
 ghost use Rattle.te_command.specs.Commands.{command_of, reading_of};
 ghost use Rattle.te_command.specs.Run.{texts, change, OfCommand, OfToldCommand, Answered, WritesMeant, SaysMeant, WritesProof, WritesPartMeant, HasForm, IsOrFails, GivesOrMemory, Written, Steady, Later};
 
-use crate::answer::Fault;
 use crate::ask::Ask;
 use crate::words::command_of;
-use crate::writing::{deliver, say};
+use crate::writing::{deliver, say, say_fault};
 use std::alloc::Global;
 use te_ports::{Depot, Sink};
 
@@ -97,17 +96,6 @@ pub fn run<D: Depot, O: Sink, E: Sink>(
     };
     match command.answer(alloc, depot) {
         Ok(answer) => deliver(out, err, &answer),
-        Err(Fault::Refused(line)) => {
-            say(err, line.as_bytes());
-            3
-        }
-        Err(Fault::Read) => {
-            say(err, b"fault: read\n");
-            4
-        }
-        Err(Fault::Memory) => {
-            say(err, b"fault: memory\n");
-            6
-        }
+        Err(fault) => say_fault(err, &fault),
     }
 }

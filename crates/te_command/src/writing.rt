@@ -1,11 +1,9 @@
-//! What is written of an answer, and which status it has.
-ghost use Rattle.std.specs.Prelude.{◌≡◌, ◌≢◌, ◌≤◌, ◌⊎◌};
-ghost use Rattle.std.specs.Io.KnownBytes.{append_known};
-ghost use Rattle.te_ports.specs.Ports.{Rose, AppendsPart};
-ghost use Rattle.te_command.specs.Outcome.{status_of, answer_text};
-ghost use Rattle.te_command.specs.Run.{message, change, Says};
+//! What is written of an answer or a fault, and which status it has.
+ghost use Rattle.std.specs.Prelude.{◌≡◌, ◌≤◌};
+ghost use Rattle.te_command.specs.Outcome.{Delivers, status_of, answer_text, status_of_fault, fault_text};
+ghost use Rattle.te_command.specs.Run.{change, Says};
 
-use crate::answer::Answer;
+use crate::answer::{Answer, Fault};
 use te_ports::{Sink, put_all};
 
 /// Writes a message, of which a failed write may leave a part.
@@ -19,15 +17,7 @@ pub fn say<E: Sink>(err: &mut E, text: &[u8])
 /// Writes a text to `out`, and gives the status, or 5 where a write failed, which the message says.
 pub fn write<O: Sink, E: Sink>(out: &mut O, err: &mut E, text: &[u8], status: u8) -> u8
     requires { status ≤ 1 }
-    ensures status { (result ≡ status) ⊎ (result ≡ 5) }
-    ensures whole { result ≤ 1 → O.written out.new ≡ append_known (O.written out.old) text.now }
-    ensures part { result ≡ 5 → AppendsPart (O.written out.old) (O.written out.new) text.now }
-    ensures write { result ≡ 5 → Rose (O.faults out.old) (O.faults out.new) }
-    ensures said { result ≡ 5 → Says (change E.written E.faults err.old err.new) (message 5) }
-    ensures quiet { result ≤ 1 → E.written err.new ≡ E.written err.old }
-    ensures out_faults { result ≢ 5 → O.faults out.new ≡ O.faults out.old }
-    ensures out_later { O.faults out.old ≤ O.faults out.new }
-    ensures err_later { E.faults err.old ≤ E.faults err.new }
+    ensures { Delivers result status text.now (change O.written O.faults out.old out.new) (change E.written E.faults err.old err.new) }
 {
     match put_all(out, text) {
         Ok(()) => status,
@@ -40,18 +30,8 @@ pub fn write<O: Sink, E: Sink>(out: &mut O, err: &mut E, text: &[u8], status: u8
 
 /// Writes an answer, and gives the status: a pair without a path is named to `err`, and all else is written to `out`.
 pub fn deliver<O: Sink, E: Sink>(out: &mut O, err: &mut E, answer: &Answer) -> u8
-    ensures status { (result ≡ status_of answer.now) ⊎ ((result ≡ 5) × (status_of answer.now ≤ 1)) }
-    ensures form { (result ≤ 1) ⊎ (result ≡ 5) ⊎ (result ≡ 7) }
-    ensures whole { result ≤ 1 → O.written out.new ≡ append_known (O.written out.old) (answer_text answer.now) }
-    ensures part { result ≡ 5 → AppendsPart (O.written out.old) (O.written out.new) (answer_text answer.now) }
-    ensures write { result ≡ 5 → Rose (O.faults out.old) (O.faults out.new) }
-    ensures named { result ≡ 7 → Says (change E.written E.faults err.old err.new) (answer_text answer.now) }
-    ensures silent { 2 ≤ result → result ≢ 5 → O.written out.new ≡ O.written out.old }
-    ensures said { result ≡ 5 → Says (change E.written E.faults err.old err.new) (message 5) }
-    ensures quiet { result ≤ 1 → E.written err.new ≡ E.written err.old }
-    ensures out_faults { result ≢ 5 → O.faults out.new ≡ O.faults out.old }
-    ensures out_later { O.faults out.old ≤ O.faults out.new }
-    ensures err_later { E.faults err.old ≤ E.faults err.new }
+    ensures { Delivers result (status_of answer.now) (answer_text answer.now)
+        (change O.written O.faults out.old out.new) (change E.written E.faults err.old err.new) }
 {
     match answer {
         Answer::Done(text) => write(out, err, text.as_slice(), 0),
@@ -59,6 +39,28 @@ pub fn deliver<O: Sink, E: Sink>(out: &mut O, err: &mut E, answer: &Answer) -> u
         Answer::NoPath(line) => {
             say(err, line.as_slice());
             7
+        }
+    }
+}
+
+/// Says why a command has no answer, and gives the status.
+pub fn say_fault<E: Sink>(err: &mut E, fault: &Fault) -> u8
+    ensures status { result ≡ status_of_fault fault.now }
+    ensures said { Says (change E.written E.faults err.old err.new) (fault_text fault.now) }
+    ensures later { E.faults err.old ≤ E.faults err.new }
+{
+    match fault {
+        Fault::Refused(line) => {
+            say(err, line.as_bytes());
+            3
+        }
+        Fault::Read => {
+            say(err, b"fault: read\n");
+            4
+        }
+        Fault::Memory => {
+            say(err, b"fault: memory\n");
+            6
         }
     }
 }
