@@ -1,5 +1,6 @@
 -- The line of what was found of a certificate is the answer on it.
-use Rattle.std.proofs.Common.{◌≡◌, ◌≢◌, Option, Some, None, Result, Ok, Err, IfOk, inl, inr, refl}
+use Rattle.std.proofs.Common.{◌≡◌, ◌↔◌, Bool, true, false, Option, Some, None, Result, Ok, Err, IfOk, inl, inr, refl}
+use Rattle.std.specs.Bool.{IsTrue}
 use Rattle.te_model.specs.declared.memory.Memory.{Memory}
 use Rattle.te_model.specs.declared.certificate.Certificate.{Certificate}
 use Rattle.te_model.specs.declared.network.Network.{Network}
@@ -29,8 +30,11 @@ network_found c network (Ok answer) same is = inl (same, is)
 network_found c network (Err e) same is = is
 
 -- and that on a certificate of another network
-pub other_network : (c : Certificate) (network : Network) (r : Result Answer Memory) → c.head.network ≢ network →
+pub other_network : (c : Certificate) (network : Network) (same : Bool) (r : Result Answer Memory) → IsTrue same ↔ (c.head.network ≡ network) → same ≡ false →
     IfOk r (λ answer. (status_of answer ≡ 1) × (answer_text answer ≡ no_network_line)) →
     IfOk r (λ answer. IsNetworkVerdict c network (status_of answer) (answer_text answer))
-other_network c network (Ok answer) other is = inr (other, is.0, is.1)
-other_network c network (Err e) other is = is
+other_network c network same (Ok answer) is other line = inr ((λ e. not_both same (is.1 e) other), line.0, line.1)
+  where
+    not_both : (b : Bool) → b ≡ true → b ≡ false → ⊥
+    not_both b is other = cc
+other_network c network same (Err e) is other line = line

@@ -62,7 +62,6 @@ fn no_network(alloc: Global) -> Result<Answer, Memory>
 
 // The answer on the certificate whose head and blocks the feed was given, and whose network is the one that is asked for
 // or another one.
-#[tactic(auto, using(crate::proofs::Verdict::other_network))]
 fn judge_on(alloc: Global, feed: Feed, same: bool) -> Result<Answer, Memory>
     requires { (head : Head) × (blocks : List Block) × StandsFor feed head blocks }
     ensures { (head : Head) → (blocks : List Block) → StandsFor feed head blocks →

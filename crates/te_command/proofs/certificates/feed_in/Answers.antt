@@ -3,6 +3,12 @@ use Rattle.block_reader.specs.declared.block_reader.BlockReader.{BlockReader}
 use Rattle.te_command.proofs.Feeding.{fed_after, ok_read, refuses}
 use Rattle.te_command.proofs.certificates.feed_in.Goals as goal
 
+pub feed_from-requires-clause-head : goal.feed_from-requires-clause-head
+feed_from-requires-clause-head g c = c.in-Ok.ensures.head
+
+pub feed_from-requires-clause-name : goal.feed_from-requires-clause-name
+feed_from-requires-clause-name g c = c.in-Ok.ensures.name
+
 pub returns-in-Ok : goal.returns-in-Ok
 returns-in-Ok g c =
     let opened = c.in-Ok.ensures in
