@@ -8,7 +8,7 @@ ghost use Rattle.te_command.specs.Refusals.{at_row};
 
 use failure::FailureFault;
 use plan::PlanFault;
-use std::fmt;
+use std::fmt::{self, Display};
 use topology::TopologyFault;
 use traffic_matrix::MatrixFault;
 
@@ -39,7 +39,7 @@ impl fmt::Display for TopologyReason {
     ghost output = { λ reason. Some (topology_reason reason.0) };
 
     fn fmt<W: fmt::Write>(&self, f: &mut fmt::Formatter<W>) -> fmt::Result {
-        write!(f, "{}", topology_words(self.0))
+        topology_words(self.0).fmt(f)
     }
 }
 
@@ -69,7 +69,7 @@ impl fmt::Display for MatrixReason {
     ghost output = { λ reason. Some (matrices_reason reason.0) };
 
     fn fmt<W: fmt::Write>(&self, f: &mut fmt::Formatter<W>) -> fmt::Result {
-        write!(f, "{}", matrices_words(self.0))
+        matrices_words(self.0).fmt(f)
     }
 }
 
@@ -100,7 +100,7 @@ impl fmt::Display for FailureReason {
     ghost output = { λ reason. Some (failures_reason reason.0) };
 
     fn fmt<W: fmt::Write>(&self, f: &mut fmt::Formatter<W>) -> fmt::Result {
-        write!(f, "{}", failures_words(self.0))
+        failures_words(self.0).fmt(f)
     }
 }
 

@@ -2,7 +2,7 @@
 use crate::reasons::{FailureReason, MatrixReason, PlanReason, TopologyReason};
 use failure::FailureFault;
 use plan::PlanFault;
-use std::fmt;
+use std::fmt::{self, Display};
 use te_model::RuleFault;
 use topology::TopologyFault;
 use traffic_matrix::MatrixFault;
@@ -43,10 +43,10 @@ impl fmt::Display for Refusal {
         match self {
             Refusal::Shape(line) => write!(f, "shape at line {line}"),
             Refusal::Rule(RuleFault { number, place }) => write!(f, "rule V{number} at {place}"),
-            Refusal::Topology(fault) => write!(f, "{}", TopologyReason(*fault)),
-            Refusal::Matrices(fault) => write!(f, "{}", MatrixReason(*fault)),
-            Refusal::Failures(fault) => write!(f, "{}", FailureReason(*fault)),
-            Refusal::Plan(fault) => write!(f, "{}", PlanReason(*fault)),
+            Refusal::Topology(fault) => TopologyReason(*fault).fmt(f),
+            Refusal::Matrices(fault) => MatrixReason(*fault).fmt(f),
+            Refusal::Failures(fault) => FailureReason(*fault).fmt(f),
+            Refusal::Plan(fault) => PlanReason(*fault).fmt(f),
         }
     }
 }
