@@ -12,7 +12,8 @@ pub fn connected_pairs(alloc: Global, reach: &Reachability, pairs: &Pairs) -> Re
 {
     let mut list = Vec::new(alloc);
     for pair in pairs.list.as_slice() {
-        if reach.connects(*pair) {
+        let has_path = reach.connects(*pair);
+        if has_path {
             list.push(*pair)?;
         }
     }

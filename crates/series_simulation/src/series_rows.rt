@@ -1,6 +1,7 @@
 //! The rows of a scheme over a series of matrices, one for each step.
-ghost use Rattle.std.specs.Prelude.{◌≡◌, ◌<◌, ◌≤◌, ℕ, IfOk, IsTrue, filter, length};
+ghost use Rattle.std.specs.Prelude.{◌≡◌, ◌<◌, ◌≤◌, ℕ, All, IfOk, IsTrue, filter, length};
 ghost use Rattle.te_model.specs.Network.{is_well_formed, link_count, node_count};
+ghost use Rattle.te_model.specs.Pairs.{AreDemands};
 ghost use Rattle.traffic_matrix.specs.Limits.{IsSeries};
 ghost use Rattle.series_simulation.specs.Connected.{TellsPaths, connects};
 ghost use Rattle.series_simulation.specs.Rows.{AreStepRows, IsStepRow, demands_in, step_row_at};
@@ -16,8 +17,18 @@ use failure::Failures;
 use plan::Recovery;
 use scheme::Scheme;
 use std::alloc::Global;
-use te_model::{Items, Memory, Network};
+use te_model::{Items, Matrix, Memory, Network};
 use traffic_matrix::Series;
+
+/// The matrix of the step.
+fn matrix_of(series: &Series, step: u32) -> &Matrix
+    requires step { step < length series.now.steps }
+    requires demands { All (λ m. AreDemands (length series.now.pairs.list) m.demand) series.now.steps }
+    ensures matrix { result.now.demand ≡ demands_in series.now step }
+    ensures demands { AreDemands (length series.now.pairs.list) result.now.demand }
+{
+    &series.steps.as_slice()[step as usize]
+}
 
 /// The row of a step in which the marked links have failed, by what was prepared for the network.
 ///
@@ -47,7 +58,7 @@ pub fn row_of<S: Scheme>(
     ensures conserved { IfOk result (λ row. IsConservedStep (demands_in series.now step) row.result) }
 {
     let pairs = &series.pairs;
-    let matrix = &series.steps.as_slice()[step as usize];
+    let matrix = matrix_of(series, step);
     let routed = step_routing(
         alloc, scheme, net, prepared, failed, pairs, matrix, recovery,
     )?;

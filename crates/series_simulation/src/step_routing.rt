@@ -1,5 +1,5 @@
 //! The routing of a step: as it was prepared, or made anew on the network that is left of failed links.
-ghost use Rattle.std.specs.Prelude.{◌≡◌, ◌≤◌, IfOk, IsTrue, filter, length};
+ghost use Rattle.std.specs.Prelude.{◌≡◌, ◌<◌, ◌≤◌, All, AllPairs, IfOk, IsTrue, filter, length};
 ghost use Rattle.te_model.specs.Network.{is_well_formed, link_count};
 ghost use Rattle.te_model.specs.PathRouting.{IsPathRouting};
 ghost use Rattle.routing.specs.Routes.{AreDemands, HasFewPaths};
@@ -7,7 +7,8 @@ ghost use Rattle.scheme.specs.Reach.{ArePairsOf};
 ghost use Rattle.local_recovery.specs.Rates.{pairs_of};
 ghost use Rattle.local_recovery.specs.Spread.{IsSublist};
 ghost use Rattle.series_simulation.specs.Connected.{TellsPaths, connects};
-ghost use Rattle.series_simulation.specs.Rows.{IsReroutedOn, IsStepRouting};
+ghost use Rattle.series_simulation.specs.OriginalLinks.{HavePathsBelow, original_routes};
+ghost use Rattle.series_simulation.specs.Rows.{IsRouted, IsReroutedOn, IsStepRouting};
 
 use crate::original_links::original_routes;
 use crate::preparation::{Preparation, prepare_connected};
@@ -18,6 +19,44 @@ use plan::Recovery;
 use scheme::Scheme;
 use std::alloc::Global;
 use te_model::{Matrix, Memory, Network, Pairs};
+
+/// The scheme's routing on a network for which nothing was prepared.
+fn route_anew<S: Scheme>(
+    alloc: Global,
+    scheme: &S,
+    net: &Network,
+    pairs: &Pairs,
+    matrix: &Matrix,
+) -> Result<SchemeRouting, Memory>
+    requires network { IsTrue (is_well_formed net.now) }
+    requires pairs { ArePairsOf net.now pairs.now.list }
+    requires demands { AreDemands (length pairs.now.list) matrix.now.demand }
+    ensures routed { IfOk result (λ r. (plan : S.Plan) × IsRouted S.PATHS (S.is_plan scheme.now) (S.relates scheme.now) S.Note.low net.now
+        pairs.now.list matrix.now.demand plan r.routing.routes r.parts r.low) }
+    ensures few { IfOk result (λ r. HasFewPaths S.PATHS r.routing.routes) }
+{
+    let prepared = prepare_connected(alloc, scheme, net, pairs)?;
+    route_connected(alloc, scheme, net, &prepared, pairs, matrix)
+}
+
+/// The same routing by the numbers that the links have in the whole network.
+fn original_routing(
+    alloc: Global,
+    origin: &[u32],
+    own: &SchemeRouting,
+) -> Result<SchemeRouting, Memory>
+    requires ascending { AllPairs (λ g h. g < h) origin.now }
+    requires links { All (HavePathsBelow (length origin.now)) own.now.routing.routes }
+    ensures { IfOk result (λ r. (r.routing.routes ≡ original_routes origin.now own.now.routing.routes)
+        × (r.parts ≡ own.now.parts) × (r.low ≡ own.now.low)) }
+{
+    let routing = original_routes(alloc, origin, &own.routing)?;
+    Ok(SchemeRouting {
+        routing,
+        parts: own.parts,
+        low: own.low,
+    })
+}
 
 /// The scheme's routing on the network that is left of the failed links, by the numbers of all links.
 ///
@@ -41,14 +80,8 @@ fn reroute<S: Scheme>(
     ensures few { IfOk result (λ r. HasFewPaths S.PATHS r.routing.routes) }
 {
     let survivor = surviving(alloc, net, failed)?;
-    let prepared = prepare_connected(alloc, scheme, &survivor.network, pairs)?;
-    let own = route_connected(alloc, scheme, &survivor.network, &prepared, pairs, matrix)?;
-    let routing = original_routes(alloc, survivor.origin.as_slice(), &own.routing)?;
-    Ok(SchemeRouting {
-        routing,
-        parts: own.parts,
-        low: own.low,
-    })
+    let own = route_anew(alloc, scheme, &survivor.network, pairs, matrix)?;
+    original_routing(alloc, survivor.origin.as_slice(), &own)
 }
 
 /// The scheme's routing of a step: as it was prepared, or anew where the recovery says so and a link has failed.

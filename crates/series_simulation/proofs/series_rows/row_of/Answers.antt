@@ -1,9 +1,4 @@
-use Rattle.std.proofs.Common.{◌≡◌, ℕ, ◌<◌, List, length, get_or, ap, refl, subst, ◌∙◌}
-use Rattle.std.proofs.lemmas.List.{get_or_default}
-use Rattle.te_model.specs.declared.demand.Matrix.{Matrix}
-use Rattle.traffic_matrix.specs.declared.series.Series.{Series}
-use Rattle.traffic_matrix.specs.Text.{no_matrix}
-use Rattle.flow_sim.specs.declared.result.StepResult.{StepResult}
+use Rattle.std.proofs.Common.{ℕ, List, ap, refl, subst, ◌∙◌}
 use Rattle.local_recovery.specs.declared.mode.Mode.{Mode}
 use Rattle.series_simulation.specs.Rows.{IsStepRouting, demands_in}
 use Rattle.series_simulation.specs.Simulation.{IsConservedStep, IsSimulated, peak_of}
@@ -13,16 +8,20 @@ use Rattle.series_simulation.proofs.series_rows.row_of.Goals as goal
 pub step_routing-requires-clause-pairs : goal.step_routing-requires-clause-pairs
 step_routing-requires-clause-pairs g c = series_pairs c.args.net.now c.args.series.now c.requires.network c.requires.series
 
+pub matrix_of-matrix-requires-clause-demands : goal.matrix_of-matrix-requires-clause-demands
+matrix_of-matrix-requires-clause-demands g c = c.requires.series.matrices
+
 pub simulate-requires-clause-pairs : goal.simulate-requires-clause-pairs
 simulate-requires-clause-pairs g c = series_rates c.args.net.now c.args.series.now c.requires.series
 
 pub step_routing-requires-clause-tells : goal.step_routing-requires-clause-tells
 step_routing-requires-clause-tells g c = c.requires.tells
 
--- the demands of the matrix that was read, of which the result is, are those of the step
-demands_read : (series : Series) (step : ℕ) {matrix : Matrix} {result : StepResult} → step < length series.steps → IsConservedStep matrix.demand result →
-    matrix ≡ get_or series.steps step matrix → matrix.demand ≡ demands_in series step
-demands_read series step {matrix} below of is = ap (λ (m : Matrix). m.demand) (is ∙ get_or_default series.steps step matrix no_matrix below)
+pub step_routing-requires-clause-demands : goal.step_routing-requires-clause-demands
+step_routing-requires-clause-demands g c = c.matrix_of-matrix.ensures.demands
+
+pub simulate-requires-clause-demands : goal.simulate-requires-clause-demands
+simulate-requires-clause-demands g c = c.matrix_of-matrix.ensures.demands
 
 pub returns : goal.returns
 returns g c =
@@ -32,7 +31,7 @@ returns g c =
     let routed = c.in_ok-routed.routed in
     let routes = routed.routing.routes in
     let result = c.in_ok-result.result in
-    let demand = demands_read c.args.series.now c.args.step c.requires.step c.in_ok-result.ensures.conserved (cc) in
+    let demand = c.matrix_of-matrix.ensures.matrix in
     record {
       step = refl;
       row = record {
@@ -41,7 +40,7 @@ returns g c =
             g.S.Note.LowNote.low net failed pairs ds c.args.recovery c.args.prepared.now.plan routes routed.parts routed.low) demand c.in_ok-routed.ensures.routed;
         simulated = subst (λ (m : Mode). IsSimulated m net failed pairs (demands_in c.args.series.now c.args.step) routes result) c.mode_of-mode.ensures
             (subst (λ (ds : List ℕ). IsSimulated c.mode_of-mode.result net failed pairs ds routes result) demand c.in_ok-result.ensures.simulated);
-        peak_is = c.peak-peak.ensures ∙ ap (peak_of net) c.as_slice-2.ensures;
+        peak_is = c.peak-peak.ensures ∙ ap (peak_of net) c.as_slice.ensures;
       };
       conserved = subst (λ (ds : List ℕ). IsConservedStep ds result) demand c.in_ok-result.ensures.conserved;
     }
