@@ -78,7 +78,6 @@ fn best_rounds(
 }
 
 /// Puts weights that are searched for, and then polished, in place of those of the links.
-#[tactic(auto, using(crate::proofs::Searched::own_weightings, crate::proofs::Searched::weightings_after))]
 fn improve(
     alloc: Global,
     problem: &Problem,

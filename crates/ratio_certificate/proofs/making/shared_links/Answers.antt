@@ -1,4 +1,4 @@
-use Rattle.std.proofs.Common.{◌+◌, ◌<◌, ◌≤◌, List, length, arith, ap, sym, subst}
+use Rattle.std.proofs.Common.{◌≡◌, ◌+◌, ◌<◌, ◌≤◌, List, length, arith, ap, sym, subst}
 use Rattle.te_model.specs.declared.network.Link.{Link}
 use Rattle.te_model.specs.Network.{link_count}
 use Rattle.routing.specs.Shares.{AreSharesOn}
@@ -39,3 +39,11 @@ shared_link-requires-clause-nodes c = c.requires.problem.routing.nodes
 
 pub loop-e-init : goal.loop-e-init
 loop-e-init c = rw c.new-links.ensures.items (no_links c.args.problem.now.net.now c.args.problem.now.routing.now.routes c.args.problem.now.set.now)
+
+pub returns : goal.returns
+returns c =
+    let net = c.args.problem.now.net.now in
+    let all : c.loop-e.e ≡ link_count net =
+    omega (arith, c.loop-e-test.false, c.loop-e.auto.e-end, ap (λ (ls : List Link). length ls) c.as_slice-e-end.ensures)
+    in
+    subst (λ m. AreSharedLinks m net c.args.problem.now.routing.now.routes c.args.problem.now.set.now c.loop-e.links.items) all c.loop-e.invariant

@@ -7,9 +7,14 @@ use Rattle.ratio_certificate.specs.Polished.{IsFine}
 use Rattle.ratio_certificate.specs.Steps.{IsSettledAt}
 use Rattle.ratio_certificate.specs.Weighting.{IsWeighting}
 use Rattle.ratio_certificate.proofs.LinkLists.{link_read, shared_read}
-use Rattle.ratio_certificate.proofs.Stepping.{done_at}
+use Rattle.ratio_certificate.proofs.Stepping.{done_at, none_done}
 use Rattle.ratio_certificate.proofs.Trying.{none_gives_both}
 use Rattle.ratio_certificate.proofs.polish.next_step.Goals as goal
+
+pub returns-in-None-clause-none : goal.returns-in-None-clause-none
+returns-in-None-clause-none c =
+    let p = c.args.problem.now in
+    none_done p.net.now p.routing.now.routes p.set.now c.args.list.now c.in-None.ensures.none
 
 pub step_at-requires-clause-weighting : goal.step_at-requires-clause-weighting
 step_at-requires-clause-weighting c =

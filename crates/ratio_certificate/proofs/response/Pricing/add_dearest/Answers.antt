@@ -37,6 +37,21 @@ nearness-above-requires-clause-most c =
     most_fits c.from-in-loop-entry-2.result c.from-in-loop-entry-3.result (omega (arith, c.requires.pricing.scale.0))
     (omega (arith, c.from-in-loop-entry-3.ensures, read, near))
 
+pub overflow_mul-most : goal.overflow_mul-most
+overflow_mul-most c =
+    let it = c.args.self.now in
+    let m = it.metric.now in
+    let p = (get_or c.as_slice-entry-items.result.now c.loop-entry.entry-index (record { pair = 0; share = 0 })).pair in
+    let all = metric_scalable it.problem.net.now it.problem.routing.now.routes it.problem.set.now it.shared.now m c.requires.pricing.problem.network c.requires.pricing.problem.routing
+    c.requires.pricing.problem.set c.requires.pricing.shared c.requires.pricing.metric
+    in
+    let near = all.distances_small p in
+    let read = ap (λ (xs : List ℕ). slice_index xs p) c.as_slice-distances.ensures in
+    let fits = most_fits c.from-in-loop-entry-2.result c.from-in-loop-entry-3.result (omega (arith, c.requires.pricing.scale.0))
+    (omega (arith, c.from-in-loop-entry-3.ensures, read, near))
+    in
+    omega (arith, fits)
+
 pub loop-entry-preserved : goal.loop-entry-preserved
 loop-entry-preserved c =
     elim c.if-above-gt0.branch [
