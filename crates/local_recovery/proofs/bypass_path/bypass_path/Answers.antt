@@ -1,4 +1,4 @@
-use Rattle.std.proofs.Common.{◌≡◌, ◌<◌, Some, [], ◌∷◌, sym, subst}
+use Rattle.std.proofs.Common.{◌≡◌, ◌<◌, ℕ, Some, List, [], ◌∷◌, ap, sym, subst, ◌∙◌}
 use Rattle.std.specs.Prelude.{MatchBool, slice_index_or}
 use Rattle.std.proofs.lemmas.Result.{IfOk-weaker}
 use Rattle.te_model.specs.Network.{head_of, node_count, no_link, tail_of}
@@ -35,3 +35,10 @@ returns-then-has_failed c =
     (subst (λ os. IsLeastWalk net costs os (tail_of net h) (head_of net h) (links_of p)) c.requires.open_marks
     (subst (λ ls. IsLeastWalk net costs c.args.open.now (slice_index_or ls h no_link).tail (slice_index_or ls h no_link).head (links_of p)) c.as_slice.ensures walk))))
     c.least_walk.ensures
+
+pub returns-in_ok-links : goal.returns-in_ok-links
+returns-in_ok-links c =
+    let net = c.args.net.now in
+    let h = c.args.link in
+    subst (λ b. MatchBool b (IsLeastWalk net (costs_of net) (open_links c.args.failed.now) (tail_of net h) (head_of net h) (Some c.new.result)) (Some c.new.result ≡ Some (h ∷ [])))
+    c.if-has_failed.ensures (ap (λ (links : List ℕ). Some links) (c.new.ensures ∙ c.in_ok-links.ensures.items))
