@@ -1,9 +1,11 @@
 //! The file of the certificate that a plan publishes.
-ghost use Rattle.std.specs.Prelude.{◌≤◌, IfOk, IfErr, OnOk, IsTrue, length};
+ghost use Rattle.std.specs.Prelude.{◌≡◌, ◌≤◌, IfOk, IfErr, OnOk, IsTrue, length};
 ghost use Rattle.te_model.specs.Network.{is_well_formed, link_count, node_count};
+ghost use Rattle.te_model.specs.Text.{text};
 ghost use Rattle.path_budget.specs.Budget.{trimmed_routes};
 ghost use Rattle.best_blocks.specs.Conditions.{IsSetWithin};
 ghost use Rattle.scheme.specs.Fault.{IsFault};
+ghost use Rattle.scheme.specs.declared.fault.SchemeFault.{SchemeFault};
 ghost use Rattle.scheme.specs.Reach.{AllReached, ArePairsOf};
 ghost use Rattle.traffic_matrix.specs.Limits.{IsSeries};
 ghost use Rattle.plan.specs.Plan.{InRange};
@@ -19,8 +21,17 @@ use plan::{Experiment, SchemeName};
 use racke_mix::Racke;
 use scheme::{Oblivious, SchemeFault, Spf};
 use std::alloc::Global;
-use te_model::{DemandSet, Network, Pairs};
+use te_model::{Certificate, DemandSet, Network, Pairs};
 use traffic_matrix::Series;
+
+/// The file of a certificate.
+fn file_of(alloc: Global, certificate: &Certificate) -> Result<Vec<u8>, SchemeFault>
+    ensures spelling { IfOk result (λ file. file.items ≡ text certificate.now) }
+    ensures memory { IfErr result (λ fault. fault ≡ SchemeFault.Memory) }
+{
+    let file = print(alloc, certificate)?;
+    Ok(file)
+}
 
 /// The file of a certificate of the scheme's routing, of which each pair keeps the `budget` heaviest paths.
 fn scheme_file<S: Oblivious>(
@@ -44,8 +55,7 @@ fn scheme_file<S: Oblivious>(
     ensures fault { IfErr result (IsFault network.now pairs.now.list) }
 {
     let certificate = publish(alloc, scheme, network, pairs, set, budget)?;
-    let file = print(alloc, &certificate)?;
-    Ok(file)
+    file_of(alloc, &certificate)
 }
 
 /// The file of a certificate of the routing that the plan publishes, for the declared pairs of the series.

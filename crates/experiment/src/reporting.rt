@@ -1,14 +1,15 @@
 //! The report of a plan's schemes, each driven through the series.
-ghost use Rattle.std.specs.Prelude.{◌≡◌, ◌≤◌, List, IfOk, IsTrue};
+ghost use Rattle.std.specs.Prelude.{◌≡◌, ◌≤◌, ◌+◌, ◌^◌, ◌++◌, ℕ, List, IfOk, IsTrue, OnOk, filter};
 ghost use Rattle.te_model.specs.Network.{is_well_formed, node_count};
 ghost use Rattle.traffic_matrix.specs.Limits.{IsSeries};
 ghost use Rattle.plan.specs.Plan.{InRange};
 ghost use Rattle.plan.specs.Words.{scheme_word};
 ghost use Rattle.series_simulation.specs.declared.step_row.StepRow.{StepRow};
+ghost use Rattle.series_simulation.specs.Connected.{TellsPaths, connects};
 ghost use Rattle.series_simulation.specs.Rows.{AreStepRows};
 ghost use Rattle.experiment.specs.Report.{IsReport};
 ghost use Rattle.experiment.specs.Schemes.{AreSchemeRows};
-ghost use Rattle.experiment.specs.Text.{scheme_lines};
+ghost use Rattle.experiment.specs.Text.{AmountsAtMost, figures_of, scheme_lines, step_line, with_step};
 
 use crate::figures::Figures;
 use crate::lines::{print_row, print_total};
@@ -20,10 +21,64 @@ use plan::{Experiment, Recovery, SchemeName};
 use racke_mix::Racke;
 use scheme::{Scheme, Spf};
 use semi_oblivious::Semi;
-use series_simulation::{prepare_connected, row_of};
+use series_simulation::{Preparation, StepRow, prepare_connected, row_of};
 use std::alloc::Global;
 use te_model::{Memory, Network};
 use traffic_matrix::Series;
+
+/// Writes the line of a step, and takes the step into the total.
+fn add_row(text: &mut Vec<u8>, total: &mut Figures, word: &str, row: &StepRow) -> Result<(), Memory>
+    requires room { AmountsAtMost (2 ^ 127) total.old }
+    ensures line { OnOk result (text.new.items ≡ text.old.items ++ step_line word.now row.now) }
+    ensures total { OnOk result (total.new ≡ with_step total.old (figures_of row.now)) }
+    ensures small { OnOk result ((bound : ℕ) → AmountsAtMost bound total.old → AmountsAtMost (bound + 2 ^ 64) total.new) }
+{
+    print_row(text, word, row)?;
+    total.add(Figures::of(row));
+    Ok(())
+}
+
+/// The lines of a scheme that was prepared for the network, one for each step of the series, and the total.
+fn lines_with<S: Scheme>(
+    alloc: Global,
+    scheme: &S,
+    word: &str,
+    network: &Network,
+    prepared: &Preparation<S::Plan>,
+    series: &Series,
+    failures: &Failures,
+    recovery: Recovery,
+) -> Result<Vec<u8>, Memory>
+    requires network { IsTrue (is_well_formed network.now) }
+    requires series { IsSeries (node_count network.now) series.now }
+    requires paths { S.PATHS ≤ 4096 }
+    requires tells { TellsPaths network.now (connects prepared.now.reach) }
+    requires planned { S.is_plan scheme.now network.now (filter (connects prepared.now.reach) series.now.pairs.list) prepared.now.plan }
+    ensures { IfOk result (λ text. (rows : List StepRow)
+        × AreStepRows S.PATHS (S.is_plan scheme.now) (S.relates scheme.now) S.Note.low network.now series.now failures.now recovery rows
+        × (text.items ≡ scheme_lines word.now rows)) }
+{
+    let steps = series.steps.as_slice().len();
+    let marks = failures.series(alloc, network, steps)?;
+    let mut text = Vec::new(alloc);
+    let mut total = Figures::none();
+    for step in 0..steps {
+        let failed = marks[step].as_slice();
+        let row = row_of(
+            alloc,
+            scheme,
+            network,
+            prepared,
+            series,
+            failed,
+            recovery,
+            step as u32,
+        )?;
+        add_row(&mut text, &mut total, word, &row)?;
+    }
+    print_total(&mut text, word, &total)?;
+    Ok(text)
+}
 
 /// The lines of a scheme that is driven through the series, of which no row is kept. `Memory` comes where memory is wanting.
 fn lines_of<S: Scheme>(
@@ -43,27 +98,9 @@ fn lines_of<S: Scheme>(
         × (text.items ≡ scheme_lines word.now rows)) }
 {
     let prepared = prepare_connected(alloc, scheme, network, &series.pairs)?;
-    let steps = series.steps.as_slice().len();
-    let marks = failures.series(alloc, network, steps)?;
-    let mut text = Vec::new(alloc);
-    let mut total = Figures::none();
-    for step in 0..steps {
-        let failed = marks[step].as_slice();
-        let row = row_of(
-            alloc,
-            scheme,
-            network,
-            &prepared,
-            series,
-            failed,
-            recovery,
-            step as u32,
-        )?;
-        print_row(&mut text, word, &row)?;
-        total.add(Figures::of(&row));
-    }
-    print_total(&mut text, word, &total)?;
-    Ok(text)
+    lines_with(
+        alloc, scheme, word, network, &prepared, series, failures, recovery,
+    )
 }
 
 /// The lines of the scheme of this name, with the plan's numbers and recovery. `Memory` comes where memory is wanting.

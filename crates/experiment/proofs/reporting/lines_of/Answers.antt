@@ -1,100 +1,14 @@
-use Rattle.std.proofs.Common.{◌≡◌, ℕ, ◌≤◌, ◌*◌, ◌^◌, ◌∙◌, Bool, List, [], ◌∷◌, ◌++◌, length, ap, sym, subst, arith}
-use Rattle.failure.specs.Series.{marks_of}
-use Rattle.series_simulation.specs.Rows.{IsStepRow, demands_in}
-use Rattle.series_simulation.proofs.Marking.{marks_at, marks_count, series_count}
-use Rattle.series_simulation.proofs.Rowing.{rows_begin, rows_next, rows_end}
 use Rattle.series_simulation.proofs.SeriesLemmas.{series_pairs}
-use Rattle.experiment.specs.Text.{AmountsAtMost}
-use Rattle.experiment.proofs.SchemeLines.{lines_end, lines_next, total_next}
 use Rattle.experiment.proofs.reporting.lines_of.Goals as goal
 
 pub prepare_connected-requires-clause-pairs : goal.prepare_connected-requires-clause-pairs
 prepare_connected-requires-clause-pairs g c = series_pairs c.args.network.now c.args.series.now c.requires.network c.requires.series
 
-pub loop-step-init : goal.loop-step-init
-loop-step-init g c = record {
-  written = (
-    [],
-    rows_begin g.S.Scheme.PATHS (g.S.Scheme.is_plan c.args.scheme.now) (g.S.Scheme.relates c.args.scheme.now) g.S.Note.LowNote.low
-        c.args.network.now c.args.series.now c.args.failures.now c.args.recovery c.in_ok-prepared.prepared.plan,
-    c.new-text.ensures.items,
-    c.none-total.ensures,
-  );
-  small = subst (AmountsAtMost 0) (sym c.none-total.ensures)
-      (record { offered = omega arith; delivered = omega arith; lost_full = omega arith; lost_failed = omega arith; lost_no_path = omega arith });
-}
+pub lines_with-requires-clause-tells : goal.lines_with-requires-clause-tells
+lines_with-requires-clause-tells g c = c.in_ok-prepared.ensures.tells
 
-pub index-requires : goal.index-requires
-index-requires g c =
-    omega (
-      arith,
-      c.loop-step-test.true,
-      c.in_ok-marks.marks.ok.0,
-      series_count c.args.network.now c.args.failures.now (length c.as_slice-steps.result.now) c.in_ok-marks.marks.items c.in_ok-marks.ensures,
-    )
-
-pub row_of-requires-clause-marks : goal.row_of-requires-clause-marks
-row_of-requires-clause-marks g c =
-    let net = c.args.network.now in
-    let failed : c.as_slice-failed.result.now ≡ marks_of net c.args.failures.now c.loop-step.step =
-    c.as_slice-failed.ensures ∙ marks_at net c.args.failures.now (length c.as_slice-steps.result.now) c.loop-step.step c.in_ok-marks.marks.items
-    c.index.result.now c.in_ok-marks.ensures c.loop-step-test.true c.index.ensures in
-    ap (λ (marks : List Bool). length marks) failed ∙ marks_count net c.args.failures.now c.loop-step.step
-
-pub add-requires-clause-room : goal.add-requires-clause-room
-add-requires-clause-room g c =
-    let few : c.loop-step.step ≤ 1024 = omega (arith, c.loop-step-test.true, ap length c.as_slice-steps.ensures, c.requires.series.few) in
-    let small = c.loop-step.invariant.small in
-    record {
-      offered = omega (arith, few, small.offered);
-      delivered = omega (arith, few, small.delivered);
-      lost_full = omega (arith, few, small.lost_full);
-      lost_failed = omega (arith, few, small.lost_failed);
-      lost_no_path = omega (arith, few, small.lost_no_path);
-    }
-
-pub loop-step-preserved : goal.loop-step-preserved
-loop-step-preserved g c =
-    let net = c.args.network.now in
-    let series = c.args.series.now in
-    let failures = c.args.failures.now in
-    let plan = c.in_ok-prepared.prepared.plan in
-    let step = c.loop-step.step in
-    let row = c.in_ok-row.row in
-    let so_far = c.loop-step.invariant in
-    let rows = so_far.written.0 in
-    let failed : c.as_slice-failed.result.now ≡ marks_of net failures step =
-    c.as_slice-failed.ensures ∙ marks_at net failures (length c.as_slice-steps.result.now) step c.in_ok-marks.marks.items
-    c.index.result.now c.in_ok-marks.ensures c.loop-step-test.true c.index.ensures in
-    record {
-      written = (
-        rows ++ row ∷ [],
-        rows_next g.S.Scheme.PATHS (g.S.Scheme.is_plan c.args.scheme.now) (g.S.Scheme.relates c.args.scheme.now) g.S.Note.LowNote.low
-            net series failures c.args.recovery plan step rows row so_far.written.1
-            (record {
-              step = c.in_ok-row.ensures.step;
-              row = subst (λ (marks : List Bool). IsStepRow g.S.Scheme.PATHS (g.S.Scheme.is_plan c.args.scheme.now)
-                  (g.S.Scheme.relates c.args.scheme.now) g.S.Note.LowNote.low net marks series.pairs.list (demands_in series step)
-                  c.args.recovery plan row) failed c.in_ok-row.ensures.row;
-              conserved = c.in_ok-row.ensures.conserved;
-            }),
-        lines_next c.args.word.now c.loop-step.text.items c.print_row.new.text.items rows row so_far.written.2 c.in_ok-print_row.ensures,
-        total_next c.loop-step.total c.of.result c.add.new.self rows row so_far.written.3 c.of.ensures.figures c.add.ensures.total,
-      );
-      small = subst (λ (n : ℕ). AmountsAtMost n c.add.new.self) (omega arith) (c.add.ensures.small (step * 2 ^ 64) so_far.small);
-    }
+pub lines_with-requires-clause-planned : goal.lines_with-requires-clause-planned
+lines_with-requires-clause-planned g c = c.in_ok-prepared.ensures.planned
 
 pub returns : goal.returns
-returns g c =
-    let so_far = c.loop-step.invariant in
-    let rows = so_far.written.0 in
-    let every : c.loop-step.step ≡ length c.args.series.now.steps =
-    omega (arith, c.loop-step-test.false, c.loop-step.auto.step-end, ap length c.as_slice-steps.ensures)
-    in (
-      rows,
-      rows_end g.S.Scheme.PATHS (g.S.Scheme.is_plan c.args.scheme.now) (g.S.Scheme.relates c.args.scheme.now) g.S.Note.LowNote.low
-          c.args.network.now c.args.series.now c.args.failures.now c.args.recovery c.in_ok-prepared.prepared.plan c.loop-step.step rows every
-          so_far.written.1,
-      lines_end c.args.word.now c.loop-step.text.items c.print_total.new.text.items c.loop-step.total rows so_far.written.2 so_far.written.3
-          c.in_ok-print_total.ensures,
-    )
+returns g c = c.lines_with.ensures

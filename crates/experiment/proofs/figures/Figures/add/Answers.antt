@@ -1,4 +1,4 @@
-use Rattle.std.proofs.Common.{arith}
+use Rattle.std.proofs.Common.{arith, refl}
 use Rattle.experiment.proofs.figures.Figures.add.Goals as goal
 
 pub returns-clause-small : goal.returns-clause-small
@@ -9,3 +9,6 @@ returns-clause-small c = λ bound small. record {
   lost_failed = omega (arith, small.lost_failed, c.requires.small.lost_failed);
   lost_no_path = omega (arith, small.lost_no_path, c.requires.small.lost_no_path);
 }
+
+pub returns-clause-total : goal.returns-clause-total
+returns-clause-total c = rw (c.max-self-2.ensures, c.max-self.ensures) refl

@@ -3,7 +3,7 @@ use Rattle.std.specs.List.{flat_map}
 use Rattle.series_simulation.specs.declared.step_row.StepRow.{StepRow}
 use Rattle.series_simulation.proofs.Rowing.{AreRowsBefore}
 use Rattle.experiment.specs.Text.{AmountsAtMost, step_line, total_of}
-use Rattle.experiment.proofs.reporting.lines_of.Given as goal
+use Rattle.experiment.proofs.reporting.lines_with.Given as goal
 
 abbrev pub invariant-loop-step : goal.invariant-loop-step
 invariant-loop-step g l = record {

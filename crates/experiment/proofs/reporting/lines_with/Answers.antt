@@ -1,0 +1,98 @@
+use Rattle.std.proofs.Common.{◌≡◌, ℕ, ◌≤◌, ◌*◌, ◌^◌, ◌∙◌, Bool, List, [], ◌∷◌, ◌++◌, length, ap, sym, subst, arith, refl}
+use Rattle.failure.specs.Series.{marks_of}
+use Rattle.series_simulation.specs.Rows.{IsStepRow, demands_in}
+use Rattle.series_simulation.proofs.Marking.{marks_at, marks_count, series_count}
+use Rattle.series_simulation.proofs.Rowing.{rows_begin, rows_next, rows_end}
+use Rattle.experiment.specs.Text.{AmountsAtMost, figures_of}
+use Rattle.experiment.proofs.SchemeLines.{lines_end, lines_next, total_next}
+use Rattle.experiment.proofs.reporting.lines_with.Goals as goal
+
+pub loop-step-init : goal.loop-step-init
+loop-step-init g c = record {
+  written = (
+    [],
+    rows_begin g.S.Scheme.PATHS (g.S.Scheme.is_plan c.args.scheme.now) (g.S.Scheme.relates c.args.scheme.now) g.S.Note.LowNote.low
+        c.args.network.now c.args.series.now c.args.failures.now c.args.recovery c.args.prepared.now.plan,
+    c.new-text.ensures.items,
+    c.none-total.ensures,
+  );
+  small = subst (AmountsAtMost 0) (sym c.none-total.ensures)
+      (record { offered = omega arith; delivered = omega arith; lost_full = omega arith; lost_failed = omega arith; lost_no_path = omega arith });
+}
+
+pub index-requires : goal.index-requires
+index-requires g c =
+    omega (
+      arith,
+      c.loop-step-test.true,
+      c.in_ok-marks.marks.ok.0,
+      series_count c.args.network.now c.args.failures.now (length c.as_slice-steps.result.now) c.in_ok-marks.marks.items c.in_ok-marks.ensures,
+    )
+
+pub row_of-requires-clause-marks : goal.row_of-requires-clause-marks
+row_of-requires-clause-marks g c =
+    let net = c.args.network.now in
+    let failed : c.as_slice-failed.result.now ≡ marks_of net c.args.failures.now c.loop-step.step =
+    c.as_slice-failed.ensures ∙ marks_at net c.args.failures.now (length c.as_slice-steps.result.now) c.loop-step.step c.in_ok-marks.marks.items
+    c.index.result.now c.in_ok-marks.ensures c.loop-step-test.true c.index.ensures in
+    ap (λ (marks : List Bool). length marks) failed ∙ marks_count net c.args.failures.now c.loop-step.step
+
+pub add_row-requires : goal.add_row-requires
+add_row-requires g c =
+    let few : c.loop-step.step ≤ 1024 = omega (arith, c.loop-step-test.true, ap length c.as_slice-steps.ensures, c.requires.series.few) in
+    let small = c.loop-step.invariant.small in
+    record {
+      room = record {
+        offered = omega (arith, few, small.offered);
+        delivered = omega (arith, few, small.delivered);
+        lost_full = omega (arith, few, small.lost_full);
+        lost_failed = omega (arith, few, small.lost_failed);
+        lost_no_path = omega (arith, few, small.lost_no_path);
+      };
+    }
+
+pub loop-step-preserved : goal.loop-step-preserved
+loop-step-preserved g c =
+    let net = c.args.network.now in
+    let series = c.args.series.now in
+    let failures = c.args.failures.now in
+    let plan = c.args.prepared.now.plan in
+    let step = c.loop-step.step in
+    let row = c.in_ok-row.row in
+    let so_far = c.loop-step.invariant in
+    let rows = so_far.written.0 in
+    let failed : c.as_slice-failed.result.now ≡ marks_of net failures step =
+    c.as_slice-failed.ensures ∙ marks_at net failures (length c.as_slice-steps.result.now) step c.in_ok-marks.marks.items
+    c.index.result.now c.in_ok-marks.ensures c.loop-step-test.true c.index.ensures in
+    record {
+      written = (
+        rows ++ row ∷ [],
+        rows_next g.S.Scheme.PATHS (g.S.Scheme.is_plan c.args.scheme.now) (g.S.Scheme.relates c.args.scheme.now) g.S.Note.LowNote.low
+            net series failures c.args.recovery plan step rows row so_far.written.1
+            (record {
+              step = c.in_ok-row.ensures.step;
+              row = subst (λ (marks : List Bool). IsStepRow g.S.Scheme.PATHS (g.S.Scheme.is_plan c.args.scheme.now)
+                  (g.S.Scheme.relates c.args.scheme.now) g.S.Note.LowNote.low net marks series.pairs.list (demands_in series step)
+                  c.args.recovery plan row) failed c.in_ok-row.ensures.row;
+              conserved = c.in_ok-row.ensures.conserved;
+            }),
+        lines_next c.args.word.now c.loop-step.text.items c.add_row.new.text.items rows row so_far.written.2 c.in_ok-add_row.ensures.line,
+        total_next c.loop-step.total (figures_of row) c.add_row.new.total rows row so_far.written.3 refl c.in_ok-add_row.ensures.total,
+      );
+      small = subst (λ (n : ℕ). AmountsAtMost n c.add_row.new.total) (omega arith) (c.in_ok-add_row.ensures.small (step * 2 ^ 64) so_far.small);
+    }
+
+pub returns : goal.returns
+returns g c =
+    let so_far = c.loop-step.invariant in
+    let rows = so_far.written.0 in
+    let every : c.loop-step.step ≡ length c.args.series.now.steps =
+    omega (arith, c.loop-step-test.false, c.loop-step.auto.step-end, ap length c.as_slice-steps.ensures)
+    in (
+      rows,
+      rows_end g.S.Scheme.PATHS (g.S.Scheme.is_plan c.args.scheme.now) (g.S.Scheme.relates c.args.scheme.now) g.S.Note.LowNote.low
+          c.args.network.now c.args.series.now c.args.failures.now c.args.recovery c.args.prepared.now.plan c.loop-step.step rows every
+          so_far.written.1,
+      lines_end c.args.word.now c.loop-step.text.items c.print_total.new.text.items c.loop-step.total rows so_far.written.2 so_far.written.3
+          c.in_ok-print_total.ensures,
+    )
