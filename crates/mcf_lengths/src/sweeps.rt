@@ -152,6 +152,27 @@ impl<'a> Commodities<'a> {
         let best = self.best_mix(alloc, start, rates)?;
         self.descend(alloc, best, rates)
     }
+
+    /// The given routing, or a better one, and lengths to bound the utilisation of every routing.
+    fn bounded_routing(
+        &self,
+        alloc: Global,
+        start: Routing,
+    ) -> Result<(Routing, Items<u64>), Memory>
+        requires commodities { AreCommodities self.now }
+        requires start { IsFewRouting self.now start.routes }
+        ensures routing { IfOk result (λ r. IsNoWorse self.now start.routes r.0.routes) }
+        ensures lengths { IfOk result (λ r. AreLengths self.now.net.now r.1) }
+    {
+        let most = start.greatest_utilisation(alloc, self.net, self.matrix)?;
+        let mut rates = first_rates(alloc, self.net)?;
+        // Where no link is used there is nothing to better.
+        if most == 0 {
+            return Ok((start, Items::new(rates.lengths)));
+        }
+        let routing = self.best_routing(alloc, start, &mut rates)?;
+        Ok((routing, Items::new(rates.lengths)))
+    }
 }
 
 /// The given routing, or a better one by sweeps and a descent, and lengths to bound the utilisation of every routing.
@@ -175,11 +196,6 @@ pub fn sweep(
     ensures no_greater { IfOk result (λ r. parts net.now r.0.routes matrix.now.demand ≤ parts net.now start.routes matrix.now.demand) }
     ensures lengths { IfOk result (λ r. AreLengths net.now r.1) }
 {
-    let mut rates = first_rates(alloc, net)?;
-    // Where no link is used there is nothing to better.
-    if start.greatest_utilisation(alloc, net, matrix)? == 0 {
-        return Ok((start, Items::new(rates.lengths)));
-    }
     let wanted = destinations(alloc, net, pairs)?;
     let commodities = Commodities {
         net,
@@ -188,6 +204,5 @@ pub fn sweep(
         matrix,
         limit: STARTING_PATHS,
     };
-    let routing = commodities.best_routing(alloc, start, &mut rates)?;
-    Ok((routing, Items::new(rates.lengths)))
+    commodities.bounded_routing(alloc, start)
 }
