@@ -6,7 +6,7 @@ use crate::texts::{SMALLEST, SMALLEST_WITH_LESS};
 use std::alloc::Global;
 use std::process::Abort;
 use std::test::Fail;
-use te_ports::{Depot, Entry, Failed, MemDepot, RecordDepot};
+use te_ports::{Depot, Entry, Failed, Log, MemDepot, RecordDepot, read_call};
 
 /// Files of which each read finds the next version. The last version stays.
 #[derive(Drop)]
@@ -14,25 +14,25 @@ struct ChangingDepot {
     versions: Vec<MemDepot>,
     reads: usize,
     faults: u64,
+    log: Log,
 }
 
 impl Depot for ChangingDepot {
     ghost use Rattle.std.specs.Prelude.{None};
-    ghost use Rattle.te_ports.specs.PieceOf.{nothing_is_told};
+    ghost use Rattle.te_ports.specs.Calls.{reads_of};
 
     ghost content = { λ _ _. None };
 
     ghost faults = { λ d _. d.faults };
 
-    ghost gave = { λ _ _ _ _. Unit {0} };
-
-    ghost gave_told = { λ _ _ told is at bytes _. nothing_is_told told at bytes is };
+    ghost gave = { λ d. reads_of d.log.calls };
 
     fn fetch(&mut self, name: &str, at: u64, buf: &mut [u8]) -> Result<usize, Failed> {
         let version = self.reads.min(self.versions.len().saturating_sub(1));
         self.reads = self.reads.saturating_add(1);
         if let Some(depot) = self.versions.get_mut(version) {
             if let Ok(count) = depot.fetch(name, at, buf) {
+                self.log = self.log.then(&read_call(name, at, buf, &Ok(count)));
                 return Ok(count);
             }
         }
@@ -45,22 +45,23 @@ impl Depot for ChangingDepot {
 #[derive(Drop)]
 struct EndlessDepot {
     faults: u64,
+    log: Log,
 }
 
 impl Depot for EndlessDepot {
     ghost use Rattle.std.specs.Prelude.{None};
-    ghost use Rattle.te_ports.specs.PieceOf.{nothing_is_told};
+    ghost use Rattle.te_ports.specs.Calls.{reads_of};
 
     ghost content = { λ _ _. None };
 
     ghost faults = { λ d _. d.faults };
 
-    ghost gave = { λ _ _ _ _. Unit {0} };
+    ghost gave = { λ d. reads_of d.log.calls };
 
-    ghost gave_told = { λ _ _ told is at bytes _. nothing_is_told told at bytes is };
-
-    fn fetch(&mut self, _name: &str, _at: u64, buf: &mut [u8]) -> Result<usize, Failed> {
-        Ok(buf.len())
+    fn fetch(&mut self, name: &str, at: u64, buf: &mut [u8]) -> Result<usize, Failed> {
+        let count = buf.len();
+        self.log = self.log.then(&read_call(name, at, buf, &Ok(count)));
+        Ok(count)
     }
 }
 
@@ -168,6 +169,7 @@ fn changing_files(
         versions: versions_of(alloc, names, all_files)?,
         reads: 0,
         faults: 0,
+        log: Log::new(),
     };
     Ok(RecordDepot::new(alloc, changing))
 }
@@ -213,7 +215,10 @@ fn is_too_long(alloc: Global, word: &str) -> Result<bool, Fail> {
         words: &words,
         ..CHECK
     };
-    let mut depot = EndlessDepot { faults: 0 };
+    let mut depot = EndlessDepot {
+        faults: 0,
+        log: Log::new(),
+    };
     let call = says(command, (&[], 0, 3, "refused: f: too long\n"));
     leaves_over(alloc, &call, &mut depot)
 }

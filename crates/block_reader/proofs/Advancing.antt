@@ -1,5 +1,6 @@
 -- One block after another, to the end of the file.
 use Rattle.std.proofs.Common.{◌≡◌, ◌∙◌, ℕ, ◌+◌, true, List, [], ◌∷◌, ◌++◌, length, Option, Some, None, Result, Err, sym, ap, subst}
+use Rattle.te_ports.specs.Record.{Pass}
 use Rattle.std.proofs.Math.ListN.{replicate}
 use Rattle.std.proofs.lemmas.List.{length-replicate}
 use Rattle.te_model.specs.declared.network.Network.{Network}
@@ -23,19 +24,19 @@ use Rattle.block_reader.proofs.Handing.{block_handed, sound_more, first_fault_is
 -- ---- what a call says of the file of one name
 
 -- it refuses the file
-abbrev pub Refuses : (ℕ → List ℕ → Type 0) → (ℕ → List ℕ → Type 0) → Blocks → StreamFault → Type 0
+abbrev pub Refuses : Pass → Pass → Blocks → StreamFault → Type 0
 Refuses gave given b fault = (head : Head) → (blocks : List Block) → AreBehind gave b head blocks → IsFaultOf given fault
 
 -- it refuses the file, of which a rule fails
-abbrev pub Judges : (ℕ → List ℕ → Type 0) → (ℕ → List ℕ → Type 0) → Blocks → RuleFault → StreamFault → Type 0
+abbrev pub Judges : Pass → Pass → Blocks → RuleFault → StreamFault → Type 0
 Judges gave given b first fault = (head : Head) → (blocks : List Block) → AreBehind gave b head blocks → IsEarliest head blocks first → IsFaultOf given fault
 
 -- it hands out one block more
-abbrev pub Hands : (ℕ → List ℕ → Type 0) → (ℕ → List ℕ → Type 0) → Blocks → Blocks → Type 0
+abbrev pub Hands : Pass → Pass → Blocks → Blocks → Type 0
 Hands gave given old new = (head : Head) → (blocks : List Block) → AreBehind gave old head blocks → AreBehind given new head (blocks ++ new.room.block ∷ [])
 
 -- it finds the end
-abbrev pub Ends : (ℕ → List ℕ → Type 0) → (ℕ → List ℕ → Type 0) → Blocks → Type 0
+abbrev pub Ends : Pass → Pass → Blocks → Type 0
 Ends gave given b = (head : Head) → (blocks : List Block) → AreBehind gave b head blocks → IsShapeOf given head blocks
 
 -- ---- faults that are answered
@@ -66,7 +67,7 @@ of_head : (b : Blocks) (head : Head) (before : Option ℕ) (place : ℕ) (block 
     IsFaultOfBlock b.room.counts before place block fault → fault ≡ block_fault head.network before place block
 of_head b head before place block fault are is = is head.network (ap (λ (c : Counts). c.nodes) (sym are.counts)) (ap (λ (c : Counts). c.links) (sym are.counts))
 
-fault_behind : (gave : ℕ → List ℕ → Type 0) (b : Blocks) (head : Head) (blocks : List Block) (block : Block) (fault : Option RuleFault) → AreBehind gave b head blocks →
+fault_behind : (gave : Pass) (b : Blocks) (head : Head) (blocks : List Block) (block : Block) (fault : Option RuleFault) → AreBehind gave b head blocks →
     IsFaultOfBlock b.room.counts b.before b.place block fault → fault ≡ block_fault head.network (link_before blocks (length blocks)) (length blocks) block
 fault_behind gave b head blocks block fault are is =
     fault_in gave b head blocks block fault are (of_head b head b.before b.place block fault are.of_head is)
@@ -80,7 +81,7 @@ valid_of b head block fault fits is none are =
 
 -- ---- one block more
 
-pub next_handed : (gave given : ℕ → List ℕ → Type 0) (old mid new : Blocks) (head : Head) (blocks : List Block) →
+pub next_handed : (gave given : Pass) (old mid new : Blocks) (head : Head) (blocks : List Block) →
     Gives gave given old.lines mid.lines (read_block old.room.limits narrow_number old.room.counts) mid.room.block →
     SameRoom old mid → mid.left ≡ old.left → mid.place ≡ old.place →
     new.lines ≡ mid.lines → SameRoom mid new → new.room.block ≡ mid.room.block → new.left + 1 ≡ mid.left → new.place ≡ mid.place + 1 →
@@ -93,14 +94,14 @@ next_handed gave given old mid new head blocks gives room left place lines rest 
     (subst (λ l. Gives gave given old.lines l (read_block old.room.limits narrow_number old.room.counts) mid.room.block) (sym lines) gives) are)
 
 -- a block whose rules hold
-pub sound_next : (gave : ℕ → List ℕ → Type 0) (old new : Blocks) (head : Head) (blocks : List Block) (fault : Option RuleFault) →
+pub sound_next : (gave : Pass) (old new : Blocks) (head : Head) (blocks : List Block) (fault : Option RuleFault) →
     AreBehind gave old head blocks → IsFaultOfBlock old.room.counts old.before old.place new.room.block fault → fault ≡ None → KeepsRules head blocks →
     KeepsRules head (blocks ++ new.room.block ∷ [])
 sound_next gave old new head blocks fault are is none sound =
     sound_more head blocks new.room.block (sym (fault_behind gave old head blocks new.room.block fault are is) ∙ none) sound
 
 -- a block of which a rule fails
-pub fault_next : (gave : ℕ → List ℕ → Type 0) (old new : Blocks) (head : Head) (blocks : List Block) (fault : Option RuleFault) (rule : RuleFault) →
+pub fault_next : (gave : Pass) (old new : Blocks) (head : Head) (blocks : List Block) (fault : Option RuleFault) (rule : RuleFault) →
     AreBehind gave old head blocks → IsFaultOfBlock old.room.counts old.before old.place new.room.block fault → fault ≡ Some rule → KeepsRules head blocks →
     IsEarliest head (blocks ++ new.room.block ∷ []) rule
 fault_next gave old new head blocks fault rule are is some sound =
@@ -112,11 +113,11 @@ pub same_room_then : (b0 b1 b2 : Blocks) → SameRoom b0 b1 → SameRoom b1 b2 �
 same_room_then b0 b1 b2 first next = record { name = next.name ∙ first.name; limits = next.limits ∙ first.limits; counts = next.counts ∙ first.counts }
 
 -- more blocks were read, and this is the earliest fault of all of them where that was it before
-abbrev pub Carries : (ℕ → List ℕ → Type 0) → (ℕ → List ℕ → Type 0) → Blocks → Blocks → RuleFault → RuleFault → Type 0
+abbrev pub Carries : Pass → Pass → Blocks → Blocks → RuleFault → RuleFault → Type 0
 Carries gave given old new first last = (head : Head) → (blocks : List Block) → AreBehind gave old head blocks →
     (more : List Block) × AreBehind given new head more × (IsEarliest head blocks first → IsEarliest head more last)
 
-pub carries_on : (g0 g1 g2 : ℕ → List ℕ → Type 0) (b0 b1 b2 : Blocks) (first now next : RuleFault) (fault : Option RuleFault) → Carries g0 g1 b0 b1 first now →
+pub carries_on : (g0 g1 g2 : Pass) (b0 b1 b2 : Blocks) (first now next : RuleFault) (fault : Option RuleFault) → Carries g0 g1 b0 b1 first now →
     Hands g1 g2 b1 b2 → IsFaultOfBlock b1.room.counts b1.before b1.place b2.room.block fault → Some next ≡ earlier_fault (Some now) fault → Carries g0 g2 b0 b2 first next
 carries_on g0 g1 g2 b0 b1 b2 first now next fault carries handed is then head blocks are =
     let so_far = carries head blocks are in (

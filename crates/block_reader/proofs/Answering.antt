@@ -1,5 +1,6 @@
 -- Reading over the lines that stand ready is a step of reading each content in which they stand.
 use Rattle.std.proofs.Common.{◌≡◌, ◌∙◌, ℕ, zero, suc, ◌+◌, ◌<◌, ◌≤◌, List, [], ◌∷◌, ◌++◌, length, take, drop, Result, Ok, Err, refl, sym, ap, subst, inl, inr, arith, append_assoc, append-nil, length-append}
+use Rattle.te_ports.specs.Record.{Pass}
 use Rattle.te_model.specs.FileLimit.{file_limit}
 use Rattle.cert_text.specs.Place.{Place, place, ◌>>=◌}
 use Rattle.cert_text.specs.Reading.{read_many}
@@ -28,7 +29,7 @@ limited_after_pass w w' passed front p h = record {
   settled = λ is. subst (λ s. 14 ≤ length s) (sym (same_bytes w w' passed front p)) (h.settled (sym p.state ∙ is));
 }
 
-pub behind_after_pass : (gave : ℕ → List ℕ → Type 0) (l l' : Lines) (passed front : List ℕ) → PassesFront l.window l'.window front →
+pub behind_after_pass : (gave : Pass) (l l' : Lines) (passed front : List ℕ) → PassesFront l.window l'.window front →
     IsBehind gave l passed → IsBehind gave l' (passed ++ front)
 behind_after_pass gave l l' passed front p b = record {
   stands = at_pass gave l.window l'.window passed front p.parts p.fetched p.limit p.state b.stands;
@@ -72,7 +73,7 @@ behind_in : (content : List ℕ) (w : Window) (l : Lines) (after : List ℕ) →
     place l.line (ready l.window ++ drop (fetched_of w) content) ≡ place_in l after content
 behind_in content w l after same s = ap (place l.line) (ap (λ k. ready l.window ++ drop k content) (sym same) ∙ sym (left_is content l.window after s))
 
-pub part_gives : {X : Type 0} (gave given : ℕ → List ℕ → Type 0) (old filled new : Lines) (n : ℕ) (f : Place → Result (X × Place) ℕ) (x : X) (front : List ℕ) →
+pub part_gives : {X : Type 0} (gave given : Pass) (old filled new : Lines) (n : ℕ) (f : Place → Result (X × Place) ℕ) (x : X) (front : List ℕ) →
     IsAhead n f → ((passed : List ℕ) → IsBehind gave old passed → IsBehind given filled passed) →
     ((passed : List ℕ) → IsBehind gave old passed → (content : List ℕ) → StandsIn content filled.window passed → StandsIn content old.window passed) →
     HasEnough filled.window n → filled.line ≡ old.line → PassesFront filled.window new.window front → f (place_of filled) ≡ Ok (x, place_of new) →
@@ -89,7 +90,7 @@ part_gives {X} gave given old filled new n f x front ahead behind stood enough l
       ),
 )
 
-pub part_stops : {X : Type 0} (gave given drained : ℕ → List ℕ → Type 0) (old filled : Lines) (n : ℕ) (f : Place → Result (X × Place) ℕ) (stop : Stop) (fault : StreamFault) →
+pub part_stops : {X : Type 0} (gave given drained : Pass) (old filled : Lines) (n : ℕ) (f : Place → Result (X × Place) ℕ) (stop : Stop) (fault : StreamFault) →
     IsAhead n f → ((passed : List ℕ) → IsBehind gave old passed → IsBehind given filled passed) →
     ((passed : List ℕ) → IsBehind gave old passed → (content : List ℕ) → StandsIn content filled.window passed → StandsIn content old.window passed) →
     HasEnough filled.window n → filled.line ≡ old.line → ((line : ℕ) → stop ≡ stops.Shape line → f (place_of filled) ≡ Err line) →
@@ -109,7 +110,7 @@ part_stops gave given drained old filled n f stop (faults.Rule rule) ahead behin
 part_stops gave given drained old filled n f stop faults.Memory ahead behind stood enough line stops_at drain passed b = tt
 
 -- nothing was read, since the file is too long or a read failed
-pub fill_stops : {X : Type 0} (gave given : ℕ → List ℕ → Type 0) (old filled : Lines) (f : Place → Result (X × Place) ℕ) (fault : StreamFault) →
+pub fill_stops : {X : Type 0} (gave given : Pass) (old filled : Lines) (f : Place → Result (X × Place) ℕ) (fault : StreamFault) →
     ((passed : List ℕ) → IsBehind gave old passed → IsBehind given filled passed) → IsClosedBy filled.window fault →
     (passed : List ℕ) → IsBehind gave old passed → StopsAs given old passed f fault
 fill_stops gave given old filled f fault behind (inl failed) passed b = subst (StopsAs given old passed f) (sym failed.0) tt
@@ -119,7 +120,7 @@ fill_stops gave given old filled f fault behind (inr long) passed b =
 
 -- ---- one part after another
 
-pub gives_then : {X Y : Type 0} (g0 g1 g2 : ℕ → List ℕ → Type 0) (l0 l1 l2 : Lines) (f : Place → Result (X × Place) ℕ) (h : X → Place → Result (Y × Place) ℕ) (x : X) (y : Y) →
+pub gives_then : {X Y : Type 0} (g0 g1 g2 : Pass) (l0 l1 l2 : Lines) (f : Place → Result (X × Place) ℕ) (h : X → Place → Result (Y × Place) ℕ) (x : X) (y : Y) →
     Gives g0 g1 l0 l1 f x → Gives g1 g2 l1 l2 (h x) y → Gives g0 g2 l0 l2 (λ p. f p >>= λ z. h z.0 z.1) y
 gives_then {X} {Y} g0 g1 g2 l0 l1 l2 f h x y first next = λ passed b.
     let one = first passed b in
@@ -135,7 +136,7 @@ gives_then {X} {Y} g0 g1 g2 l0 l1 l2 f h x y first next = λ passed b.
           ),
     )
 
-pub stops_first : {X Y : Type 0} (given : ℕ → List ℕ → Type 0) (old : Lines) (passed : List ℕ) (f : Place → Result (X × Place) ℕ) (h : X → Place → Result (Y × Place) ℕ) (fault : StreamFault) →
+pub stops_first : {X Y : Type 0} (given : Pass) (old : Lines) (passed : List ℕ) (f : Place → Result (X × Place) ℕ) (h : X → Place → Result (Y × Place) ℕ) (fault : StreamFault) →
     StopsAs given old passed f fault → StopsAs given old passed (λ p. f p >>= λ z. h z.0 z.1) fault
 stops_first given old passed f h faults.Failed s = tt
 stops_first given old passed f h faults.TooLong s = s
@@ -143,7 +144,7 @@ stops_first given old passed f h (faults.Shape k) s = record { bytes = s.bytes; 
 stops_first given old passed f h (faults.Rule rule) s = s
 stops_first given old passed f h faults.Memory s = tt
 
-pub stops_next : {X Y : Type 0} (g0 g1 g2 : ℕ → List ℕ → Type 0) (l0 l1 : Lines) (f : Place → Result (X × Place) ℕ) (h : X → Place → Result (Y × Place) ℕ) (x : X) (fault : StreamFault) →
+pub stops_next : {X Y : Type 0} (g0 g1 g2 : Pass) (l0 l1 : Lines) (f : Place → Result (X × Place) ℕ) (h : X → Place → Result (Y × Place) ℕ) (x : X) (fault : StreamFault) →
     Gives g0 g1 l0 l1 f x → ((passed : List ℕ) → IsBehind g1 l1 passed → StopsAs g2 l1 passed (h x) fault) →
     (passed : List ℕ) → IsBehind g0 l0 passed → StopsAs g2 l0 passed (λ p. f p >>= λ z. h z.0 z.1) fault
 stops_next g0 g1 g2 l0 l1 f h x faults.Failed first next passed b = tt
@@ -160,7 +161,7 @@ stops_next g0 g1 g2 l0 l1 f h x (faults.Shape k) first next passed b =
 stops_next g0 g1 g2 l0 l1 f h x (faults.Rule rule) first next passed b = let one = first passed b in next (passed ++ one.0) one.1
 stops_next g0 g1 g2 l0 l1 f h x faults.Memory first next passed b = tt
 
-pub done_gives : {X : Type 0} (gave : ℕ → List ℕ → Type 0) (l : Lines) (x : X) → Gives gave gave l l (λ p. Ok (x, p)) x
+pub done_gives : {X : Type 0} (gave : Pass) (l : Lines) (x : X) → Gives gave gave l l (λ p. Ok (x, p)) x
 done_gives {X} gave l x = λ passed b.
     let none = append-nil passed in (
       [],
@@ -168,12 +169,12 @@ done_gives {X} gave l x = λ passed b.
       λ content s. (subst (StandsIn content l.window) none s, ap (λ a. Ok (x, place_in l a content)) (sym none)),
     )
 
-pub answers_then : {X Y : Type 0} (g0 g1 g2 : ℕ → List ℕ → Type 0) (l0 l1 l2 : Lines) (f : Place → Result (X × Place) ℕ) (h : X → Place → Result (Y × Place) ℕ) (x : X) (r : Result Y StreamFault) →
+pub answers_then : {X Y : Type 0} (g0 g1 g2 : Pass) (l0 l1 l2 : Lines) (f : Place → Result (X × Place) ℕ) (h : X → Place → Result (Y × Place) ℕ) (x : X) (r : Result Y StreamFault) →
     Gives g0 g1 l0 l1 f x → AnswersPart g1 g2 l1 l2 (h x) r → AnswersPart g0 g2 l0 l2 (λ p. f p >>= λ z. h z.0 z.1) r
 answers_then g0 g1 g2 l0 l1 l2 f h x (Ok y) first next = gives_then g0 g1 g2 l0 l1 l2 f h x y first next
 answers_then g0 g1 g2 l0 l1 l2 f h x (Err fault) first next = stops_next g0 g1 g2 l0 l1 f h x fault first next
 
-pub answers_err : {X Y : Type 0} (g0 g1 : ℕ → List ℕ → Type 0) (l0 l1 : Lines) (f : Place → Result (X × Place) ℕ) (h : X → Place → Result (Y × Place) ℕ) (fault : StreamFault) →
+pub answers_err : {X Y : Type 0} (g0 g1 : Pass) (l0 l1 : Lines) (f : Place → Result (X × Place) ℕ) (h : X → Place → Result (Y × Place) ℕ) (fault : StreamFault) →
     AnswersPart {X = X} g0 g1 l0 l1 f (Err fault) → AnswersPart {X = Y} g0 g1 l0 l1 (λ p. f p >>= λ z. h z.0 z.1) (Err fault)
 answers_err g0 g1 l0 l1 f h fault stopped = λ passed b. stops_first g1 l0 passed f h fault (stopped passed b)
 
@@ -215,18 +216,18 @@ many_more item n p =
     let next : n + 1 ≡ suc n = omega arith in
     ap (λ k. read_many k item p) next ∙ one_more item n p
 
-same_moves : {X : Type 0} (g0 g1 : ℕ → List ℕ → Type 0) (l0 l1 : Lines) (f g : Place → Result (X × Place) ℕ) (x : X) → ((p : Place) → g p ≡ f p) → Gives g0 g1 l0 l1 f x → Gives g0 g1 l0 l1 g x
+same_moves : {X : Type 0} (g0 g1 : Pass) (l0 l1 : Lines) (f g : Place → Result (X × Place) ℕ) (x : X) → ((p : Place) → g p ≡ f p) → Gives g0 g1 l0 l1 f x → Gives g0 g1 l0 l1 g x
 same_moves g0 g1 l0 l1 f g x same gives = λ passed b.
     let one = gives passed b in (one.0, one.1, λ content s. let moved = one.2 content s in (moved.0, same (place_in l0 passed content) ∙ moved.1))
 
-pub many_gives : {X : Type 0} (g0 g1 g2 : ℕ → List ℕ → Type 0) (l0 l1 l2 : Lines) (item : Place → Result (X × Place) ℕ) (n : ℕ) (xs : List X) (x : X) →
+pub many_gives : {X : Type 0} (g0 g1 g2 : Pass) (l0 l1 l2 : Lines) (item : Place → Result (X × Place) ℕ) (n : ℕ) (xs : List X) (x : X) →
     Gives g0 g1 l0 l1 (read_many n item) xs → Gives g1 g2 l1 l2 item x → Gives g0 g2 l0 l2 (read_many (n + 1) item) (xs ++ x ∷ [])
 many_gives {X} g0 g1 g2 l0 l1 l2 item n xs x first next =
     same_moves g0 g2 l0 l2 (λ p. read_many n item p >>= λ xs. item xs.1 >>= put_last xs.0) (read_many (n + 1) item) (xs ++ x ∷ []) (many_more item n)
     (gives_then g0 g1 g2 l0 l1 l2 (read_many n item) (λ xs p. item p >>= put_last xs) xs (xs ++ x ∷ []) first
     (gives_then g1 g2 g2 l1 l2 l2 item (λ y p. Ok (xs ++ y ∷ [], p)) x (xs ++ x ∷ []) next (done_gives g2 l2 (xs ++ x ∷ []))))
 
-pub none_gives : {X : Type 0} (gave : ℕ → List ℕ → Type 0) (l : Lines) (item : Place → Result (X × Place) ℕ) → Gives gave gave l l (read_many 0 item) []
+pub none_gives : {X : Type 0} (gave : Pass) (l : Lines) (item : Place → Result (X × Place) ℕ) → Gives gave gave l l (read_many 0 item) []
 unfolding read_many
 none_gives gave l item = done_gives gave l []
 
@@ -256,7 +257,7 @@ many_fail {X} item (suc n) (suc m) k p xs q lt read stops =
     first_of below (Err j) e = absurd cc
     first_of below (Ok x) e = others x.0 x.1 (read_many n item x.1) (below x.1) e
 
-pub many_stop : {X : Type 0} (g0 g1 g2 : ℕ → List ℕ → Type 0) (l0 l1 : Lines) (item : Place → Result (X × Place) ℕ) (n count : ℕ) (xs : List X) (fault : StreamFault) → n < count →
+pub many_stop : {X : Type 0} (g0 g1 g2 : Pass) (l0 l1 : Lines) (item : Place → Result (X × Place) ℕ) (n count : ℕ) (xs : List X) (fault : StreamFault) → n < count →
     Gives g0 g1 l0 l1 (read_many n item) xs → ((passed : List ℕ) → IsBehind g1 l1 passed → StopsAs g2 l1 passed item fault) →
     (passed : List ℕ) → IsBehind g0 l0 passed → StopsAs g2 l0 passed (read_many count item) fault
 many_stop g0 g1 g2 l0 l1 item n count xs faults.Failed lt first next passed b = tt

@@ -1,5 +1,6 @@
 -- The parts of what stands before the blocks, one after another.
 use Rattle.std.proofs.Common.{◌≡◌, ◌∙◌, ℕ, ◌≤◌, List, length, Result, Ok, Err, true, sym, ap, subst, arith}
+use Rattle.te_ports.specs.Record.{Pass}
 use Rattle.std.specs.Prelude.{codes}
 use Rattle.std.proofs.lemmas.Bool.Decides.{nat_tests}
 use Rattle.te_model.specs.declared.certificate.Head.{Head}
@@ -20,8 +21,8 @@ use Rattle.block_reader.specs.declared.stream_fault.StreamFault.{StreamFault}
 use Rattle.block_reader.specs.Answers.{Gives, AnswersPart}
 use Rattle.block_reader.proofs.Answering.{answers_then, answers_err, done_gives}
 
-abbrev Gave : Type 1
-Gave = ℕ → List ℕ → Type 0
+abbrev Gave : Type 0
+Gave = Pass
 
 pub few_of_count : (low high n : ℕ) → is_count low high n ≡ true → n ≤ high
 few_of_count low high n within = grind (arith, nat_tests)

@@ -1,5 +1,6 @@
 -- The last line of a file, read over the bytes that stand ready.
 use Rattle.std.proofs.Common.{◌≡◌, ◌∙◌, ℕ, ◌≤◌, cond, List, [], ◌∷◌, ◌++◌, length, drop, Result, Ok, Err, sym, ap, subst, inl, inr, arith, eqb}
+use Rattle.te_ports.specs.Record.{Pass}
 use Rattle.std.specs.Prelude.{codes, OnOk, if◌then◌else◌, ◌==◌}
 use Rattle.std.proofs.Math.Seq.{drop-append_seam}
 use Rattle.std.proofs.lemmas.Bool.{eqb-true}
@@ -41,7 +42,7 @@ closes_after k j s t a b (Ok u) after line rest word ends none = (
 closes_after k j s t a b (Err e) after line rest word ends none = tt
 
 -- where the file ended, reads gave what was passed and what stands ready, and no more
-pub ended_whole : (given : ℕ → List ℕ → Type 0) (w : Window) (passed : List ℕ) → StandsAt given w passed → HasLimit w passed → state_of w ≡ Ended →
+pub ended_whole : (given : Pass) (w : Window) (passed : List ℕ) → StandsAt given w passed → HasLimit w passed → state_of w ≡ Ended →
     IsWhole given (passed ++ ready w) × StandsIn (passed ++ ready w) w passed
 ended_whole given w passed at limited is =
     let short : length (passed ++ ready w) ≤ fetched_of w = omega (arith, at.count) in (
@@ -56,7 +57,7 @@ ended_whole given w passed at limited is =
       },
     )
 
-pub closes : (gave given : ℕ → List ℕ → Type 0) (old filled : Lines) (end : Place) → ((passed : List ℕ) → IsBehind gave old passed → IsBehind given filled passed) →
+pub closes : (gave given : Pass) (old filled : Lines) (end : Place) → ((passed : List ℕ) → IsBehind gave old passed → IsBehind given filled passed) →
     ((passed : List ℕ) → IsBehind gave old passed → (content : List ℕ) → StandsIn content filled.window passed → StandsIn content old.window passed) →
     HasEnough filled.window 5 → filled.line ≡ old.line → read_closing (place_of filled) ≡ Ok end → (passed : List ℕ) → IsBehind gave old passed → IsClosed given old passed
 closes gave given old filled end behind stood (inr many) line read passed b =

@@ -1,14 +1,16 @@
 -- What a read with one answer or another makes of a window.
-use Rattle.std.proofs.Common.{◌≡◌, ◌∙◌, ℕ, ◌+◌, ◌-◌, ◌≤◌, ◌<◌, ◌≢◌, Bool, true, false, List, [], ◌++◌, length, take, Result, Ok, Err, refl, sym, ap, subst, arith, append-nil, length-take-le, vec_len}
+use Rattle.std.proofs.Common.{◌≡◌, ◌∙◌, ℕ, ◌+◌, ◌-◌, ◌≤◌, ◌<◌, ◌≢◌, Bool, true, false, List, [], ◌∷◌, ◌++◌, length, take, drop, Option, Result, Ok, Err, refl, sym, ap, subst, arith, append-nil, length-take-le, vec_len}
 use Rattle.std.specs.Prelude.{◌==◌, nat_lt, if◌then◌else◌, IfOk, OnOk, OnErr}
 use Rattle.std.specs.Result.{result_unwrap_or}
 use Rattle.std.proofs.lemmas.Bool.Decides.{nat_tests}
-use Rattle.te_ports.specs.Record.{IsPiece}
+use Rattle.te_ports.specs.Ports.{Told}
+use Rattle.te_ports.proofs.Giving.{adds_one, adds_none, piece_of_told}
+use Rattle.te_ports.specs.Record.{Adds, Pass, pass, Read, read, HasGiven, IsRead, IsPiece}
 use Rattle.block_reader.specs.declared.window.Window.{Window}
 use Rattle.block_reader.specs.declared.window.State.{State}
 use Rattle.block_reader.specs.declared.window.State.TheVariants.{Open, Ended, Failed, TooLong}
 use Rattle.block_reader.specs.Fetching.{state_after}
-use Rattle.block_reader.specs.Standing.{ready, fetched_of, state_of, limit_of, reads_left_in, IsEndOf, IsStateOf, StandsAt, StandsIn}
+use Rattle.block_reader.specs.Standing.{ready, fetched_of, state_of, limit_of, reads_left_in, IsGiven, IsStateOf, StandsAt, StandsIn}
 use Rattle.block_reader.proofs.Going.{at_failed, at_more, in_failed, in_more}
 
 -- the state by whether nothing was read and whether too much was
@@ -41,29 +43,30 @@ pub count_fits : {E : Type 0} (r : Result ℕ E) (count room : ℕ) → count �
 count_fits (Ok n) count room is fits = omega (arith, is, fits)
 count_fits (Err fault) count room is fits = omega (arith, is)
 
-ends_by : (gave : ℕ → List ℕ → Type 0) (limit fetched : ℕ) (none long : Bool) → (none ≡ true → gave fetched []) → (long ≡ true → fetched ≡ limit + 1) →
-    IsEndOf gave limit fetched (by_tests none long)
-ends_by gave limit fetched true long ended past = ended refl
-ends_by gave limit fetched false true ended past = past refl
-ends_by gave limit fetched false false ended past = tt
+given_by : (p : Pass) (bytes : List ℕ) (limit : ℕ) (none long : Bool) → HasGiven p bytes → (none ≡ true → IsRead p bytes) →
+    (long ≡ true → length bytes ≡ limit + 1) → IsGiven p bytes limit (by_tests none long)
+given_by p bytes limit true long given ended past = ended refl
+given_by p bytes limit false true given ended past = (given, past refl)
+given_by p bytes limit false false given ended past = given
 
-pub at_answer : {E : Type 0} (old new : ℕ → List ℕ → Type 0) (w w' : Window) (passed buf : List ℕ) (r : Result ℕ E) (count : ℕ) →
-    ((at : ℕ) (piece : List ℕ) → old at piece → new at piece) → count ≡ result_unwrap_or r 0 → count ≤ length buf →
+pub at_answer : {E : Type 0} (name : List ℕ) (before old new : List Read) (w w' : Window) (passed buf : List ℕ) (r : Result ℕ E) (count : ℕ) →
+    state_of w ≡ Open → count ≡ result_unwrap_or r 0 → count ≤ length buf →
     ready w' ≡ ready w ++ take count buf → fetched_of w' ≡ fetched_of w + count → fetched_of w' ≤ limit_of w' + 1 →
-    state_of w' ≡ state_after r (fetched_of w') (limit_of w') → IfOk r (λ n. new (fetched_of w) (take n buf)) →
-    StandsAt old w passed → StandsAt new w' passed
-at_answer old new w w' passed buf (Ok n) count grows is_count room next at below is gave s =
-    let given : new w.fetched (take count buf) = subst (λ k. new w.fetched (take k buf)) (sym is_count) gave in
-    let ended : (n == 0) ≡ true → new w'.fetched [] = (λ e.
-    let zero : count ≡ 0 = grind (arith, nat_tests) in
-    let same : w.fetched ≡ w'.fetched = omega (arith, zero, at) in
-    subst (λ k. new k []) same (subst (λ k. new w.fetched (take k buf)) zero given)) in
-    let past : nat_lt w'.limit w'.fetched ≡ true → w'.fetched ≡ w'.limit + 1 = (λ e. grind (arith, nat_tests)) in
-    at_more old new w w' passed (take count buf) grows next (omega (arith, at, length-take-le count buf room)) given
-    (subst (IsEndOf new w'.limit w'.fetched) (sym is) (ends_by new w'.limit w'.fetched (n == 0) (nat_lt w'.limit w'.fetched) ended past)) s
-at_answer old new w w' passed buf (Err fault) count grows is_count room next at below is gave s =
+    state_of w' ≡ state_after r (fetched_of w') (limit_of w') → IfOk r (λ n. new ≡ old ++ read name (fetched_of w) (take n buf) ∷ []) →
+    OnErr r (new ≡ old) → StandsAt (pass name before old) w passed → StandsAt (pass name before new) w' passed
+at_answer name before old new w w' passed buf (Ok n) count was is_count room next at below is gave unread s =
+    let given : new ≡ old ++ read name w.fetched (take count buf) ∷ [] = subst (λ k. new ≡ old ++ read name w.fetched (take k buf) ∷ []) (sym is_count) gave in
+    let size : length (take count buf) ≡ count = length-take-le count buf room in
+    at_more name before old new w w' passed (take count buf) was given next (omega (arith, at, size))
+    (λ bytes all long_as ended.
+    let none : (n == 0) ≡ true → IsRead (pass name before new) bytes = (λ e. let zero : count ≡ 0 = grind (arith, nat_tests) in ended (size ∙ zero)) in
+    let past : nat_lt w'.limit w'.fetched ≡ true → length bytes ≡ w'.limit + 1 =
+    (λ e. let beyond : w'.limit < w'.fetched = grind (arith, nat_tests) in omega (arith, long_as, beyond, below)) in
+    subst (IsGiven (pass name before new) bytes w'.limit) (sym is)
+    (given_by (pass name before new) bytes w'.limit (n == 0) (nat_lt w'.limit w'.fetched) all none past)) s
+at_answer name before old new w w' passed buf (Err fault) count was is_count room next at below is gave unread s =
     let same : ready w' ≡ ready w = next ∙ ap (λ k. ready w ++ take k buf) is_count ∙ append-nil (ready w) in
-    at_failed old new w w' passed grows same (omega (arith, at, is_count)) is s
+    at_failed (pass name before old) (pass name before new) w w' passed refl refl unread same (omega (arith, at, is_count)) was is s
 
 state_by : (content : List ℕ) (limit fetched : ℕ) (none long : Bool) → (none ≡ true → length content ≤ fetched) → (long ≡ true → limit < length content) →
     IsStateOf content limit fetched (by_tests none long)
@@ -90,6 +93,24 @@ in_answer content w w' passed buf (Ok n) count is_count room next at is pieces s
 in_answer content w w' passed buf (Err fault) count is_count room next at is pieces s =
     let same : ready w' ≡ ready w = next ∙ ap (λ k. ready w ++ take k buf) is_count ∙ append-nil (ready w) in
     in_failed content w w' passed same (omega (arith, at, is_count)) is s
+
+-- a read gave a piece of what is told
+pub told_pieces : {E : Type 0} (told buf : List ℕ) (at : ℕ) (r : Result ℕ E) → 0 < length buf → IfOk r (λ n. n ≤ length buf) →
+    IfOk r (λ n. take n buf ≡ take n (drop at told)) → IfOk r (λ n. n ≡ 0 → 0 < length buf → length told ≤ at) →
+    IfOk r (λ n. IsPiece told at (take n buf))
+told_pieces told buf at (Ok n) some fits bytes end =
+    let size : length (take n buf) ≡ n = length-take-le n buf fits in
+    record { bytes_are = bytes ∙ ap (λ k. take k (drop at told)) (sym size); ends = λ none. end (sym size ∙ none) some }
+told_pieces told buf at (Err fault) some fits bytes end = tt
+
+-- and was added to the record
+pub added_by : {E : Type 0} (content : List ℕ → Option (List ℕ)) (old new : List Read) (name buf : List ℕ) (at : ℕ) (r : Result ℕ E) → 0 < length buf →
+    IfOk r (λ n. n ≤ length buf) → IfOk r (λ n. Told (content name) (λ told. take n buf ≡ take n (drop at told))) →
+    IfOk r (λ n. Told (content name) (λ told. n ≡ 0 → 0 < length buf → length told ≤ at)) →
+    IfOk r (λ n. 0 < length buf → new ≡ old ++ read name at (take n buf) ∷ []) → OnErr r (new ≡ old) → Adds content old new
+added_by content old new name buf at (Ok n) some fits bytes end gave unread =
+    adds_one content old new (read name at (take n buf)) (gave some) (piece_of_told content name at n buf some fits bytes end)
+added_by content old new name buf at (Err fault) some fits bytes end gave unread = adds_none content old new unread
 
 -- a read that succeeds leaves no state of failure
 not_failed : (none long : Bool) → by_tests none long ≢ Failed

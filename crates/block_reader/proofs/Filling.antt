@@ -4,7 +4,7 @@ use Rattle.std.specs.Prelude.{◌⊎◌}
 use Rattle.std.proofs.Math.Seq.{take-append_seam, drop-append_seam}
 use Rattle.std.proofs.lemmas.List.{take-take, nil_from_length}
 use Rattle.te_model.specs.FileLimit.{file_limit}
-use Rattle.te_ports.specs.Record.{IsRead, IsReadPastAllowed}
+use Rattle.te_ports.specs.Record.{Pass, IsRead, IsReadPastAllowed}
 use Rattle.block_reader.specs.declared.window.Window.{Window}
 use Rattle.block_reader.specs.declared.window.State.{State}
 use Rattle.block_reader.specs.declared.window.State.TheVariants.{Open, Ended, Failed, TooLong}
@@ -55,7 +55,7 @@ limited_after_fill w w' passed more next limit closed h = go (state_of w) refl
     go Failed is = shut (closed (λ e. let no : Failed ≡ Open = sym is ∙ e in cc))
     go TooLong is = shut (closed (λ e. let no : TooLong ≡ Open = sym is ∙ e in cc))
 
-pub stood_before_fill : (gave : ℕ → List ℕ → Type 0) (content : List ℕ) (w w' : Window) (passed : List ℕ) → (more : List ℕ) → ready w' ≡ ready w ++ more → limit_of w' ≡ limit_of w →
+pub stood_before_fill : (gave : Pass) (content : List ℕ) (w w' : Window) (passed : List ℕ) → (more : List ℕ) → ready w' ≡ ready w ++ more → limit_of w' ≡ limit_of w →
     ((state_of w ≡ Open → ⊥) → (state_of w' ≡ state_of w) × (ready w' ≡ ready w)) → StandsAt gave w passed → StandsIn content w' passed → StandsIn content w passed
 stood_before_fill gave content w w' passed more next limit closed at s = record { front = front; count = at.count; ends = go (state_of w) refl }
   where
@@ -85,7 +85,7 @@ stood_before_fill gave content w w' passed more next limit closed at s = record 
     go Failed is = shut (closed (λ e. let no : Failed ≡ Open = sym is ∙ e in cc))
     go TooLong is = shut (closed (λ e. let no : TooLong ≡ Open = sym is ∙ e in cc))
 
-pub behind_after_fill : (gave given : ℕ → List ℕ → Type 0) (l l' : Lines) (passed : List ℕ) → (more : List ℕ) → ready l'.window ≡ ready l.window ++ more →
+pub behind_after_fill : (gave given : Pass) (l l' : Lines) (passed : List ℕ) → (more : List ℕ) → ready l'.window ≡ ready l.window ++ more →
     limit_of l'.window ≡ limit_of l.window → ((state_of l.window ≡ Open → ⊥) → (state_of l'.window ≡ state_of l.window) × (ready l'.window ≡ ready l.window)) →
     ((before : List ℕ) → StandsAt gave l.window before → StandsAt given l'.window before) → IsBehind gave l passed → IsBehind given l' passed
 behind_after_fill gave given l l' passed more next limit closed stands b =
@@ -94,7 +94,7 @@ behind_after_fill gave given l l' passed more next limit closed stands b =
 -- ---- draining
 
 -- a window of which all was passed and drained: what was drained, and that it was nothing where the file was not open
-pub record Drained (gave given : ℕ → List ℕ → Type 0) (w w' : Window) (passed more : List ℕ) : Type 0 where
+pub record Drained (gave given : Pass) (w w' : Window) (passed more : List ℕ) : Type 0 where
   pub before : StandsAt gave w passed
   pub limited : HasLimit w passed
   pub after : StandsAt given w' ((passed ++ ready w) ++ more)
@@ -102,7 +102,7 @@ pub record Drained (gave given : ℕ → List ℕ → Type 0) (w w' : Window) (p
   pub limit : limit_of w' ≡ limit_of w
   pub still : (state_of w ≡ Open → ⊥) → (state_of w' ≡ state_of w) × (fetched_of w' ≡ fetched_of w)
 
-pub drained_of : (gave given : ℕ → List ℕ → Type 0) (w w1 w' : Window) (passed : List ℕ) (n : ℕ) → ready w ≡ take n (ready w) ++ ready w1 → n ≡ length (ready w) →
+pub drained_of : (gave given : Pass) (w w1 w' : Window) (passed : List ℕ) (n : ℕ) → ready w ≡ take n (ready w) ++ ready w1 → n ≡ length (ready w) →
     fetched_of w1 ≡ fetched_of w → state_of w1 ≡ state_of w → limit_of w1 ≡ limit_of w →
     ((before : List ℕ) → StandsAt gave w1 before → (more : List ℕ) × StandsAt given w' (before ++ more)) → ready w' ≡ [] → limit_of w' ≡ limit_of w1 →
     ((state_of w1 ≡ Open → ⊥) → state_of w' ≡ state_of w1) → ((state_of w1 ≡ Open → ⊥) → fetched_of w' ≡ fetched_of w1) →
@@ -128,20 +128,20 @@ ended_of now shown same closed (inl open_still) = absurd (closed (sym same ∙ o
 ended_of now shown same closed (inr ended) = sym same ∙ ended
 
 -- all that reads gave
-abbrev total : {gave given : ℕ → List ℕ → Type 0} {w w' : Window} {passed more : List ℕ} → Drained gave given w w' passed more → List ℕ
+abbrev total : {gave given : Pass} {w w' : Window} {passed more : List ℕ} → Drained gave given w w' passed more → List ℕ
 total {gave} {given} {w} {w'} {passed} {more} d = (passed ++ ready w) ++ more
 
-all_given : {gave given : ℕ → List ℕ → Type 0} {w w' : Window} {passed more : List ℕ} (d : Drained gave given w w' passed more) → total d ++ ready w' ≡ total d
+all_given : {gave given : Pass} {w w' : Window} {passed more : List ℕ} (d : Drained gave given w w' passed more) → total d ++ ready w' ≡ total d
 all_given d = ap (λ r. total d ++ r) d.none ∙ append-nil (total d)
 
-size : {gave given : ℕ → List ℕ → Type 0} {w w' : Window} {passed more : List ℕ} (d : Drained gave given w w' passed more) → fetched_of w' ≡ length (total d)
+size : {gave given : Pass} {w w' : Window} {passed more : List ℕ} (d : Drained gave given w w' passed more) → fetched_of w' ≡ length (total d)
 size d = d.after.count ∙ ap length (all_given d)
 
-nothing_more : {gave given : ℕ → List ℕ → Type 0} {w w' : Window} {passed more : List ℕ} (d : Drained gave given w w' passed more) → (state_of w ≡ Open → ⊥) → more ≡ []
+nothing_more : {gave given : Pass} {w w' : Window} {passed more : List ℕ} (d : Drained gave given w w' passed more) → (state_of w ≡ Open → ⊥) → more ≡ []
 nothing_more {gave} {given} {w} {w'} {passed} {more} d shut =
     nil_from_length more (omega (arith, size d, d.before.count, (d.still shut).1, length-append (passed ++ ready w) more))
 
-limit_is : {gave given : ℕ → List ℕ → Type 0} {w w' : Window} {passed more : List ℕ} (d : Drained gave given w w' passed more) → limit_of w' ≡ file_limit (total d)
+limit_is : {gave given : Pass} {w w' : Window} {passed more : List ℕ} (d : Drained gave given w w' passed more) → limit_of w' ≡ file_limit (total d)
 limit_is {gave} {given} {w} {w'} {passed} {more} d = d.limit ∙ d.limited.limit ∙ go (state_of w) refl
   where
     shut : (state_of w ≡ Open → ⊥) → file_limit (passed ++ ready w) ≡ file_limit (total d)
@@ -153,11 +153,11 @@ limit_is {gave} {given} {w} {w'} {passed} {more} d = d.limit ∙ d.limited.limit
     go Failed is = shut (λ e. let no : Failed ≡ Open = sym is ∙ e in cc)
     go TooLong is = shut (λ e. let no : TooLong ≡ Open = sym is ∙ e in cc)
 
-pub drained_past : {gave given : ℕ → List ℕ → Type 0} {w w' : Window} {passed more : List ℕ} → Drained gave given w w' passed more → state_of w' ≡ TooLong → IsReadPastAllowed given file_limit
+pub drained_past : {gave given : Pass} {w w' : Window} {passed more : List ℕ} → Drained gave given w w' passed more → state_of w' ≡ TooLong → IsReadPastAllowed given file_limit
 drained_past {gave} {given} {w} {w'} {passed} {more} d is =
     at_past given file_limit w' (total d) d.after (limit_is d ∙ ap file_limit (sym (all_given d))) is
 
-pub drained_whole : {gave given : ℕ → List ℕ → Type 0} {w w' : Window} {passed more : List ℕ} → Drained gave given w w' passed more → state_of w' ≡ Ended →
+pub drained_whole : {gave given : Pass} {w w' : Window} {passed more : List ℕ} → Drained gave given w w' passed more → state_of w' ≡ Ended →
     (bytes : List ℕ) × IsWhole given bytes × StandsIn bytes w passed
 drained_whole {gave} {given} {w} {w'} {passed} {more} d is = (total d, record { read = read; within = within }, stands)
   where

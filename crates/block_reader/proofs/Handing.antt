@@ -1,5 +1,6 @@
 -- What reads gave of a file, behind a head and some blocks: one block more, the end, and faults.
 use Rattle.std.proofs.Common.{◌≡◌, ◌∙◌, ℕ, zero, suc, ◌+◌, ◌≤◌, true, ◌&&◌, List, [], ◌∷◌, ◌++◌, length, Option, Some, None, Result, Ok, Err, refl, sym, ap, arith, append_assoc, append-nil, length-append}
+use Rattle.te_ports.specs.Record.{Pass}
 use Rattle.std.proofs.Math.Seq.{get_or-append_seam}
 use Rattle.std.proofs.lemmas.Bool.Decides.{nat_tests}
 use Rattle.te_model.specs.declared.network.Network.{Network}
@@ -82,11 +83,11 @@ end_stops head blocks k p stops = go (read_closing p) stops
 
 -- ---- faults
 
-pub shape_refused : (given : ℕ → List ℕ → Type 0) (bytes : List ℕ) (k : ℕ) → IsWhole given bytes → read_certificate narrow_number (place 1 bytes) ≡ Err k → IsFaultOf given (faults.Shape k)
+pub shape_refused : (given : Pass) (bytes : List ℕ) (k : ℕ) → IsWhole given bytes → read_certificate narrow_number (place 1 bytes) ≡ Err k → IsFaultOf given (faults.Shape k)
 shape_refused given bytes k whole stops = (bytes, whole, fault_is bytes k stops)
 
 -- a part stopped, and so reading of the whole does
-pub stop_refused : {X : Type 0} (given : ℕ → List ℕ → Type 0) (lines : Lines) (passed : List ℕ) (f : Place → Result (X × Place) ℕ) (fault : StreamFault) →
+pub stop_refused : {X : Type 0} (given : Pass) (lines : Lines) (passed : List ℕ) (f : Place → Result (X × Place) ℕ) (fault : StreamFault) →
     ((content : List ℕ) → StandsIn content lines.window passed → (k : ℕ) → f (place_in lines passed content) ≡ Err k → read_certificate narrow_number (place 1 content) ≡ Err k) →
     StopsAs given lines passed f fault → IsFaultOf given fault
 stop_refused given lines passed f faults.Failed whole s = tt
@@ -95,7 +96,7 @@ stop_refused given lines passed f (faults.Shape k) whole s = shape_refused given
 stop_refused given lines passed f (faults.Rule rule) whole s = absurd s
 stop_refused given lines passed f faults.Memory whole s = tt
 
-pub block_refused : (gave given : ℕ → List ℕ → Type 0) (b : Blocks) (head : Head) (blocks : List Block) (fault : StreamFault) → 1 ≤ b.left → AreBehind gave b head blocks →
+pub block_refused : (gave given : Pass) (b : Blocks) (head : Head) (blocks : List Block) (fault : StreamFault) → 1 ≤ b.left → AreBehind gave b head blocks →
     ((passed : List ℕ) → IsBehind gave b.lines passed → StopsAs given b.lines passed (read_block b.room.limits narrow_number b.room.counts) fault) → IsFaultOf given fault
 block_refused gave given b head blocks fault some are stops =
     stop_refused given b.lines are.passed (read_block b.room.limits narrow_number b.room.counts) fault
@@ -109,7 +110,7 @@ block_refused gave given b head blocks fault some are stops =
     go zero p k some stop = absurd (omega (arith, some))
     go (suc m) p k some stop = rest_stops head blocks m k p stop
 
-pub end_refused : (gave given : ℕ → List ℕ → Type 0) (b : Blocks) (head : Head) (blocks : List Block) (fault : StreamFault) → b.left ≡ 0 → AreBehind gave b head blocks →
+pub end_refused : (gave given : Pass) (b : Blocks) (head : Head) (blocks : List Block) (fault : StreamFault) → b.left ≡ 0 → AreBehind gave b head blocks →
     ((passed : List ℕ) → IsBehind gave b.lines passed → StopsAs given b.lines passed (with_no_value read_closing) fault) → IsFaultOf given fault
 end_refused gave given b head blocks fault none are stops =
     stop_refused given b.lines are.passed (with_no_value read_closing) fault
@@ -120,7 +121,7 @@ end_refused gave given b head blocks fault none are stops =
 
 -- ---- the end
 
-pub end_shape : (gave given : ℕ → List ℕ → Type 0) (b : Blocks) (head : Head) (blocks : List Block) → b.left ≡ 0 → AreBehind gave b head blocks →
+pub end_shape : (gave given : Pass) (b : Blocks) (head : Head) (blocks : List Block) → b.left ≡ 0 → AreBehind gave b head blocks →
     ((passed : List ℕ) → IsBehind gave b.lines passed → IsClosed given b.lines passed) → IsShapeOf given head blocks
 end_shape gave given b head blocks none are closed =
     let c = closed are.passed are.behind in (
@@ -133,13 +134,13 @@ end_shape gave given b head blocks none are closed =
       ),
     )
 
-pub sound_text : (given : ℕ → List ℕ → Type 0) (head : Head) (blocks : List Block) → IsShapeOf given head blocks → KeepsRules head blocks → IsTextOf given head blocks
+pub sound_text : (given : Pass) (head : Head) (blocks : List Block) → IsShapeOf given head blocks → KeepsRules head blocks → IsTextOf given head blocks
 sound_text given head blocks shape sound =
     let c = made head blocks in
     let valid : first_rule c ≡ None = first_rule-parts c ∙ ap (λ o. earlier_fault o (blocks_fault head.network None 0 blocks)) sound.sound_head ∙ sound.sound_blocks in
     (shape.0, shape.1, is_spelled shape.0 (Ok c) (shape.2.0, shape.2.1, valid))
 
-pub rule_refused : (given : ℕ → List ℕ → Type 0) (head : Head) (blocks : List Block) (rule : RuleFault) → IsShapeOf given head blocks → IsEarliest head blocks rule → IsFaultOf given (faults.Rule rule)
+pub rule_refused : (given : Pass) (head : Head) (blocks : List Block) (rule : RuleFault) → IsShapeOf given head blocks → IsEarliest head blocks rule → IsFaultOf given (faults.Rule rule)
 rule_refused given head blocks rule shape earliest =
     let c = made head blocks in
     let first : first_rule c ≡ Some rule = first_rule-parts c ∙ earliest in
@@ -155,7 +156,7 @@ link_of_last bs b =
     let count : length (bs ++ b ∷ []) ≡ suc (length bs) = omega (arith, length-append bs (b ∷ [])) in
     ap (λ n. link_before (bs ++ b ∷ []) n) count ∙ ap (λ (c : Block). Some c.link) (last_block bs b)
 
-pub block_handed : (gave given : ℕ → List ℕ → Type 0) (old new : Blocks) (head : Head) (blocks : List Block) (b : Block) →
+pub block_handed : (gave given : Pass) (old new : Blocks) (head : Head) (blocks : List Block) (b : Block) →
     new.left + 1 ≡ old.left → new.place ≡ old.place + 1 → new.before ≡ Some b.link → new.room.limits ≡ old.room.limits → new.room.counts ≡ old.room.counts →
     Gives gave given old.lines new.lines (read_block old.room.limits narrow_number old.room.counts) b → AreBehind gave old head blocks → AreBehind given new head (blocks ++ b ∷ [])
 block_handed gave given old new head blocks b left place before limits counts gives are =
@@ -205,7 +206,7 @@ pub head_earliest : (head : Head) (rule : RuleFault) → head_fault head ≡ Som
 head_earliest head rule is = ap (λ o. earlier_fault o None) is
 
 -- the fault of the block that was read, by the numbers of the head
-pub fault_in : (gave : ℕ → List ℕ → Type 0) (old : Blocks) (head : Head) (blocks : List Block) (b : Block) (fault : Option RuleFault) → AreBehind gave old head blocks →
+pub fault_in : (gave : Pass) (old : Blocks) (head : Head) (blocks : List Block) (b : Block) (fault : Option RuleFault) → AreBehind gave old head blocks →
     fault ≡ block_fault head.network old.before old.place b → fault ≡ block_fault head.network (link_before blocks (length blocks)) (length blocks) b
 fault_in gave old head blocks b fault are is =
     is ∙ ap (λ o. block_fault head.network o old.place b) are.counted.before
@@ -249,7 +250,7 @@ head_whole content line head p first read =
     ap (λ k. read_certificate narrow_number (place k content)) (sym first)
     ∙ sym (halves_are narrow_number (start line content)) ∙ ap (λ (r : Result (Head × Place) ℕ). r >>= with_blocks narrow_number) read
 
-pub opened : (g0 g1 g2 : ℕ → List ℕ → Type 0) (old mid : Lines) (new : Blocks) (head : Head) → old.line ≡ 1 → IsBehind g0 old [] →
+pub opened : (g0 g1 g2 : Pass) (old mid : Lines) (new : Blocks) (head : Head) → old.line ≡ 1 → IsBehind g0 old [] →
     Gives g0 g1 old mid (read_format_and_head narrow_number) head → Gives g1 g2 mid new.lines (block_count head) new.left → new.place ≡ 0 → new.before ≡ None → AreOf new head → AreBehind g2 new head []
 unfolding rest_at read_blocks
 opened g0 g1 g2 old mid new head line behind of_head_read of_count place before of_head =
@@ -268,7 +269,7 @@ opened g0 g1 g2 old mid new head line behind of_head_read of_count place before 
       of_head = of_head;
     }
 
-pub head_refused : (given : ℕ → List ℕ → Type 0) (old : Lines) (fault : StreamFault) → old.line ≡ 1 → StopsAs given old [] (read_format_and_head narrow_number) fault → IsFaultOf given fault
+pub head_refused : (given : Pass) (old : Lines) (fault : StreamFault) → old.line ≡ 1 → StopsAs given old [] (read_format_and_head narrow_number) fault → IsFaultOf given fault
 head_refused given old fault line stops =
     stop_refused given old [] (read_format_and_head narrow_number) fault
     (λ content s k stop.
@@ -276,7 +277,7 @@ head_refused given old fault line stops =
     ∙ sym (halves_are narrow_number (place_in old [] content)) ∙ ap (λ (r : Result (Head × Place) ℕ). r >>= with_blocks narrow_number) stop)
     stops
 
-pub count_refused : (g0 g1 g2 : ℕ → List ℕ → Type 0) (old mid : Lines) (head : Head) (fault : StreamFault) → old.line ≡ 1 → IsBehind g0 old [] →
+pub count_refused : (g0 g1 g2 : Pass) (old mid : Lines) (head : Head) (fault : StreamFault) → old.line ≡ 1 → IsBehind g0 old [] →
     Gives g0 g1 old mid (read_format_and_head narrow_number) head → ((passed : List ℕ) → IsBehind g1 mid passed → StopsAs g2 mid passed (block_count head) fault) → IsFaultOf g2 fault
 unfolding read_blocks
 count_refused g0 g1 g2 old mid head fault line behind of_head_read stops =

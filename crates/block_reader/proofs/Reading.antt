@@ -1,6 +1,7 @@
 -- What calls that read do to a depot, one after another.
 use Rattle.std.proofs.Common.{◌≡◌, ◌≢◌, ◌≤◌, ◌∙◌, ℕ, List, Result, Ok, Err, refl, ap, subst, arith}
 use Rattle.te_ports.specs.Ports.{Rose}
+use Rattle.te_ports.proofs.Giving.{adds_none, adds_then}
 use Rattle.block_reader.specs.declared.stream_fault.StreamFault.{StreamFault}
 use Rattle.block_reader.specs.declared.stream_fault.StreamFault.TheVariants.{Failed, Memory}
 use Rattle.te_ports.specs.Shown.{Shown}
@@ -12,7 +13,7 @@ reads_then d0 d1 d2 name x r first next =
       failed = λ e. subst (λ f. Rose (f name) (d2.faults name)) same (next.failed e);
       steady = λ e. next.steady e ∙ same;
       later = λ other. omega (arith, first.later other, next.later other);
-      kept = λ file at bytes given. next.kept file at bytes (first.kept file at bytes given);
+      added = adds_then d0.content d1.content d0.gave d1.gave d2.gave first.content first.added next.added;
       content = next.content ∙ first.content;
     }
 
@@ -21,7 +22,7 @@ reads_as d0 d1 name x y r = record {
   failed = λ e. absurd cc;
   steady = λ e. r.steady (λ f. cc);
   later = r.later;
-  kept = r.kept;
+  added = r.added;
   content = r.content;
 }
 
@@ -33,7 +34,7 @@ reads_err {A} {B} d0 d1 name fault r = record {
   failed = λ e. r.failed (err_along {A = B} {B = A} fault Failed e);
   steady = λ e. r.steady (λ f. e (err_along {A = A} {B = B} fault Failed f));
   later = r.later;
-  kept = r.kept;
+  added = r.added;
   content = r.content;
 }
 
@@ -42,7 +43,7 @@ reads_none d name r ok = record {
   failed = λ e. absurd (ok e);
   steady = λ e. refl;
   later = λ other. omega arith;
-  kept = λ file at bytes given. given;
+  added = adds_none d.content d.gave d.gave refl;
   content = refl;
 }
 

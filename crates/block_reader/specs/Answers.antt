@@ -1,7 +1,7 @@
 -- Reading of a part of a file over the lines that stand ready, as a step of reading its whole content.
 use Rattle.std.specs.Prelude.{◌≡◌, ◌≢◌, ◌⊎◌, ℕ, ◌≤◌, List, ◌++◌, length, drop, Result, Ok, Err}
 use Rattle.te_model.specs.FileLimit.{file_limit}
-use Rattle.te_ports.specs.Record.{IsRead, IsReadPastAllowed}
+use Rattle.te_ports.specs.Record.{Pass, IsRead, IsReadPastAllowed}
 use Rattle.cert_text.specs.Place.{Place, place}
 use Rattle.cert_text.specs.Grammar.{read_closing}
 use Rattle.cert_text.specs.declared.fault.Stop.{Stop}
@@ -27,7 +27,7 @@ pub record HasLimit (w : Window) (passed : List ℕ) : Type 0 where
   pub settled : state_of w ≡ Open → 14 ≤ length (passed ++ ready w)
 
 -- reads gave the bytes that were passed and those that stand ready
-pub record IsBehind (gave : ℕ → List ℕ → Type 0) (lines : Lines) (passed : List ℕ) : Type 0 where
+pub record IsBehind (gave : Pass) (lines : Lines) (passed : List ℕ) : Type 0 where
   pub stands : StandsAt gave lines.window passed
   pub limited : HasLimit lines.window passed
 
@@ -51,12 +51,12 @@ pub record PassesFront (old new : Window) (front : List ℕ) : Type 0 where
   pub limit : limit_of new ≡ limit_of old
 
 -- reads gave these bytes and no others, and they are within the limit of a file that begins with them
-pub record IsWhole (gave : ℕ → List ℕ → Type 0) (bytes : List ℕ) : Type 0 where
+pub record IsWhole (gave : Pass) (bytes : List ℕ) : Type 0 where
   pub read : IsRead gave bytes
   pub within : length bytes ≤ file_limit bytes
 
 -- what became of a file that was read to its end after reading stopped
-abbrev pub IsDrained : (ℕ → List ℕ → Type 0) → Window → List ℕ → Stop → StreamFault → Type 0
+abbrev pub IsDrained : Pass → Window → List ℕ → Stop → StreamFault → Type 0
 IsDrained given old passed stop faults.Failed = Unit {0}
 IsDrained given old passed stop faults.TooLong = IsReadPastAllowed given file_limit
 IsDrained given old passed stop (faults.Shape line) = (stop ≡ stops.Shape line) × ((bytes : List ℕ) × IsWhole given bytes × StandsIn bytes old passed)
@@ -69,19 +69,19 @@ Moves old passed new after f x = (content : List ℕ) → StandsIn content new.w
     StandsIn content old.window passed × (f (place_in old passed content) ≡ Ok (x, place_in new after content))
 
 -- reading gave the value, and the lines stand behind it
-abbrev pub Gives : {X : Type 0} → (ℕ → List ℕ → Type 0) → (ℕ → List ℕ → Type 0) → Lines → Lines → (Place → Result (X × Place) ℕ) → X → Type 0
+abbrev pub Gives : {X : Type 0} → Pass → Pass → Lines → Lines → (Place → Result (X × Place) ℕ) → X → Type 0
 Gives gave given old new f x = (passed : List ℕ) → IsBehind gave old passed →
     (front : List ℕ) × IsBehind given new (passed ++ front) × Moves old passed new (passed ++ front) f x
 
 -- reads gave these bytes and no others, reading of which stops at this line
-pub record IsMisread {X : Type 0} (given : ℕ → List ℕ → Type 0) (old : Lines) (passed : List ℕ) (f : Place → Result (X × Place) ℕ) (line : ℕ) : Type 0 where
+pub record IsMisread {X : Type 0} (given : Pass) (old : Lines) (passed : List ℕ) (f : Place → Result (X × Place) ℕ) (line : ℕ) : Type 0 where
   pub bytes : List ℕ
   pub whole : IsWhole given bytes
   pub stood : StandsIn bytes old.window passed
   pub stops : f (place_in old passed bytes) ≡ Err line
 
 -- the fault of a file whose reading stopped
-abbrev pub StopsAs : {X : Type 0} → (ℕ → List ℕ → Type 0) → Lines → List ℕ → (Place → Result (X × Place) ℕ) → StreamFault → Type 0
+abbrev pub StopsAs : {X : Type 0} → Pass → Lines → List ℕ → (Place → Result (X × Place) ℕ) → StreamFault → Type 0
 StopsAs given old passed f faults.Failed = Unit {0}
 StopsAs given old passed f faults.TooLong = IsReadPastAllowed given file_limit
 StopsAs given old passed f (faults.Shape line) = IsMisread given old passed f line
@@ -89,12 +89,12 @@ StopsAs given old passed f (faults.Rule rule) = ⊥
 StopsAs given old passed f faults.Memory = Unit {0}
 
 -- what is read, or why nothing is
-abbrev pub AnswersPart : {X : Type 0} → (ℕ → List ℕ → Type 0) → (ℕ → List ℕ → Type 0) → Lines → Lines → (Place → Result (X × Place) ℕ) → Result X StreamFault → Type 0
+abbrev pub AnswersPart : {X : Type 0} → Pass → Pass → Lines → Lines → (Place → Result (X × Place) ℕ) → Result X StreamFault → Type 0
 AnswersPart gave given old new f (Ok x) = Gives gave given old new f x
 AnswersPart gave given old new f (Err fault) = (passed : List ℕ) → IsBehind gave old passed → StopsAs given old passed f fault
 
 -- reads gave these bytes and no others, and they end with the last line of a certificate
-pub record IsClosed (given : ℕ → List ℕ → Type 0) (old : Lines) (passed : List ℕ) : Type 0 where
+pub record IsClosed (given : Pass) (old : Lines) (passed : List ℕ) : Type 0 where
   pub bytes : List ℕ
   pub whole : IsWhole given bytes
   pub stood : StandsIn bytes old.window passed

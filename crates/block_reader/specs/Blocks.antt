@@ -9,7 +9,7 @@ use Rattle.te_model.specs.Formats.{limits_of}
 use Rattle.te_model.specs.Text.{Spells}
 use Rattle.te_model.specs.Faults.{IsShapeFault, IsRuleFault}
 use Rattle.te_model.specs.Validity.{head_fault, blocks_fault, link_before, earlier_fault}
-use Rattle.te_ports.specs.Record.{IsReadPastAllowed}
+use Rattle.te_ports.specs.Record.{Pass, IsReadPastAllowed}
 use Rattle.cert_text.specs.Place.{Place, place, ◌>>=◌}
 use Rattle.cert_text.specs.Reading.{narrow_number, read_many}
 use Rattle.cert_text.specs.Grammar.{read_counted, read_block, read_closing, read_certificate, counts_of}
@@ -80,7 +80,7 @@ block_in (Ok x) block = Ok block
 block_in (Err fault) block = Err fault
 
 -- what is behind the head and the blocks is all that is left to read of each content in which the reader stands
-pub record AreBehind (gave : ℕ → List ℕ → Type 0) (b : Blocks) (head : Head) (blocks : List Block) : Type 0 where
+pub record AreBehind (gave : Pass) (b : Blocks) (head : Head) (blocks : List Block) : Type 0 where
   pub passed : List ℕ
   pub behind : IsBehind gave b.lines passed
   pub read : (content : List ℕ) → StandsIn content b.lines.window passed →
@@ -98,7 +98,7 @@ abbrev pub IsEarliest : Head → List Block → RuleFault → Type 0
 IsEarliest head blocks rule = earlier_fault (head_fault head) (blocks_fault head.network None 0 blocks) ≡ Some rule
 
 -- reads gave a text that has the shape of the certificate of this head and these blocks
-abbrev pub IsShapeOf : (ℕ → List ℕ → Type 0) → Head → List Block → Type 0
+abbrev pub IsShapeOf : Pass → Head → List Block → Type 0
 IsShapeOf gave head blocks = (bytes : List ℕ) × IsWhole gave bytes
     × ((end : Place) × (read_certificate narrow_number (place 1 bytes) ≡ Ok (record { head = head; blocks = blocks }, end)))
 
@@ -107,14 +107,14 @@ abbrev pub IsReaderOf : BlockReader → Head → Type 0
 IsReaderOf r head = AreOf r.blocks head
 
 -- the lines that reads gave before the reader's place are this head and these blocks, of which no rule fails
-pub record HasRead (gave : ℕ → List ℕ → Type 0) (r : BlockReader) (head : Head) (blocks : List Block) : Type 0 where
+pub record HasRead (gave : Pass) (r : BlockReader) (head : Head) (blocks : List Block) : Type 0 where
   pub stands : AreBehind gave r.blocks head blocks
   pub sound : KeepsRules head blocks
   pub no_fault : r.fault ≡ None
   pub not_over : r.over ≡ false
 
 -- the fault is that of what reads gave; a failed read is one of any file, and so is want of memory
-abbrev pub IsFaultOf : (ℕ → List ℕ → Type 0) → StreamFault → Type 0
+abbrev pub IsFaultOf : Pass → StreamFault → Type 0
 IsFaultOf gave faults.Failed = Unit {0}
 IsFaultOf gave faults.TooLong = IsReadPastAllowed gave file_limit
 IsFaultOf gave (faults.Shape line) = (bytes : List ℕ) × IsWhole gave bytes × IsShapeFault bytes line
@@ -136,19 +136,19 @@ abbrev pub block_count : Head → Place → Result (ℕ × Place) ℕ
 block_count head = read_counted (codes "blocks ") 0 (limits_of head.format).links
 
 -- the count was read behind the head, and the reader stands behind it; or why there is none
-abbrev pub CountsBlocks : (ℕ → List ℕ → Type 0) → (ℕ → List ℕ → Type 0) → Lines → Head → Result BlockReader StreamFault → Type 0
+abbrev pub CountsBlocks : Pass → Pass → Lines → Head → Result BlockReader StreamFault → Type 0
 CountsBlocks gave given lines head (Ok r) = Gives gave given lines r.blocks.lines (block_count head) r.blocks.left
 CountsBlocks gave given lines head (Err fault) = (passed : List ℕ) → IsBehind gave lines passed → StopsAs given lines passed (block_count head) fault
 
 -- reads gave the text of the certificate of this head and these blocks
-abbrev pub IsTextOf : (ℕ → List ℕ → Type 0) → Head → List Block → Type 0
+abbrev pub IsTextOf : Pass → Head → List Block → Type 0
 IsTextOf gave head blocks = (bytes : List ℕ) × IsWhole gave bytes × Spells bytes (record { head = head; blocks = blocks })
 
 -- where a reader stands in what reads gave: behind a head and some blocks, at the end of a certificate, or at a fault
-abbrev pub StandsAfter : (ℕ → List ℕ → Type 0) → BlockReader → Option StreamFault → Bool → Type 0
+abbrev pub StandsAfter : Pass → BlockReader → Option StreamFault → Bool → Type 0
 StandsAfter gave r (Some fault) over = IsFaultOf gave fault
 StandsAfter gave r None false = (head : Head) × (blocks : List Block) × HasRead gave r head blocks
 StandsAfter gave r None true = (head : Head) × (blocks : List Block) × IsTextOf gave head blocks
 
-abbrev pub ReaderStandsAt : (ℕ → List ℕ → Type 0) → BlockReader → Type 0
+abbrev pub ReaderStandsAt : Pass → BlockReader → Type 0
 ReaderStandsAt gave r = StandsAfter gave r r.fault r.over

@@ -1,6 +1,6 @@
 -- What stands ready of a file, and where a window stands in what reads gave of it and in its content.
-use Rattle.std.specs.Prelude.{◌≡◌, ℕ, suc, ◌+◌, ◌-◌, ◌<◌, ◌≤◌, List, [], ◌++◌, take, drop, length, vec_len}
-use Rattle.te_ports.specs.Record.{HasGiven}
+use Rattle.std.specs.Prelude.{◌≡◌, ℕ, suc, ◌+◌, ◌-◌, ◌<◌, ◌≤◌, List, ◌++◌, take, drop, length, vec_len}
+use Rattle.te_ports.specs.Record.{Pass, HasGiven, IsRead}
 use Rattle.block_reader.specs.declared.window.Window.{Window}
 use Rattle.block_reader.specs.declared.window.State.{State}
 use Rattle.block_reader.specs.declared.window.State.TheVariants.{Open, Ended, Failed, TooLong}
@@ -35,18 +35,17 @@ reads_left_in TooLong n = 0
 abbrev pub reads_left : Window → ℕ
 reads_left w = reads_left_in w.state (w.limit + 1 - w.fetched)
 
--- what reads gave at the end of the file
-abbrev pub IsEndOf : (ℕ → List ℕ → Type 0) → ℕ → ℕ → State → Type 0
-IsEndOf gave limit fetched Open = Unit {0}
-IsEndOf gave limit fetched Ended = gave fetched []
-IsEndOf gave limit fetched Failed = Unit {0}
-IsEndOf gave limit fetched TooLong = fetched ≡ limit + 1
+-- reads gave these bytes: all of the file where it ended, and one byte more than the limit where that is passed
+abbrev pub IsGiven : Pass → List ℕ → ℕ → State → Type 0
+IsGiven gave bytes limit Open = HasGiven gave bytes
+IsGiven gave bytes limit Ended = IsRead gave bytes
+IsGiven gave bytes limit Failed = HasGiven gave bytes
+IsGiven gave bytes limit TooLong = HasGiven gave bytes × (length bytes ≡ limit + 1)
 
 -- reads gave the bytes that were passed and those that stand ready, and the state is the one that they leave
-pub record StandsAt (gave : ℕ → List ℕ → Type 0) (w : Window) (passed : List ℕ) : Type 0 where
-  pub given : HasGiven gave (passed ++ ready w)
+pub record StandsAt (gave : Pass) (w : Window) (passed : List ℕ) : Type 0 where
+  pub given : IsGiven gave (passed ++ ready w) (limit_of w) (state_of w)
   pub count : fetched_of w ≡ length (passed ++ ready w)
-  pub ends : IsEndOf gave (limit_of w) (fetched_of w) (state_of w)
 
 -- the content ends where reading ended, or is longer than the limit
 abbrev pub IsStateOf : List ℕ → ℕ → ℕ → State → Type 0

@@ -36,7 +36,7 @@ impl BlockReader {
     ghost use Rattle.te_model.specs.Validity.{follows, IsValidHead, IsValidBlock};
     ghost use Rattle.cert_text.specs.Fits.{FitsHead};
     ghost use Rattle.te_ports.specs.Ports.{Rose};
-    ghost use Rattle.te_ports.specs.Record.{Grows};
+    ghost use Rattle.te_ports.specs.Record.{Adds, Read, pass};
     ghost use Rattle.te_ports.specs.Shown.{shown_by};
     ghost use Rattle.block_reader.specs.Answers.{IsWell};
     ghost use Rattle.block_reader.specs.Depots.{ReadsNamed};
@@ -57,16 +57,17 @@ impl BlockReader {
         depot: &mut D,
         name: &str,
     ) -> Result<(BlockReader, Head), StreamFault>
-        ensures head { IfOk result (λ r. HasRead (D.gave depot.new name.now) r.0 r.1 []) }
+        ensures head { IfOk result (λ r. HasRead (pass name.now (D.gave depot.old) (D.gave depot.new)) r.0 r.1 []) }
         ensures valid { IfOk result (λ r. IsValidHead r.1) }
         ensures of_head { IfOk result (λ r. IsReaderOf r.0 r.1) }
         ensures start { IfOk result (λ r. last_link r.0 ≡ None) }
         ensures name { IfOk result (λ r. name_of r.0 ≡ name.now) }
-        ensures refused { (fault : StreamFault) → result ≡ Err fault → IsFaultOf (D.gave depot.new name.now) fault }
+        ensures refused { (fault : StreamFault) → result ≡ Err fault →
+            IsFaultOf (pass name.now (D.gave depot.old) (D.gave depot.new)) fault }
         ensures failed { IsErrOf result StreamFault.Failed → Rose (D.faults depot.old name.now) (D.faults depot.new name.now) }
         ensures steady { result ≢ Err StreamFault.Failed → D.faults depot.new ≡ D.faults depot.old }
         ensures later { (other : List ℕ) → D.faults depot.old other ≤ D.faults depot.new other }
-        ensures kept { Grows (D.gave depot.old) (D.gave depot.new) }
+        ensures added { Adds (D.content depot.old) (D.gave depot.old) (D.gave depot.new) }
         ensures content { D.content depot.new ≡ D.content depot.old }
     {
         let (mut reader, head) = BlockReader::read_head(alloc, depot, name)?;
@@ -82,11 +83,12 @@ impl BlockReader {
         depot: &mut D,
         name: &str,
     ) -> Result<(BlockReader, Head), StreamFault>
-        ensures stands { IfOk result (λ r. AreBehind (D.gave depot.new name.now) r.0.blocks r.1 []) }
+        ensures stands { IfOk result (λ r. AreBehind (pass name.now (D.gave depot.old) (D.gave depot.new)) r.0.blocks r.1 []) }
         ensures fresh { IfOk result (λ r. (noted_fault r.0 ≡ None) × (is_over r.0 ≡ false)) }
         ensures start { IfOk result (λ r. last_link r.0 ≡ None) }
         ensures name { IfOk result (λ r. name_of r.0 ≡ name.now) }
-        ensures refused { (fault : StreamFault) → result ≡ Err fault → IsFaultOf (D.gave depot.new name.now) fault }
+        ensures refused { (fault : StreamFault) → result ≡ Err fault →
+            IsFaultOf (pass name.now (D.gave depot.old) (D.gave depot.new)) fault }
         ensures reads { ReadsNamed (shown_by D.content D.gave D.faults depot.old) (shown_by D.content D.gave D.faults depot.new)
             name.now result }
     {
@@ -107,7 +109,8 @@ impl BlockReader {
         requires well { IsWell lines }
         requires fits { FitsHead (limits_of head.now.format) head.now }
         ensures behind { IfOk result (λ r. IsBehindHead r name.now head.now) }
-        ensures counts { CountsBlocks (D.gave depot.old name.now) (D.gave depot.new name.now) lines head.now result }
+        ensures counts { (before : List Read) → CountsBlocks (pass name.now before (D.gave depot.old))
+            (pass name.now before (D.gave depot.new)) lines head.now result }
         ensures reads { ReadsNamed (shown_by D.content D.gave D.faults depot.old) (shown_by D.content D.gave D.faults depot.new)
             name.now result }
     {
@@ -145,15 +148,15 @@ impl BlockReader {
     /// - `Shape` where it leaves the format;
     /// - `Rule` where it has the right shape, and a rule of the blocks fails.
     pub fn next<D: Depot>(&mut self, depot: &mut D) -> Result<bool, StreamFault>
-        ensures handed { result ≡ Ok true → (head : Head) → (blocks : List Block) →
-            HasRead (D.gave depot.old (name_of self.old)) self.old head blocks →
-            HasRead (D.gave depot.new (name_of self.old)) self.new head (blocks ++ lent_block self.new ∷ []) }
-        ensures whole { result ≡ Ok false → (head : Head) → (blocks : List Block) →
-            HasRead (D.gave depot.old (name_of self.old)) self.old head blocks →
-            IsTextOf (D.gave depot.new (name_of self.old)) head blocks }
-        ensures refused { (fault : StreamFault) → result ≡ Err fault → (head : Head) → (blocks : List Block) →
-            HasRead (D.gave depot.old (name_of self.old)) self.old head blocks →
-            IsFaultOf (D.gave depot.new (name_of self.old)) fault }
+        ensures handed { result ≡ Ok true → (before : List Read) → (head : Head) → (blocks : List Block) →
+            HasRead (pass (name_of self.old) before (D.gave depot.old)) self.old head blocks →
+            HasRead (pass (name_of self.old) before (D.gave depot.new)) self.new head (blocks ++ lent_block self.new ∷ []) }
+        ensures whole { result ≡ Ok false → (before : List Read) → (head : Head) → (blocks : List Block) →
+            HasRead (pass (name_of self.old) before (D.gave depot.old)) self.old head blocks →
+            IsTextOf (pass (name_of self.old) before (D.gave depot.new)) head blocks }
+        ensures refused { (fault : StreamFault) → result ≡ Err fault → (before : List Read) → (head : Head) → (blocks : List Block) →
+            HasRead (pass (name_of self.old) before (D.gave depot.old)) self.old head blocks →
+            IsFaultOf (pass (name_of self.old) before (D.gave depot.new)) fault }
         ensures valid { result ≡ Ok true → (head : Head) → IsReaderOf self.old head → IsValidBlock head (lent_block self.new) }
         ensures ascends { result ≡ Ok true → IsTrue (follows (last_link self.old) (lent_block self.new).link)
             × (last_link self.new ≡ Some (lent_block self.new).link) }
@@ -170,7 +173,7 @@ impl BlockReader {
             (result ≡ Err fault) × (D.faults depot.new ≡ D.faults depot.old) }
         ensures steady { result ≢ Err StreamFault.Failed → D.faults depot.new ≡ D.faults depot.old }
         ensures later { (other : List ℕ) → D.faults depot.old other ≤ D.faults depot.new other }
-        ensures kept { Grows (D.gave depot.old) (D.gave depot.new) }
+        ensures added { Adds (D.content depot.old) (D.gave depot.old) (D.gave depot.new) }
         ensures content { D.content depot.new ≡ D.content depot.old }
         ensures name { name_of self.new ≡ name_of self.old }
     {

@@ -37,6 +37,7 @@ impl Blocks {
     ghost use Rattle.cert_text.specs.Fits.{FitsBlock};
     ghost use Rattle.block_reader.specs.Answers.{IsWell, AnswersPart};
     ghost use Rattle.block_reader.specs.Blocks.{AreBehind, AreOf, IsFaultOf, IsTextOf, IsShapeOf, KeepsRules, IsEarliest, SameRoom, block_in};
+    ghost use Rattle.te_ports.specs.Record.{Read, pass};
     ghost use Rattle.te_ports.specs.Shown.{shown_by};
     ghost use Rattle.block_reader.specs.Depots.{ReadsNamed, ReadsTo};
 
@@ -45,7 +46,8 @@ impl Blocks {
         requires well { IsWell self.old.lines }
         ensures well { OnOk result (IsWell self.new.lines) }
         ensures fits { OnOk result (FitsBlock self.old.room.limits self.old.room.counts self.new.room.block) }
-        ensures answers { AnswersPart (D.gave depot.old (string_bytes self.old.name)) (D.gave depot.new (string_bytes self.old.name))
+        ensures answers { (before : List Read) → AnswersPart (pass (string_bytes self.old.name) before (D.gave depot.old))
+            (pass (string_bytes self.old.name) before (D.gave depot.new))
             self.old.lines self.new.lines (read_block self.old.room.limits narrow_number self.old.room.counts)
             (block_in result self.new.room.block) }
         ensures reads { ReadsNamed (shown_by D.content D.gave D.faults depot.old) (shown_by D.content D.gave D.faults depot.new)
@@ -93,12 +95,12 @@ impl Blocks {
         ensures fault { IfOk result (λ fault. (net : Network) → node_count net ≡ self.old.room.counts.nodes →
             link_count net ≡ self.old.room.counts.links →
             fault ≡ block_fault net self.old.before self.old.place self.new.room.block) }
-        ensures handed { IfOk result (λ fault. (head : Head) → (blocks : List Block) →
-            AreBehind (D.gave depot.old (string_bytes self.old.name)) self.old head blocks →
-            AreBehind (D.gave depot.new (string_bytes self.old.name)) self.new head (blocks ++ self.new.room.block ∷ [])) }
-        ensures refused { (fault : StreamFault) → result ≡ Err fault → (head : Head) → (blocks : List Block) →
-            AreBehind (D.gave depot.old (string_bytes self.old.name)) self.old head blocks →
-            IsFaultOf (D.gave depot.new (string_bytes self.old.name)) fault }
+        ensures handed { IfOk result (λ fault. (before : List Read) → (head : Head) → (blocks : List Block) →
+            AreBehind (pass (string_bytes self.old.name) before (D.gave depot.old)) self.old head blocks →
+            AreBehind (pass (string_bytes self.old.name) before (D.gave depot.new)) self.new head (blocks ++ self.new.room.block ∷ [])) }
+        ensures refused { (fault : StreamFault) → result ≡ Err fault → (before : List Read) → (head : Head) → (blocks : List Block) →
+            AreBehind (pass (string_bytes self.old.name) before (D.gave depot.old)) self.old head blocks →
+            IsFaultOf (pass (string_bytes self.old.name) before (D.gave depot.new)) fault }
         ensures reads { ReadsNamed (shown_by D.content D.gave D.faults depot.old) (shown_by D.content D.gave D.faults depot.new)
             (string_bytes self.old.name) result }
         ensures memory { result ≢ Err StreamFault.Memory }
@@ -115,12 +117,12 @@ impl Blocks {
         requires none { self.old.left ≡ 0 }
         requires well { IsWell self.old.lines }
         ensures well { OnOk result (IsWell self.new.lines) }
-        ensures whole { OnOk result ((head : Head) → (blocks : List Block) →
-            AreBehind (D.gave depot.old (string_bytes self.old.name)) self.old head blocks →
-            IsShapeOf (D.gave depot.new (string_bytes self.old.name)) head blocks) }
-        ensures refused { (fault : StreamFault) → result ≡ Err fault → (head : Head) → (blocks : List Block) →
-            AreBehind (D.gave depot.old (string_bytes self.old.name)) self.old head blocks →
-            IsFaultOf (D.gave depot.new (string_bytes self.old.name)) fault }
+        ensures whole { OnOk result ((before : List Read) → (head : Head) → (blocks : List Block) →
+            AreBehind (pass (string_bytes self.old.name) before (D.gave depot.old)) self.old head blocks →
+            IsShapeOf (pass (string_bytes self.old.name) before (D.gave depot.new)) head blocks) }
+        ensures refused { (fault : StreamFault) → result ≡ Err fault → (before : List Read) → (head : Head) → (blocks : List Block) →
+            AreBehind (pass (string_bytes self.old.name) before (D.gave depot.old)) self.old head blocks →
+            IsFaultOf (pass (string_bytes self.old.name) before (D.gave depot.new)) fault }
         ensures reads { ReadsNamed (shown_by D.content D.gave D.faults depot.old) (shown_by D.content D.gave D.faults depot.new)
             (string_bytes self.old.name) result }
         ensures memory { result ≢ Err StreamFault.Memory }
@@ -139,12 +141,12 @@ impl Blocks {
         first: RuleFault,
     ) -> Result<RuleFault, StreamFault>
         requires well { IsWell self.old.lines }
-        ensures rule { IfOk result (λ rule. (head : Head) → (blocks : List Block) →
-            AreBehind (D.gave depot.old (string_bytes self.old.name)) self.old head blocks →
-            IsEarliest head blocks first → IsFaultOf (D.gave depot.new (string_bytes self.old.name)) (StreamFault.Rule rule)) }
-        ensures refused { (fault : StreamFault) → result ≡ Err fault → (head : Head) → (blocks : List Block) →
-            AreBehind (D.gave depot.old (string_bytes self.old.name)) self.old head blocks →
-            IsFaultOf (D.gave depot.new (string_bytes self.old.name)) fault }
+        ensures rule { IfOk result (λ rule. (before : List Read) → (head : Head) → (blocks : List Block) →
+            AreBehind (pass (string_bytes self.old.name) before (D.gave depot.old)) self.old head blocks →
+            IsEarliest head blocks first → IsFaultOf (pass (string_bytes self.old.name) before (D.gave depot.new)) (StreamFault.Rule rule)) }
+        ensures refused { (fault : StreamFault) → result ≡ Err fault → (before : List Read) → (head : Head) → (blocks : List Block) →
+            AreBehind (pass (string_bytes self.old.name) before (D.gave depot.old)) self.old head blocks →
+            IsFaultOf (pass (string_bytes self.old.name) before (D.gave depot.new)) fault }
         ensures reads { ReadsNamed (shown_by D.content D.gave D.faults depot.old) (shown_by D.content D.gave D.faults depot.new)
             (string_bytes self.old.name) result }
         ensures memory { result ≢ Err StreamFault.Memory }
@@ -162,9 +164,9 @@ impl Blocks {
     /// The fault of a file of which this fault of a rule is the earliest so far.
     pub(crate) fn judge_rest<D: Depot>(&mut self, depot: &mut D, first: RuleFault) -> StreamFault
         requires well { IsWell self.old.lines }
-        ensures refused { (head : Head) → (blocks : List Block) →
-            AreBehind (D.gave depot.old (string_bytes self.old.name)) self.old head blocks → IsEarliest head blocks first →
-            IsFaultOf (D.gave depot.new (string_bytes self.old.name)) result }
+        ensures refused { (before : List Read) → (head : Head) → (blocks : List Block) →
+            AreBehind (pass (string_bytes self.old.name) before (D.gave depot.old)) self.old head blocks → IsEarliest head blocks first →
+            IsFaultOf (pass (string_bytes self.old.name) before (D.gave depot.new)) result }
         ensures reads { ReadsTo (shown_by D.content D.gave D.faults depot.old) (shown_by D.content D.gave D.faults depot.new)
             (string_bytes self.old.name) result }
         ensures memory { result ≢ StreamFault.Memory }
@@ -180,16 +182,16 @@ impl Blocks {
     pub(crate) fn advance<D: Depot>(&mut self, depot: &mut D) -> Result<bool, StreamFault>
         requires well { IsWell self.old.lines }
         ensures well { OnOk result (IsWell self.new.lines) }
-        ensures handed { result ≡ Ok true → (head : Head) → (blocks : List Block) →
-            AreBehind (D.gave depot.old (string_bytes self.old.name)) self.old head blocks → KeepsRules head blocks →
-            AreBehind (D.gave depot.new (string_bytes self.old.name)) self.new head (blocks ++ self.new.room.block ∷ [])
+        ensures handed { result ≡ Ok true → (before : List Read) → (head : Head) → (blocks : List Block) →
+            AreBehind (pass (string_bytes self.old.name) before (D.gave depot.old)) self.old head blocks → KeepsRules head blocks →
+            AreBehind (pass (string_bytes self.old.name) before (D.gave depot.new)) self.new head (blocks ++ self.new.room.block ∷ [])
             × KeepsRules head (blocks ++ self.new.room.block ∷ []) }
-        ensures whole { result ≡ Ok false → (head : Head) → (blocks : List Block) →
-            AreBehind (D.gave depot.old (string_bytes self.old.name)) self.old head blocks → KeepsRules head blocks →
-            IsTextOf (D.gave depot.new (string_bytes self.old.name)) head blocks }
-        ensures refused { (fault : StreamFault) → result ≡ Err fault → (head : Head) → (blocks : List Block) →
-            AreBehind (D.gave depot.old (string_bytes self.old.name)) self.old head blocks → KeepsRules head blocks →
-            IsFaultOf (D.gave depot.new (string_bytes self.old.name)) fault }
+        ensures whole { result ≡ Ok false → (before : List Read) → (head : Head) → (blocks : List Block) →
+            AreBehind (pass (string_bytes self.old.name) before (D.gave depot.old)) self.old head blocks → KeepsRules head blocks →
+            IsTextOf (pass (string_bytes self.old.name) before (D.gave depot.new)) head blocks }
+        ensures refused { (fault : StreamFault) → result ≡ Err fault → (before : List Read) → (head : Head) → (blocks : List Block) →
+            AreBehind (pass (string_bytes self.old.name) before (D.gave depot.old)) self.old head blocks → KeepsRules head blocks →
+            IsFaultOf (pass (string_bytes self.old.name) before (D.gave depot.new)) fault }
         ensures valid { result ≡ Ok true → (head : Head) → AreOf self.old head → IsValidBlock head self.new.room.block }
         ensures ascends { result ≡ Ok true → IsTrue (follows self.old.before self.new.room.block.link) }
         ensures before { result ≡ Ok true → self.new.before ≡ Some self.new.room.block.link }

@@ -29,6 +29,7 @@ pub(crate) struct Lines {
 impl Lines {
     ghost use Rattle.block_reader.specs.Standing.{StandsAt, StandsIn};
     ghost use Rattle.block_reader.specs.Answers.{IsBehind, IsWell, HasEnough, IsClosedBy, PassesFront, IsDrained};
+    ghost use Rattle.te_ports.specs.Record.{Read, pass};
     ghost use Rattle.te_ports.specs.Shown.{shown_by};
     ghost use Rattle.block_reader.specs.Depots.{ReadsNamed, ReadsTo};
 
@@ -42,7 +43,7 @@ impl Lines {
         depot: &mut D,
         name: &str,
     ) -> Result<Lines, StreamFault>
-        ensures behind { IfOk result (λ lines. IsBehind (D.gave depot.new name.now) lines []) }
+        ensures behind { IfOk result (λ lines. IsBehind (pass name.now (D.gave depot.old) (D.gave depot.new)) lines []) }
         ensures line { IfOk result (λ lines. lines.line ≡ 1) }
         ensures well { IfOk result IsWell }
         ensures refused { (fault : StreamFault) → result ≡ Err fault → (fault ≡ StreamFault.Failed) ⊎ (fault ≡ StreamFault.Memory) }
@@ -101,10 +102,10 @@ impl Lines {
     ) -> Result<(), StreamFault>
         requires well { IsWell self.old }
         requires fits { wanted ≤ 1310720 }
-        ensures behind { (passed : List ℕ) → IsBehind (D.gave depot.old name.now) self.old passed →
-            IsBehind (D.gave depot.new name.now) self.new passed }
-        ensures stood { (passed : List ℕ) → IsBehind (D.gave depot.old name.now) self.old passed → (content : List ℕ) →
-            StandsIn content self.new.window passed → StandsIn content self.old.window passed }
+        ensures behind { (before : List Read) → (passed : List ℕ) → IsBehind (pass name.now before (D.gave depot.old)) self.old passed →
+            IsBehind (pass name.now before (D.gave depot.new)) self.new passed }
+        ensures stood { (before : List Read) → (passed : List ℕ) → IsBehind (pass name.now before (D.gave depot.old)) self.old passed →
+            (content : List ℕ) → StandsIn content self.new.window passed → StandsIn content self.old.window passed }
         ensures enough { OnOk result (HasEnough self.new.window wanted) }
         ensures well { OnOk result (IsWell self.new) }
         ensures closed { (fault : StreamFault) → result ≡ Err fault → IsClosedBy self.new.window fault }
@@ -125,8 +126,8 @@ impl Lines {
     // fault then, or to a read that fails.
     fn misshaped<D: Depot>(&mut self, depot: &mut D, name: &str, line: u64) -> StreamFault
         requires well { IsWell self.old }
-        ensures drained { (passed : List ℕ) → IsBehind (D.gave depot.old name.now) self.old passed →
-            IsDrained (D.gave depot.new name.now) self.old.window passed (Stop.Shape line) result }
+        ensures drained { (before : List Read) → (passed : List ℕ) → IsBehind (pass name.now before (D.gave depot.old)) self.old passed →
+            IsDrained (pass name.now before (D.gave depot.new)) self.old.window passed (Stop.Shape line) result }
         ensures room { result ≢ StreamFault.Memory }
         ensures reads { ReadsTo (shown_by D.content D.gave D.faults depot.old) (shown_by D.content D.gave D.faults depot.new)
             name.now result }
@@ -144,8 +145,8 @@ impl Lines {
     /// The fault of a file whose reading stopped.
     pub(crate) fn stopped<D: Depot>(&mut self, depot: &mut D, name: &str, stop: Stop) -> StreamFault
         requires well { IsWell self.old }
-        ensures drained { (passed : List ℕ) → IsBehind (D.gave depot.old name.now) self.old passed →
-            IsDrained (D.gave depot.new name.now) self.old.window passed stop result }
+        ensures drained { (before : List Read) → (passed : List ℕ) → IsBehind (pass name.now before (D.gave depot.old)) self.old passed →
+            IsDrained (pass name.now before (D.gave depot.new)) self.old.window passed stop result }
         ensures memory { result ≡ StreamFault.Memory → stop ≡ Stop.Memory }
         ensures reads { ReadsTo (shown_by D.content D.gave D.faults depot.old) (shown_by D.content D.gave D.faults depot.new)
             name.now result }

@@ -1,5 +1,5 @@
 //! Reading what stands before the blocks, part by part.
-ghost use Rattle.std.specs.Prelude.{◌≡◌, ◌≤◌, length, IfOk, OnOk};
+ghost use Rattle.std.specs.Prelude.{◌≡◌, List, ◌≤◌, length, IfOk, OnOk};
 ghost use Rattle.te_model.specs.Formats.{limits_of};
 ghost use Rattle.cert_text.specs.Reading.{narrow_number, read_many};
 ghost use Rattle.cert_text.specs.Grammar.{read_format, read_pair, read_routes, read_head};
@@ -9,6 +9,7 @@ ghost use Rattle.cert_text.specs.Listed.{IsListOf};
 ghost use Rattle.block_reader.specs.Sizes.{block_size};
 ghost use Rattle.block_reader.specs.Parts.{IsFormat};
 ghost use Rattle.block_reader.specs.Answers.{IsWell, AnswersPart};
+ghost use Rattle.te_ports.specs.Record.{Read, pass};
 ghost use Rattle.te_ports.specs.Shown.{shown_by};
 ghost use Rattle.block_reader.specs.Depots.{ReadsNamed};
 
@@ -45,7 +46,8 @@ pub(crate) fn first_line<D: Depot>(
 ) -> Result<u32, StreamFault>
     requires well { IsWell lines.old }
     ensures well { OnOk result (IsWell lines.new) }
-    ensures answers { AnswersPart (D.gave depot.old name.now) (D.gave depot.new name.now) lines.old lines.new read_format result }
+    ensures answers { (before : List Read) → AnswersPart (pass name.now before (D.gave depot.old))
+        (pass name.now before (D.gave depot.new)) lines.old lines.new read_format result }
     ensures reads { ReadsNamed (shown_by D.content D.gave D.faults depot.old) (shown_by D.content D.gave D.faults depot.new)
         name.now result }
 {
@@ -65,7 +67,8 @@ fn pairs<D: Depot>(
     requires well { IsWell lines.old }
     ensures well { OnOk result (IsWell lines.new) }
     ensures fits { IfOk result (IsListOf count (FitsPair limits.now)) }
-    ensures answers { AnswersPart (D.gave depot.old name.now) (D.gave depot.new name.now) lines.old lines.new
+    ensures answers { (before : List Read) → AnswersPart (pass name.now before (D.gave depot.old))
+        (pass name.now before (D.gave depot.new)) lines.old lines.new
         (read_many count (read_pair limits.now narrow_number)) result }
     ensures reads { ReadsNamed (shown_by D.content D.gave D.faults depot.old) (shown_by D.content D.gave D.faults depot.new)
         name.now result }
@@ -90,7 +93,8 @@ fn routes<D: Depot>(
     requires well { IsWell lines.old }
     ensures well { OnOk result (IsWell lines.new) }
     ensures fits { IfOk result (FitsRoutes limits.now) }
-    ensures answers { AnswersPart (D.gave depot.old name.now) (D.gave depot.new name.now) lines.old lines.new
+    ensures answers { (before : List Read) → AnswersPart (pass name.now before (D.gave depot.old))
+        (pass name.now before (D.gave depot.new)) lines.old lines.new
         (read_routes limits.now narrow_number) result }
     ensures reads { ReadsNamed (shown_by D.content D.gave D.faults depot.old) (shown_by D.content D.gave D.faults depot.new)
         name.now result }
@@ -111,7 +115,8 @@ fn head<D: Depot>(
     requires well { IsWell lines.old }
     ensures well { OnOk result (IsWell lines.new) }
     ensures fits { IfOk result (FitsHead limits.now) }
-    ensures answers { AnswersPart (D.gave depot.old name.now) (D.gave depot.new name.now) lines.old lines.new
+    ensures answers { (before : List Read) → AnswersPart (pass name.now before (D.gave depot.old))
+        (pass name.now before (D.gave depot.new)) lines.old lines.new
         (read_head limits.now narrow_number) result }
     ensures reads { ReadsNamed (shown_by D.content D.gave D.faults depot.old) (shown_by D.content D.gave D.faults depot.new)
         name.now result }
@@ -140,7 +145,8 @@ pub(crate) fn format_and_head<D: Depot>(
     requires well { IsWell lines.old }
     ensures well { OnOk result (IsWell lines.new) }
     ensures fits { IfOk result (λ x. FitsHead (limits_of x.format) x) }
-    ensures answers { AnswersPart (D.gave depot.old name.now) (D.gave depot.new name.now) lines.old lines.new
+    ensures answers { (before : List Read) → AnswersPart (pass name.now before (D.gave depot.old))
+        (pass name.now before (D.gave depot.new)) lines.old lines.new
         (read_format_and_head narrow_number) result }
     ensures reads { ReadsNamed (shown_by D.content D.gave D.faults depot.old) (shown_by D.content D.gave D.faults depot.new)
         name.now result }

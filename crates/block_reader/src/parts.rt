@@ -10,6 +10,7 @@ ghost use Rattle.block_reader.specs.Ahead.{with_no_value};
 ghost use Rattle.block_reader.specs.Sizes.{format_size, network_size, count_size, pair_size, set_size, ratio_size};
 ghost use Rattle.block_reader.specs.Parts.{IsFormat, IsReadablePart};
 ghost use Rattle.block_reader.specs.Answers.{IsBehind, PassesFront, IsWell, AnswersPart, StopsAs, IsClosed, place_of};
+ghost use Rattle.te_ports.specs.Record.{Read, pass};
 ghost use Rattle.te_ports.specs.Shown.{shown_by};
 ghost use Rattle.block_reader.specs.Depots.{ReadsNamed};
 
@@ -81,7 +82,8 @@ pub(crate) fn read_part<D: Depot, P: Part>(
     requires well { IsWell lines.old }
     ensures well { OnOk result (IsWell lines.new) }
     ensures fits { IfOk result (P.Fits part.now) }
-    ensures answers { AnswersPart (D.gave depot.old name.now) (D.gave depot.new name.now) lines.old lines.new (P.at part.now) result }
+    ensures answers { (before : List Read) → AnswersPart (pass name.now before (D.gave depot.old))
+        (pass name.now before (D.gave depot.new)) lines.old lines.new (P.at part.now) result }
     ensures reads { ReadsNamed (shown_by D.content D.gave D.faults depot.old) (shown_by D.content D.gave D.faults depot.new)
         name.now result }
 {
@@ -292,11 +294,11 @@ pub(crate) fn close<D: Depot>(
 ) -> Result<(), StreamFault>
     requires well { IsWell lines.old }
     ensures well { OnOk result (IsWell lines.new) }
-    ensures closes { OnOk result ((passed : List ℕ) → IsBehind (D.gave depot.old name.now) lines.old passed →
-        IsClosed (D.gave depot.new name.now) lines.old passed) }
-    ensures stops { (fault : StreamFault) → result ≡ Err fault → (passed : List ℕ) →
-        IsBehind (D.gave depot.old name.now) lines.old passed →
-        StopsAs (D.gave depot.new name.now) lines.old passed (with_no_value read_closing) fault }
+    ensures closes { OnOk result ((before : List Read) → (passed : List ℕ) → IsBehind (pass name.now before (D.gave depot.old)) lines.old passed →
+        IsClosed (pass name.now before (D.gave depot.new)) lines.old passed) }
+    ensures stops { (fault : StreamFault) → result ≡ Err fault → (before : List Read) → (passed : List ℕ) →
+        IsBehind (pass name.now before (D.gave depot.old)) lines.old passed →
+        StopsAs (pass name.now before (D.gave depot.new)) lines.old passed (with_no_value read_closing) fault }
     ensures room { result ≢ Err StreamFault.Memory }
     ensures reads { ReadsNamed (shown_by D.content D.gave D.faults depot.old) (shown_by D.content D.gave D.faults depot.new)
         name.now result }

@@ -2,7 +2,7 @@
 ghost use Rattle.std.specs.Prelude.{◌≡◌, ◌≢◌, ◌≤◌, ◌<◌, ◌+◌, ◌-◌, ◌⊎◌, ◌^◌, ℕ, List, [], ◌++◌, length, take, drop, vec_len, IfOk, OnErr, true, false};
 ghost use Rattle.te_ports.specs.Ports.{Rose, Told};
 ghost use Rattle.te_ports.specs.Limit.{IsLimit};
-ghost use Rattle.te_ports.specs.Record.{Grows};
+ghost use Rattle.te_ports.specs.Record.{Adds, Read, pass};
 ghost use Rattle.block_reader.specs.declared.window.State.{State};
 ghost use Rattle.block_reader.specs.Fetching.{state_after};
 
@@ -92,7 +92,7 @@ impl Window {
         requires some { 1 ≤ room }
         requires fits { wanted ≤ room }
         requires least { room ≤ L.allowed limit.now [] }
-        ensures stands { IfOk result (λ w. StandsAt (D.gave depot.new name.now) w []) }
+        ensures stands { IfOk result (λ w. StandsAt (pass name.now (D.gave depot.old) (D.gave depot.new)) w []) }
         ensures told { IfOk result (λ w. Told (D.content depot.old name.now) (λ told. StandsIn told w [])) }
         ensures limit { IfOk result (λ w. limit_of w ≡ L.allowed limit.now (ready w)) }
         ensures enough { IfOk result (λ w. state_of w ≡ State.Open → wanted ≤ length (ready w)) }
@@ -103,7 +103,7 @@ impl Window {
         ensures steady { IfOk result (λ w. state_of w ≢ State.Failed → D.faults depot.new ≡ D.faults depot.old) }
         ensures memory { OnErr result (D.faults depot.new ≡ D.faults depot.old) }
         ensures later { (other : List ℕ) → D.faults depot.old other ≤ D.faults depot.new other }
-        ensures kept { Grows (D.gave depot.old) (D.gave depot.new) }
+        ensures added { Adds (D.content depot.old) (D.gave depot.old) (D.gave depot.new) }
         ensures content { D.content depot.new ≡ D.content depot.old }
     {
         let mut window = Window::new(alloc, room, limit.allowed(&[]))?;
@@ -201,8 +201,8 @@ impl Window {
     fn fetch<D: Depot>(&mut self, depot: &mut D, name: &str)
         requires is_open { state_of self.old ≡ State.Open }
         requires space { self.old.end < vec_len self.old.bytes }
-        ensures stands { (passed : List ℕ) → StandsAt (D.gave depot.old name.now) self.old passed →
-            StandsAt (D.gave depot.new name.now) self.new passed }
+        ensures stands { (before : List Read) → (passed : List ℕ) → StandsAt (pass name.now before (D.gave depot.old)) self.old passed →
+            StandsAt (pass name.now before (D.gave depot.new)) self.new passed }
         ensures told { Told (D.content depot.old name.now) (λ told. (passed : List ℕ) →
             StandsIn told self.old passed → StandsIn told self.new passed) }
         ensures behind { (more : List ℕ) × (ready self.new ≡ ready self.old ++ more) }
@@ -215,7 +215,7 @@ impl Window {
             Rose (D.faults depot.old name.now) (D.faults depot.new name.now) }
         ensures steady { state_of self.new ≢ State.Failed → D.faults depot.new ≡ D.faults depot.old }
         ensures later { (other : List ℕ) → D.faults depot.old other ≤ D.faults depot.new other }
-        ensures kept { Grows (D.gave depot.old) (D.gave depot.new) }
+        ensures added { Adds (D.content depot.old) (D.gave depot.old) (D.gave depot.new) }
         ensures content { D.content depot.new ≡ D.content depot.old }
     {
         let space = self.space();
@@ -240,8 +240,8 @@ impl Window {
     /// after a read that failed.
     pub fn fill<D: Depot>(&mut self, depot: &mut D, name: &str, wanted: usize)
         requires { wanted ≤ room_of self.old }
-        ensures stands { (passed : List ℕ) → StandsAt (D.gave depot.old name.now) self.old passed →
-            StandsAt (D.gave depot.new name.now) self.new passed }
+        ensures stands { (before : List Read) → (passed : List ℕ) → StandsAt (pass name.now before (D.gave depot.old)) self.old passed →
+            StandsAt (pass name.now before (D.gave depot.new)) self.new passed }
         ensures told { Told (D.content depot.old name.now) (λ told. (passed : List ℕ) →
             StandsIn told self.old passed → StandsIn told self.new passed) }
         ensures enough { state_of self.new ≡ State.Open → wanted ≤ length (ready self.new) }
@@ -255,7 +255,7 @@ impl Window {
         ensures steady { (state_of self.new ≢ State.Failed) ⊎ (state_of self.old ≢ State.Open) →
             D.faults depot.new ≡ D.faults depot.old }
         ensures later { (other : List ℕ) → D.faults depot.old other ≤ D.faults depot.new other }
-        ensures kept { Grows (D.gave depot.old) (D.gave depot.new) }
+        ensures added { Adds (D.content depot.old) (D.gave depot.old) (D.gave depot.new) }
         ensures content { D.content depot.new ≡ D.content depot.old }
     {
         if self.state != State::Open {
@@ -271,8 +271,8 @@ impl Window {
 
     /// Goes past all that is left of the file, to its end, past its limit, or to a read that fails.
     pub fn drain<D: Depot>(&mut self, depot: &mut D, name: &str)
-        ensures stands { (passed : List ℕ) → StandsAt (D.gave depot.old name.now) self.old passed →
-            (more : List ℕ) × StandsAt (D.gave depot.new name.now) self.new (passed ++ more) }
+        ensures stands { (before : List Read) → (passed : List ℕ) → StandsAt (pass name.now before (D.gave depot.old)) self.old passed →
+            (more : List ℕ) × StandsAt (pass name.now before (D.gave depot.new)) self.new (passed ++ more) }
         ensures told { Told (D.content depot.old name.now) (λ told. (passed : List ℕ) → StandsIn told self.old passed →
             (more : List ℕ) × StandsIn told self.new (passed ++ more)) }
         ensures none { ready self.new ≡ [] }
@@ -287,7 +287,7 @@ impl Window {
         ensures steady { (state_of self.new ≢ State.Failed) ⊎ (state_of self.old ≢ State.Open) →
             D.faults depot.new ≡ D.faults depot.old }
         ensures later { (other : List ℕ) → D.faults depot.old other ≤ D.faults depot.new other }
-        ensures kept { Grows (D.gave depot.old) (D.gave depot.new) }
+        ensures added { Adds (D.content depot.old) (D.gave depot.old) (D.gave depot.new) }
         ensures content { D.content depot.new ≡ D.content depot.old }
     {
         self.clear();

@@ -279,16 +279,19 @@ impl Seek for SlowFile<'_> {
 #[derive(Drop)]
 struct OneFile<'a> {
     file: OpenFile<SlowFile<'a>>,
+    log: Log,
 }
 
 impl Disk for OneFile<'_> {
-    ghost answers = { λ _ _ _ _ _ _. Unit {0} };
+    ghost calls = { λ d. d.log.calls };
 
-    fn read_once(&mut self, _name: &str, at: u64, buf: &mut [u8]) -> Result<usize, SystemFault> {
-        match self.file.read_at(at, buf) {
+    fn read_once(&mut self, name: &str, at: u64, buf: &mut [u8]) -> Result<usize, SystemFault> {
+        let answer = match self.file.read_at(at, buf) {
             Ok(count) => Ok(count),
             Err(error) => Err(SystemFault::from(error)),
-        }
+        };
+        self.log = self.log.then(&read_call(name, at, buf, &answer));
+        answer
     }
 }
 
@@ -323,7 +326,10 @@ impl Case for Interrupted {
             seeks: &seeks,
         };
         let file = OpenFile::new(String::new(alloc), file);
-        let mut depot = RealDepot::over(OneFile { file });
+        let mut depot = RealDepot::over(OneFile {
+            file,
+            log: Log::new(),
+        });
         loads_twice(alloc, &mut depot, &seeks, self)
     }
 }

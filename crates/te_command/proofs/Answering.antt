@@ -5,7 +5,7 @@ use Rattle.std.specs.declared.alloc.Global.{Global}
 use Rattle.te_ports.specs.Ports.{Rose}
 use Rattle.te_command.specs.declared.answer.Answer.{Answer}
 use Rattle.te_command.specs.declared.answer.Answer.TheVariants.{Done, No, NoPath}
-use Rattle.te_command.specs.Files.{Files, given_files, told_files, known_files}
+use Rattle.te_command.specs.Files.{Files, Span, given_files, told_files, known_files}
 use Rattle.te_command.specs.Reading.{Means, MeansStatus, IsTold, ReadFailed}
 use Rattle.te_command.specs.Commands.{Command, command_of, reading_of}
 use Rattle.te_command.specs.Form.{MayAnswer}
@@ -29,11 +29,11 @@ of_asked P asked words is holds command named = subst P (asked_is (command_of wo
     asked_is : (o : Option Command) (x y : Command) → Some x ≡ o → o ≡ Some y → x ≡ y
     asked_is o x y p q = cc
 
-known_means : (asked : Command) (content : List ℕ → Option (List ℕ)) (gave : List ℕ → ℕ → List ℕ → Type 0) (s : ℕ) (text : List ℕ) → Agrees content gave →
+known_means : (asked : Command) (content : List ℕ → Option (List ℕ)) (gave : Span) (s : ℕ) (text : List ℕ) → Agrees content gave →
     Means (reading_of asked) (given_files gave) s text → Means (reading_of asked) (known_files gave content) s text
 known_means asked content gave s text agrees = means_along (reading_of asked) (given_files gave) (known_files gave content) s text (regular asked) (given_is_known content gave agrees)
 
-told_means : (asked : Command) (content : List ℕ → Option (List ℕ)) (gave : List ℕ → ℕ → List ℕ → Type 0) (s : ℕ) (text : List ℕ) → Agrees content gave →
+told_means : (asked : Command) (content : List ℕ → Option (List ℕ)) (gave : Span) (s : ℕ) (text : List ℕ) → Agrees content gave →
     Means (reading_of asked) (given_files gave) s text → IsTold (reading_of asked) content → Means (reading_of asked) (told_files content) s text
 told_means asked content gave s text agrees means is =
     means_told (reading_of asked) content gave s text is (known_means asked content gave s text agrees means)
@@ -59,7 +59,7 @@ at_each_status words files result out err of = record {
 }
 
 -- what reads gave, of any depot
-pub answer_given : (asked : Command) (words : List (List ℕ)) (content : List ℕ → Option (List ℕ)) (gave : List ℕ → ℕ → List ℕ → Type 0) (answer : Answer) (result : ℕ)
+pub answer_given : (asked : Command) (words : List (List ℕ)) (content : List ℕ → Option (List ℕ)) (gave : Span) (answer : Answer) (result : ℕ)
     (out err : Change) → IsAsked asked words → Agrees content gave → Delivers result (status_of answer) (answer_text answer) out err →
     Means (reading_of asked) (given_files gave) (status_of answer) (answer_text answer) →
     AnsweredBy words (known_files gave content) result out err
@@ -70,14 +70,14 @@ answer_given asked words content gave answer result out err is agrees delivered 
     (λ text. proved (MayAnswer asked) (reading_of asked) (known_files gave content) text (sound asked))
     (known_means asked content gave _ _ agrees means)))
 
-pub refusal_given : (asked : Command) (words : List (List ℕ)) (content : List ℕ → Option (List ℕ)) (gave : List ℕ → ℕ → List ℕ → Type 0) (line : List ℕ)
+pub refusal_given : (asked : Command) (words : List (List ℕ)) (content : List ℕ → Option (List ℕ)) (gave : Span) (line : List ℕ)
     (err : Change) → IsAsked asked words → Agrees content gave → Says err line → Means (reading_of asked) (given_files gave) 3 line →
     SaysMeant words (known_files gave content) 3 err
 refusal_given asked words content gave line err is agrees says means =
     of_asked (λ k. SaysSome (Means (reading_of k) (known_files gave content) 3) err) asked words is (line, known_means asked content gave 3 line agrees means, says)
 
 -- and of told files
-pub answer_told : (asked : Command) (words : List (List ℕ)) (content : List ℕ → Option (List ℕ)) (gave : List ℕ → ℕ → List ℕ → Type 0) (answer : Answer) (result : ℕ)
+pub answer_told : (asked : Command) (words : List (List ℕ)) (content : List ℕ → Option (List ℕ)) (gave : Span) (answer : Answer) (result : ℕ)
     (out err : Change) → IsAsked asked words → Agrees content gave → Delivers result (status_of answer) (answer_text answer) out err →
     Means (reading_of asked) (given_files gave) (status_of answer) (answer_text answer) →
     OfToldCommand words content (λ command. Answered (reading_of command) (told_files content) result out err)
@@ -87,7 +87,7 @@ answer_told asked words content gave answer result out err is agrees delivered m
     (λ text. proved (MayAnswer asked) (reading_of asked) (told_files content) text (sound asked))
     (told_means asked content gave _ _ agrees means tells))
 
-pub refusal_told : (asked : Command) (words : List (List ℕ)) (content : List ℕ → Option (List ℕ)) (gave : List ℕ → ℕ → List ℕ → Type 0) (line : List ℕ)
+pub refusal_told : (asked : Command) (words : List (List ℕ)) (content : List ℕ → Option (List ℕ)) (gave : Span) (line : List ℕ)
     (out err : Change) → IsAsked asked words → Agrees content gave → Says err line → Means (reading_of asked) (given_files gave) 3 line →
     OfToldCommand words content (λ command. Answered (reading_of command) (told_files content) 3 out err)
 refusal_told asked words content gave line out err is agrees says means =
@@ -101,7 +101,7 @@ no_refusal (No line) is = omega (arith, is)
 no_refusal (NoPath line) is = omega (arith, is)
 
 -- the form of an answer
-pub answer_form : (asked : Command) (words : List (List ℕ)) (gave : List ℕ → ℕ → List ℕ → Type 0) (answer : Answer) (result : ℕ)
+pub answer_form : (asked : Command) (words : List (List ℕ)) (gave : Span) (answer : Answer) (result : ℕ)
     (out err : Change) → IsAsked asked words → Delivers result (status_of answer) (answer_text answer) out err →
     Means (reading_of asked) (given_files gave) (status_of answer) (answer_text answer) → OfCommand words (λ command. HasForm command result out err)
 answer_form asked words gave answer result out err is delivered means =
@@ -115,7 +115,7 @@ one_status asked content s status text means is =
     status_once (MayAnswer asked) (reading_of asked) content s status (regular asked) (sound asked)
     (status_of_text (MayAnswer asked) (reading_of asked) (told_files content) s text (sound asked) means) is
 
-pub answer_exact : (asked : Command) (words : List (List ℕ)) (content : List ℕ → Option (List ℕ)) (gave : List ℕ → ℕ → List ℕ → Type 0) (answer : Answer) (result : ℕ)
+pub answer_exact : (asked : Command) (words : List (List ℕ)) (content : List ℕ → Option (List ℕ)) (gave : Span) (answer : Answer) (result : ℕ)
     (out err : Change) → IsAsked asked words → Agrees content gave → Delivers result (status_of answer) (answer_text answer) out err →
     Means (reading_of asked) (given_files gave) (status_of answer) (answer_text answer) →
     OfToldCommand words content (λ command. (status : ℕ) → MeansStatus (reading_of command) (told_files content) status →
@@ -126,7 +126,7 @@ answer_exact asked words content gave answer result out err is agrees delivered 
     (λ tells status meant. exact answer result status out err delivered
     (one_status asked content _ status _ (told_means asked content gave _ _ agrees means tells) meant))
 
-pub refusal_exact : (asked : Command) (words : List (List ℕ)) (content : List ℕ → Option (List ℕ)) (gave : List ℕ → ℕ → List ℕ → Type 0) (line : List ℕ) →
+pub refusal_exact : (asked : Command) (words : List (List ℕ)) (content : List ℕ → Option (List ℕ)) (gave : Span) (line : List ℕ) →
     IsAsked asked words → Agrees content gave → Means (reading_of asked) (given_files gave) 3 line →
     OfToldCommand words content (λ command. (status : ℕ) → MeansStatus (reading_of command) (told_files content) status →
     IsOrFails 3 status)
@@ -136,7 +136,7 @@ refusal_exact asked words content gave line is agrees means =
     (λ tells status meant. inl (one_status asked content 3 status line (told_means asked content gave 3 line agrees means tells) meant))
 
 -- and its text
-pub answer_complete : (asked : Command) (words : List (List ℕ)) (content : List ℕ → Option (List ℕ)) (gave : List ℕ → ℕ → List ℕ → Type 0) (Fails : List ℕ → Type 0)
+pub answer_complete : (asked : Command) (words : List (List ℕ)) (content : List ℕ → Option (List ℕ)) (gave : Span) (Fails : List ℕ → Type 0)
     (answer : Answer) (result : ℕ) (out err : Change) → IsAsked asked words → Agrees content gave → Delivers result (status_of answer) (answer_text answer) out err →
     Means (reading_of asked) (given_files gave) (status_of answer) (answer_text answer) →
     OfToldCommand words content (λ command. (status : ℕ) → MeansStatus (reading_of command) (told_files content) status →
@@ -150,7 +150,7 @@ answer_complete asked words content gave Fails answer result out err is agrees d
     let at = told_means asked content gave _ _ agrees means tells in
     complete (Means (reading_of asked) (told_files content)) answer result status out err delivered (one_status asked content _ status _ at meant) at steady)
 
-pub refusal_complete : (asked : Command) (words : List (List ℕ)) (content : List ℕ → Option (List ℕ)) (gave : List ℕ → ℕ → List ℕ → Type 0) (Fails : List ℕ → Type 0)
+pub refusal_complete : (asked : Command) (words : List (List ℕ)) (content : List ℕ → Option (List ℕ)) (gave : Span) (Fails : List ℕ → Type 0)
     (line : List ℕ) (out : Change) → IsAsked asked words → Agrees content gave → Means (reading_of asked) (given_files gave) 3 line →
     OfToldCommand words content (λ command. (status : ℕ) → MeansStatus (reading_of command) (told_files content) status →
     ¬ ReadFailed (reading_of command) (told_files content) Fails → ¬ Rose out.before out.now →
@@ -164,14 +164,14 @@ refusal_complete asked words content gave Fails line out is agrees means =
     inl (at, λ small. absurd (omega (arith, at, small))))
 
 -- a failed read
-pub failed_given : (asked : Command) (words : List (List ℕ)) (content : List ℕ → Option (List ℕ)) (gave : List ℕ → ℕ → List ℕ → Type 0) (Fails : List ℕ → Type 0) →
+pub failed_given : (asked : Command) (words : List (List ℕ)) (content : List ℕ → Option (List ℕ)) (gave : Span) (Fails : List ℕ → Type 0) →
     IsAsked asked words → Agrees content gave → ReadFailed (reading_of asked) (given_files gave) Fails →
     OfCommand words (λ command. ReadFailed (reading_of command) (known_files gave content) Fails)
 failed_given asked words content gave Fails is agrees failed =
     of_asked (λ k. ReadFailed (reading_of k) (known_files gave content) Fails) asked words is
     (failed_along (reading_of asked) (given_files gave) (known_files gave content) Fails (given_is_known content gave agrees) failed)
 
-pub failed_complete : (asked : Command) (words : List (List ℕ)) (content : List ℕ → Option (List ℕ)) (gave : List ℕ → ℕ → List ℕ → Type 0) (Fails : List ℕ → Type 0)
+pub failed_complete : (asked : Command) (words : List (List ℕ)) (content : List ℕ → Option (List ℕ)) (gave : Span) (Fails : List ℕ → Type 0)
     (out : Change) → IsAsked asked words → Agrees content gave → ReadFailed (reading_of asked) (given_files gave) Fails →
     OfToldCommand words content (λ command. (status : ℕ) → MeansStatus (reading_of command) (told_files content) status →
     ¬ ReadFailed (reading_of command) (told_files content) Fails → ¬ Rose out.before out.now →

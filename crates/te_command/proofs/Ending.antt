@@ -31,7 +31,7 @@ pub record IsSound (Form : ℕ → List ℕ → Type 0) (a : Answers) : Type 0 w
 
 -- what the text at status 0 proves
 pub proved : (Form : ℕ → List ℕ → Type 0) (r : Reading) (files : Files) (text : List ℕ) → AtEnd r (IsSound Form) → Means r files 0 text → Proves r files text
-proved Form (answers a) files text sound means = sound.proves text means
+proved Form (answers a) files text sound means = (means, sound.proves text means)
 proved Form (reads A kind file next) files text sound (inl x) = absurd (omega (arith, x.0))
 proved Form (reads A kind file next) files text sound (inr (value, gives, later)) =
     (value, gives, proved Form (next value) files text (sound gives.0 value gives.3) later)

@@ -1,24 +1,25 @@
 -- How a file that is read one block at a time gives its certificate, or is refused.
-use Rattle.std.proofs.Common.{◌≡◌, ℕ, ◌+◌, List, [], ◌∷◌, ◌++◌, ◌≤◌, Option, Some, None, Result, Ok, Err, inl, inr, refl, sym, ap, ◌∙◌, subst, arith, rules, tests}
+use Rattle.std.proofs.Common.{◌≡◌, ℕ, ◌+◌, List, [], ◌∷◌, ◌++◌, ◌≤◌, ◌⊎◌, Option, Some, None, Result, Ok, Err, inl, inr, refl, sym, ap, ◌∙◌, subst, arith, rules, tests}
 use Rattle.std.specs.Bool.{IsTrue}
 use Rattle.te_ports.specs.Ports.{Rose}
+use Rattle.te_ports.specs.Record.{Read as FileRead, Pass, pass, IsRead, IsReadPastAllowed}
 use Rattle.te_model.specs.declared.certificate.Block.{Block}
-use Rattle.te_model.specs.declared.certificate.Certificate.{Certificate}
 use Rattle.te_model.specs.declared.certificate.Head.{Head}
 use Rattle.te_model.specs.Validity.{IsValidBlock, follows}
 use Rattle.block_reader.specs.declared.block_reader.BlockReader.{BlockReader}
 use Rattle.block_reader.specs.declared.stream_fault.StreamFault.{StreamFault}
 use Rattle.block_reader.specs.declared.stream_fault.StreamFault.TheVariants as faults
-use Rattle.block_reader.specs.Blocks.{HasRead, IsReaderOf, IsTextOf, name_of, lent_block, last_link}
+use Rattle.block_reader.specs.Blocks.{HasRead, IsReaderOf, IsTextOf, IsFaultOf, name_of, lent_block, last_link, noted_fault}
 use Rattle.ratio_checker.specs.declared.feed.Feed.{Feed}
 use Rattle.ratio_checker.specs.Feeds.{StandsFor, head_of_feed, next_link}
 use Rattle.te_command.specs.declared.answer.Fault.{Fault}
 use Rattle.te_command.specs.declared.answer.Fault.TheVariants.{Refused, Read, Memory}
 use Rattle.te_command.specs.CertificateFile.{certificates, shape_reason, rule_reason}
 use Rattle.te_ports.specs.Shown.{Shown}
-use Rattle.te_command.specs.Outcome.{KeepsDepot, ReadsFile, OnRead}
+use Rattle.te_command.specs.Outcome.{KeepsDepot, ReadsFile}
 use Rattle.te_command.specs.Blocks.{IsFed, IsFedWhole, ReadsOn, IsAnswerTo, FeedsFile, link_after}
-use Rattle.te_command.proofs.Following.{both}
+use Rattle.te_command.specs.Files.{span, Among}
+use Rattle.te_command.proofs.Following.{both, begins_itself}
 
 follows_after : (before : Option ℕ) (link : ℕ) → IsTrue (follows before link) → link_after before ≤ link
 follows_after None link is = omega arith
@@ -32,20 +33,10 @@ ok_read x e = cc
 pub record StandsFed (file : List ℕ) (old new : Shown) (reader : BlockReader) (feed : Feed) : Type 0 where
   pub head : Head
   pub blocks : List Block
-  pub fed : IsFed (new.gave file) reader feed head blocks
+  pub fed : IsFed (pass file old.gave new.gave) reader feed head blocks
   pub named : name_of reader ≡ file
   pub steady : new.faults ≡ old.faults
   pub may : KeepsDepot old new
-
--- before the blocks the feed was given the head
-pub fed_head : (gave : List ℕ → ℕ → List ℕ → Type 0) (file : List ℕ) (reader : BlockReader) (feed : Feed) (head : Head) →
-    HasRead (gave file) reader head [] → name_of reader ≡ file → last_link reader ≡ None → StandsFor feed head [] → head_of_feed feed ≡ head →
-    next_link feed ≡ 0 → IsFed (gave (name_of reader)) reader feed (head_of_feed feed) []
-fed_head gave file reader feed head read named start stands same next = record {
-  read = subst (λ f. HasRead (gave f) reader (head_of_feed feed) []) (sym named) (subst (λ h. HasRead (gave file) reader h []) (sym same) read);
-  fed = subst (λ h. StandsFor feed h []) (sym same) stands;
-  next = next ∙ sym (ap link_after start);
-}
 
 -- the block that was read is valid
 pub fed_valid : (file : List ℕ) (old mid : Shown) (reader next : BlockReader) (feed : Feed) (block : Block) → StandsFed file old mid reader feed →
@@ -57,8 +48,8 @@ fed_valid file old mid reader next feed block s valid same =
 -- the same after one block more
 pub fed_more : (file : List ℕ) (old mid new : Shown) (reader next : BlockReader) (feed more : Feed) (block : Block) →
     StandsFed file old mid reader feed →
-    ((head : Head) (blocks : List Block) → HasRead (mid.gave (name_of reader)) reader head blocks →
-    HasRead (new.gave (name_of reader)) next head (blocks ++ lent_block next ∷ [])) →
+    ((before : List FileRead) (head : Head) (blocks : List Block) → HasRead (pass (name_of reader) before mid.gave) reader head blocks →
+    HasRead (pass (name_of reader) before new.gave) next head (blocks ++ lent_block next ∷ [])) →
     ((head : Head) (blocks : List Block) → StandsFor feed head blocks → StandsFor more head (blocks ++ block ∷ [])) →
     block ≡ lent_block next → last_link next ≡ Some (lent_block next).link → next_link more ≡ block.link + 1 →
     name_of next ≡ name_of reader → new.faults ≡ mid.faults → KeepsDepot mid new → StandsFed file old new next more
@@ -66,8 +57,8 @@ fed_more file old mid new reader next feed more block s handed given same last f
   head = s.head;
   blocks = s.blocks ++ lent_block next ∷ [];
   fed = record {
-    read = subst (λ f. HasRead (new.gave f) next s.head (s.blocks ++ lent_block next ∷ [])) s.named
-        (handed s.head s.blocks (subst (λ f. HasRead (mid.gave f) reader s.head s.blocks) (sym s.named) s.fed.read));
+    read = subst (λ f. HasRead (pass f old.gave new.gave) next s.head (s.blocks ++ lent_block next ∷ [])) s.named
+        (handed old.gave s.head s.blocks (subst (λ f. HasRead (pass f old.gave mid.gave) reader s.head s.blocks) (sym s.named) s.fed.read));
     fed = subst (λ b. StandsFor more s.head (s.blocks ++ b ∷ [])) same (given s.head s.blocks s.fed.fed);
     next = follows ∙ ap (λ b. b.link + 1) same ∙ sym (ap link_after last);
   };
@@ -84,7 +75,7 @@ may_follow reader next feed block at same above =
 
 -- the file was read to its end
 pub fed_on : (file : List ℕ) (old mid new : Shown) (reader : BlockReader) (feed : Feed) → StandsFed file old mid reader feed →
-    new.faults ≡ mid.faults → KeepsDepot mid new → ReadsOn {A = Unit {0}} file old new (Ok tt)
+    new.faults ≡ mid.faults → KeepsDepot mid new → ReadsOn {A = Feed} file old new (Ok feed)
 fed_on file old mid new reader feed s steady may = record {
   refused = λ fault is. absurd (cc);
   failed = λ is. absurd (cc);
@@ -92,33 +83,67 @@ fed_on file old mid new reader feed s steady may = record {
   may = both old mid new s.may may;
 }
 
+-- or reading of it stopped
+none_or_failed : (o : Option StreamFault) → o ≡ None → o ≡ Some faults.Failed → ⊥
+none_or_failed o none failed = cc
+
+same_fault : {A B : Type 0} (f t : StreamFault) → ◌≡◌ {A = Result A StreamFault} (Err f) (Err t) → ◌≡◌ {A = Result B StreamFault} (Err f) (Err t)
+same_fault f t is = let same : f ≡ t = cc in ap (λ x. Err x) same
+
+pub fed_stops : {A B : Type 0} (file : List ℕ) (old mid new : Shown) (reader : BlockReader) (feed : Feed) (fault : StreamFault) →
+    StandsFed file old mid reader feed →
+    ((before : List FileRead) (head : Head) (blocks : List Block) → HasRead (pass (name_of reader) before mid.gave) reader head blocks →
+    IsFaultOf (pass (name_of reader) before new.gave) fault) →
+    (◌≡◌ {A = Result A StreamFault} (Err fault) (Err faults.Failed) → (noted_fault reader ≡ Some faults.Failed) ⊎ Rose (mid.faults (name_of reader)) (new.faults (name_of reader))) →
+    ((◌≡◌ {A = Result A StreamFault} (Err fault) (Err faults.Failed) → ⊥) → new.faults ≡ mid.faults) → KeepsDepot mid new →
+    ReadsOn {A = B} file old new (Err fault)
+fed_stops {A} {B} file old mid new reader feed fault s refused failed steady may = record {
+  refused = λ other is.
+      let same : fault ≡ other = cc in
+      subst (IsFaultOf (pass file old.gave new.gave)) same
+      (subst (λ f. IsFaultOf (pass f old.gave new.gave) fault) s.named
+      (refused old.gave s.head s.blocks (subst (λ f. HasRead (pass f old.gave mid.gave) reader s.head s.blocks) (sym s.named) s.fed.read)));
+  failed = λ is. rose (failed (same_fault {A = B} {B = A} fault faults.Failed is));
+  steady = λ other. steady (λ is. other (same_fault {A = A} {B = B} fault faults.Failed is)) ∙ s.steady;
+  may = both old mid new s.may may;
+}
+  where
+    rose : (noted_fault reader ≡ Some faults.Failed) ⊎ Rose (mid.faults (name_of reader)) (new.faults (name_of reader)) → Rose (old.faults file) (new.faults file)
+    rose (inl noted) = absurd (none_or_failed (noted_fault reader) s.fed.read.no_fault noted)
+    rose (inr up) = subst (λ (b : List ℕ → ℕ). Rose (b file) (new.faults file)) s.steady (subst (λ f. Rose (mid.faults f) (new.faults f)) s.named up)
+
 -- at the end of the file the feed was given a certificate
 pub fed_whole : (file : List ℕ) (old mid new : Shown) (reader : BlockReader) (feed : Feed) → StandsFed file old mid reader feed →
-    ((head : Head) (blocks : List Block) → HasRead (mid.gave (name_of reader)) reader head blocks →
-    IsTextOf (new.gave (name_of reader)) head blocks) →
-    IsFedWhole (new.gave file) feed
+    ((before : List FileRead) (head : Head) (blocks : List Block) → HasRead (pass (name_of reader) before mid.gave) reader head blocks →
+    IsTextOf (pass (name_of reader) before new.gave) head blocks) →
+    IsFedWhole (pass file old.gave new.gave) feed
 fed_whole file old mid new reader feed s whole = (
   s.head,
   s.blocks,
   s.fed.fed,
-  subst (λ f. IsTextOf (new.gave f) s.head s.blocks) s.named
-      (whole s.head s.blocks (subst (λ f. HasRead (mid.gave f) reader s.head s.blocks) (sym s.named) s.fed.read)),
+  subst (λ f. IsTextOf (pass f old.gave new.gave) s.head s.blocks) s.named
+      (whole old.gave s.head s.blocks (subst (λ f. HasRead (pass f old.gave mid.gave) reader s.head s.blocks) (sym s.named) s.fed.read)),
 )
 
 -- which is what the file gives
-pub fed_file : (file name : List ℕ) (old new : Shown) (feed : Feed) → name ≡ file → ReadsOn {A = Unit {0}} name old new (Ok tt) →
-    IsFedWhole (new.gave name) feed → FeedsFile file old new (Ok feed)
-fed_file file name old new feed named on whole =
-    let text = subst (λ f. IsTextOf (new.gave f) whole.0 whole.1) named whole.3 in (
+pub fed_file : (file : List ℕ) (old new : Shown) (feed : Feed) → ReadsOn {A = Feed} file old new (Ok feed) →
+    IsFedWhole (pass file old.gave new.gave) feed → FeedsFile file old new (Ok feed)
+fed_file file old new feed on whole =
+    let text = whole.3 in (
       whole.0,
       whole.1,
       whole.2,
-      record { reads = (text.0, text.1.read, text.1.within, text.2); failed = tt; steady = λ other. on.steady (ok_read tt); may = on.may },
+      record {
+        reads = (text.0, (old.gave, new.gave, begins_itself old.gave, text.1.read, begins_itself new.gave), text.1.within, text.2);
+        failed = tt;
+        steady = λ other. on.steady (ok_read feed);
+        may = on.may;
+      },
     )
 
--- memory was short where no read failed
-pub falls_short_of : (file : List ℕ) (old new : Shown) → new.faults ≡ old.faults → KeepsDepot old new → ReadsFile certificates file old new (Err Memory)
-falls_short_of file old new steady may = record { reads = tt; failed = tt; steady = λ other. steady; may = may }
+-- the reads of a call are among them
+all_of : (file : List ℕ) (old new : Shown) (P : Pass → Type 0) → P (pass file old.gave new.gave) → Among (span old.gave new.gave) file P
+all_of file old new P holds = (old.gave, new.gave, begins_itself old.gave, holds, begins_itself new.gave)
 
 -- the file is refused for the fault, which the line says, or it is not read
 pub refuses : {A : Type 0} (file : List ℕ) (old new : Shown) (fault : StreamFault) (answer : Fault) → ReadsOn {A = A} file old new (Err fault) →
@@ -128,14 +153,14 @@ refuses file old new faults.Failed answer on is = subst (λ a. ReadsFile certifi
 refuses file old new faults.Memory answer on is = subst (λ a. ReadsFile certificates file old new (Err a)) (sym is)
     (record { reads = tt; failed = tt; steady = λ other. on.steady (λ e. cc); may = on.may })
 refuses file old new faults.TooLong (Refused line) on is =
-    record { reads = inl (on.refused faults.TooLong refl, is); failed = tt; steady = λ other. on.steady (λ e. cc); may = on.may }
+    record { reads = inl (all_of file old new (λ p. IsReadPastAllowed p certificates.limit) (on.refused faults.TooLong refl), is); failed = tt; steady = λ other. on.steady (λ e. cc); may = on.may }
 refuses file old new faults.TooLong Read on is = absurd is
 refuses file old new faults.TooLong Memory on is =
     record { reads = tt; failed = tt; steady = λ other. on.steady (λ e. cc); may = on.may }
 refuses file old new (faults.Shape k) (Refused line) on is =
     let at = on.refused (faults.Shape k) refl in
     record {
-      reads = inr (at.0, shape_reason k, at.1.read, at.1.within, inl (k, at.2, refl), is);
+      reads = inr (at.0, shape_reason k, all_of file old new (λ p. IsRead p at.0) at.1.read, at.1.within, inl (k, at.2, refl), is);
       failed = tt;
       steady = λ other. on.steady (λ e. cc);
       may = on.may;
@@ -146,7 +171,7 @@ refuses file old new (faults.Shape k) Memory on is =
 refuses file old new (faults.Rule rule) (Refused line) on is =
     let at = on.refused (faults.Rule rule) refl in
     record {
-      reads = inr (at.0, rule_reason rule, at.1.read, at.1.within, inr (rule, at.2, refl), is);
+      reads = inr (at.0, rule_reason rule, all_of file old new (λ p. IsRead p at.0) at.1.read, at.1.within, inr (rule, at.2, refl), is);
       failed = tt;
       steady = λ other. on.steady (λ e. cc);
       may = on.may;
@@ -154,25 +179,3 @@ refuses file old new (faults.Rule rule) (Refused line) on is =
 refuses file old new (faults.Rule rule) Read on is = absurd is
 refuses file old new (faults.Rule rule) Memory on is =
     record { reads = tt; failed = tt; steady = λ other. on.steady (λ e. cc); may = on.may }
-
--- the same of the file of the reader's name
-pub refuses_named : (file name : List ℕ) (old new : Shown) (fault : StreamFault) (answer : Fault) → name ≡ file →
-    ReadsOn {A = Unit {0}} name old new (Err fault) → IsAnswerTo file fault answer → ReadsFile certificates file old new (Err answer)
-refuses_named file name old new fault answer named on is =
-    refuses {A = Unit {0}} file old new fault answer (subst (λ f. ReadsOn {A = Unit {0}} f old new (Err fault)) named on) is
-
--- the same after a call in which no read failed
-pub fed_after : (file : List ℕ) (old mid new : Shown) (result : Result Feed Fault) → mid.faults ≡ old.faults → KeepsDepot old mid →
-    FeedsFile file mid new result → FeedsFile file old new result
-fed_after file old mid new (Ok feed) steady may (head, blocks, stands, read) = (
-  head,
-  blocks,
-  stands,
-  record { reads = read.reads; failed = tt; steady = λ other. read.steady other ∙ steady; may = both old mid new may read.may },
-)
-fed_after file old mid new (Err fault) steady may read = record {
-  reads = read.reads;
-  failed = subst (λ (b : List ℕ → ℕ). OnRead {A = Certificate} (Err fault) (Rose (b file) (new.faults file))) steady read.failed;
-  steady = λ other. read.steady other ∙ steady;
-  may = both old mid new may read.may;
-}

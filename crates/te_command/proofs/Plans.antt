@@ -7,7 +7,7 @@ use Rattle.plan.specs.declared.experiment.Experiment.{Experiment}
 use Rattle.te_command.specs.declared.answer.Answer.{Answer}
 use Rattle.te_command.specs.declared.answer.Fault.{Fault}
 use Rattle.te_command.specs.declared.answer.Fault.TheVariants.{Refused, Read, Memory}
-use Rattle.te_command.specs.Files.{Files, given_files}
+use Rattle.te_command.specs.Files.{Files, span, given_files}
 use Rattle.te_command.specs.Reading.{Reading, answers, reads, Means, ReadFailed}
 use Rattle.te_command.specs.TopologyFile.{topologies}
 use Rattle.te_command.specs.MatrixFile.{matrices}
@@ -15,9 +15,10 @@ use Rattle.failure.specs.Series.{no_failures}
 use Rattle.te_command.specs.FailureFile.{failure_files}
 use Rattle.te_command.specs.PlanFile.{plans}
 use Rattle.te_command.specs.Commands.{with_plan, with_failures}
+use Rattle.te_ports.specs.Ports.{Rose}
 use Rattle.te_ports.specs.Shown.{Shown}
 use Rattle.te_command.specs.Outcome.{ReadsFile, GivesPlan, ReadsFailures, Follows, no_answer}
-use Rattle.te_command.proofs.Following.{gives_kept, no_change, both, after, goes_on, stops}
+use Rattle.te_command.proofs.Following.{Within, begins_itself, begins_on, begins_of, gives_wider, meant_on, failed_on, both, after, goes_on, stops}
 
 -- what is read after a plan, and after its network
 abbrev then_series : (Experiment → Network → Series → Reading) → Experiment → Network → Reading
@@ -51,10 +52,16 @@ pub all_read : (file : List ℕ) (plan : Experiment) (network : Network) (series
     ReadsFile (matrices network) plan.matrices then new (Ok series) → GivesPlan file old new plan network series
 all_read file plan network series old mid then new first second third =
     let rest = both mid then new second.may third.may in
+    let to_mid = begins_of old.content old.gave mid.gave first.may.added in
+    let to_then = begins_of mid.content mid.gave then.gave second.may.added in
+    let to_new = begins_of then.content then.gave new.gave third.may.added in
+    let all = span old.gave new.gave in
     record {
-      plan_given = gives_kept Experiment plans file plan mid new rest.kept first.reads;
-      network_given = gives_kept Network topologies plan.topology network then new third.may.kept second.reads;
-      series_given = third.reads;
+      plan_given = gives_wider Experiment plans file plan (span old.gave mid.gave) all
+          (begins_itself old.gave, begins_on mid.gave then.gave new.gave to_then to_new) first.reads;
+      network_given = gives_wider Network topologies plan.topology network (span mid.gave then.gave) all (to_mid, to_new) second.reads;
+      series_given = gives_wider Series (matrices network) plan.matrices series (span then.gave new.gave) all
+          (begins_on old.gave mid.gave then.gave to_mid to_then, begins_itself new.gave) third.reads;
       steady = third.steady (λ e. cc) ∙ second.steady (λ e. cc) ∙ first.steady (λ e. cc);
       may = both old mid new first.may rest;
     }
@@ -78,21 +85,32 @@ plan_failed file next files Fails (inr (p, gives, inr (n, makes, inr (s, demands
 pub plan_stops : (file : List ℕ) (next : Experiment → Network → Series → Reading) (old new : Shown) (fault : Fault) →
     Follows (with_plan file (λ plan network series. answers no_answer)) old new (Err fault) → Follows (with_plan file next) old new (Err fault)
 plan_stops file next old new (Refused line) follows =
-    record { means = plan_means file next (given_files new.gave) _ follows.means; failed = tt; steady = follows.steady; may = follows.may }
+    record { means = plan_means file next (given_files (span old.gave new.gave)) _ follows.means; failed = tt; steady = follows.steady; may = follows.may }
 plan_stops file next old new Read follows =
-    record { means = tt; failed = plan_failed file next (given_files new.gave) _ follows.failed; steady = follows.steady; may = follows.may }
+    record { means = tt; failed = plan_failed file next (given_files (span old.gave new.gave)) _ follows.failed; steady = follows.steady; may = follows.may }
 plan_stops file next old new Memory follows = record { means = tt; failed = tt; steady = follows.steady; may = follows.may }
 
 pub plan_goes_on : (file : List ℕ) (next : Experiment → Network → Series → Reading) (plan : Experiment) (network : Network) (series : Series)
     (old mid new : Shown) (result : Result Answer Fault) → GivesPlan file old mid plan network series → Follows (next plan network series) mid new result →
     Follows (with_plan file next) old new result
 plan_goes_on file next plan network series old mid new result gives rest =
-    goes_on Experiment plans file (then_network next) plan old mid new result
-    (record { reads = gives.plan_given; failed = tt; steady = λ other. gives.steady; may = gives.may })
-    (goes_on Network topologies plan.topology (then_series next plan) network mid mid new result
-    (record { reads = gives.network_given; failed = tt; steady = λ other. refl; may = no_change mid })
-    (goes_on Series (matrices network) plan.matrices (λ s. next plan network s) series mid mid new result
-    (record { reads = gives.series_given; failed = tt; steady = λ other. refl; may = no_change mid }) rest))
+    let on = after (next plan network series) old mid new result gives.may gives.steady rest in
+    let files = given_files (span old.gave new.gave) in
+    let within : Within (span old.gave mid.gave) (span old.gave new.gave) = (begins_itself old.gave, begins_of mid.content mid.gave new.gave rest.may.added) in
+    let says = gives_wider Experiment plans file plan (span old.gave mid.gave) (span old.gave new.gave) within gives.plan_given in
+    let makes = gives_wider Network topologies plan.topology network (span old.gave mid.gave) (span old.gave new.gave) within gives.network_given in
+    let demands = gives_wider Series (matrices network) plan.matrices series (span old.gave mid.gave) (span old.gave new.gave) within gives.series_given in
+    let Fails : List ℕ → Type 0 = λ f. Rose (old.faults f) (new.faults f) in
+    record {
+      means = meant_on Experiment plans file (then_network next) plan files result says
+          (meant_on Network topologies plan.topology (then_series next plan) network files result makes
+          (meant_on Series (matrices network) plan.matrices (λ s. next plan network s) series files result demands on.means));
+      failed = failed_on Experiment plans file (then_network next) plan files Fails result says
+          (failed_on Network topologies plan.topology (then_series next plan) network files Fails result makes
+          (failed_on Series (matrices network) plan.matrices (λ s. next plan network s) series files Fails result demands on.failed));
+      steady = on.steady;
+      may = on.may;
+    }
 
 ok_or_err : (x : Failures) (y : Fault) → ◌≡◌ {A = Result Failures Fault} (Err y) (Ok x) → ⊥
 ok_or_err x y e = cc

@@ -1,12 +1,12 @@
 -- All that `run` promises, at each of its ends.
 use Rattle.std.proofs.Common.{◌≡◌, ◌≢◌, ◌≤◌, ◌↔◌, ℕ, List, Option, Some, None, Ok, Err, inl, inr, refl, sym, ap, ◌∙◌, subst, arith}
 use Rattle.te_ports.specs.Ports.{Rose}
-use Rattle.te_ports.specs.Record.{Grows}
+use Rattle.te_ports.specs.Record.{Adds}
 use Rattle.te_ports.specs.Shown.{Shown}
 use Rattle.te_command.specs.declared.answer.Answer.{Answer}
 use Rattle.te_command.specs.declared.answer.Fault.{Fault}
 use Rattle.te_command.specs.declared.answer.Fault.TheVariants.{Refused, Read, Memory}
-use Rattle.te_command.specs.Files.{Files, told_files, known_files}
+use Rattle.te_command.specs.Files.{Files, span, told_files, known_files}
 use Rattle.te_command.specs.Reading.{Reading, Means, MeansStatus, ReadFailed}
 use Rattle.te_command.specs.Commands.{Command, command_of, reading_of}
 use Rattle.te_command.specs.Outcome.{KeepsDepot, Delivers, Follows, status_of, answer_text, status_of_fault, fault_text}
@@ -19,7 +19,7 @@ use Rattle.te_command.proofs.Answering.{IsAsked, answer_given, refusal_given, an
 -- a read failed of a file that is reached
 abbrev FailsToRead : List (List ℕ) → Shown → Shown → Type 0
 FailsToRead words old new =
-    OfCommand words (λ command. ReadFailed (reading_of command) (known_files new.gave old.content) (λ file. Rose (old.faults file) (new.faults file)))
+    OfCommand words (λ command. ReadFailed (reading_of command) (known_files (span old.gave new.gave) old.content) (λ file. Rose (old.faults file) (new.faults file)))
 
 -- what the told files mean is answered, as far as the status goes, and with its text
 abbrev IsExact : List (List ℕ) → Shown → ℕ → Type 0
@@ -40,12 +40,12 @@ AnswersTold words old result out err = OfToldCommand words old.content (λ comma
 abbrev pub RunOf : List (List ℕ) → Shown → Shown → ℕ → Change → Change → Type 0
 RunOf words old new result out err = record {
   usage : (result ≡ 2) ↔ (command_of words ≡ None);
-  yes : result ≡ 0 → WritesMeant words (known_files new.gave old.content) 0 out;
-  no : result ≡ 1 → WritesMeant words (known_files new.gave old.content) 1 out;
-  refused : result ≡ 3 → SaysMeant words (known_files new.gave old.content) 3 err;
-  no_path : result ≡ 7 → SaysMeant words (known_files new.gave old.content) 7 err;
-  proves : result ≡ 0 → WritesProof words (known_files new.gave old.content) out;
-  part : result ≡ 5 → WritesPartMeant words (known_files new.gave old.content) out;
+  yes : result ≡ 0 → WritesMeant words (known_files (span old.gave new.gave) old.content) 0 out;
+  no : result ≡ 1 → WritesMeant words (known_files (span old.gave new.gave) old.content) 1 out;
+  refused : result ≡ 3 → SaysMeant words (known_files (span old.gave new.gave) old.content) 3 err;
+  no_path : result ≡ 7 → SaysMeant words (known_files (span old.gave new.gave) old.content) 7 err;
+  proves : result ≡ 0 → WritesProof words (known_files (span old.gave new.gave) old.content) out;
+  part : result ≡ 5 → WritesPartMeant words (known_files (span old.gave new.gave) old.content) out;
   told : AnswersTold words old result out err;
   form : OfCommand words (λ command. HasForm command result out err);
   read : result ≡ 4 → FailsToRead words old new;
@@ -54,7 +54,7 @@ RunOf words old new result out err = record {
   complete : IsComplete words old new result out;
   written : Written result out err;
   content : new.content ≡ old.content;
-  kept : Grows old.gave new.gave;
+  added : Adds old.content old.gave new.gave;
   steady : Steady result old.faults new.faults out;
   later : Later old.faults new.faults out err;
 }
@@ -75,10 +75,10 @@ no_usage asked words result is other = (λ two. absurd (other two), λ none. abs
 
 -- an answer was delivered
 pub answer_run : (asked : Command) (words : List (List ℕ)) (old new : Shown) (answer : Answer) (result : ℕ) (out err : Change) →
-    IsAsked asked words → Agrees old.content new.gave → Delivers result (status_of answer) (answer_text answer) out err → Follows (reading_of asked) old new (Ok answer) →
+    IsAsked asked words → Agrees old.content (span old.gave new.gave) → Delivers result (status_of answer) (answer_text answer) out err → Follows (reading_of asked) old new (Ok answer) →
     RunOf words old new result out err
 answer_run asked words old new answer result out err is agrees d follows =
-    let given = answer_given asked words old.content new.gave answer result out err is agrees d follows.means in
+    let given = answer_given asked words old.content (span old.gave new.gave) answer result out err is agrees d follows.means in
     record {
       usage = no_usage asked words result is (λ two. other_status result 2 d.form (omega arith) (λ e. omega (arith, e)) (λ e. omega (arith, e)) two);
       yes = given.yes;
@@ -87,15 +87,15 @@ answer_run asked words old new answer result out err is agrees d follows =
       no_path = given.no_path;
       proves = given.proves;
       part = given.part;
-      told = answer_told asked words old.content new.gave answer result out err is agrees d follows.means;
-      form = answer_form asked words new.gave answer result out err is d follows.means;
+      told = answer_told asked words old.content (span old.gave new.gave) answer result out err is agrees d follows.means;
+      form = answer_form asked words (span old.gave new.gave) answer result out err is d follows.means;
       read = λ four. absurd (other_status result 4 d.form (omega arith) (λ e. omega (arith, e)) (λ e. omega (arith, e)) four);
       write = d.write;
-      exact = answer_exact asked words old.content new.gave answer result out err is agrees d follows.means;
-      complete = answer_complete asked words old.content new.gave _ answer result out err is agrees d follows.means;
+      exact = answer_exact asked words old.content (span old.gave new.gave) answer result out err is agrees d follows.means;
+      complete = answer_complete asked words old.content (span old.gave new.gave) _ answer result out err is agrees d follows.means;
       written = form_written result out err d.form d.silent d.said d.quiet;
       content = follows.may.content;
-      kept = follows.may.kept;
+      added = follows.may.added;
       steady = record { depot = λ other. follows.steady (λ e. cc); out_faults = d.out_faults };
       later = record { depot = follows.may.later; out_faults = d.out_later; err_faults = d.err_later };
     }
@@ -115,7 +115,7 @@ not_answered r files result out err many three five seven = record {
 -- nothing was written to `out`
 said_run : (words : List (List ℕ)) (old new : Shown) (result : ℕ) (text : Option (List ℕ)) (faults : ℕ) (err : Change) →
     2 ≤ result → result ≤ 6 → result ≢ 5 → (result ≡ 2) ↔ (command_of words ≡ None) →
-    (result ≡ 3 → SaysMeant words (known_files new.gave old.content) 3 err) → AnswersTold words old result (untouched text faults) err →
+    (result ≡ 3 → SaysMeant words (known_files (span old.gave new.gave) old.content) 3 err) → AnswersTold words old result (untouched text faults) err →
     (result ≡ 4 → FailsToRead words old new) → IsExact words old result → IsComplete words old new result (untouched text faults) →
     (result ≢ 3 → Says err (message result)) → KeepsDepot old new → (result ≢ 4 → new.faults ≡ old.faults) → err.before ≤ err.now →
     RunOf words old new result (untouched text faults) err
@@ -140,7 +140,7 @@ said_run words old new result text faults err many few five usage refused told r
     quiet = λ small. absurd (omega (arith, small, many));
   };
   content = may.content;
-  kept = may.kept;
+  added = may.added;
   steady = record { depot = steady; out_faults = λ other. refl };
   later = record { depot = may.later; out_faults = omega arith; err_faults = later };
 }
@@ -156,22 +156,22 @@ usage_run words s text faults err none says later =
 
 -- the command has no answer, for a fault
 by_fault : (asked : Command) (words : List (List ℕ)) (old new : Shown) (fault : Fault) (text : Option (List ℕ)) (faults : ℕ) (err : Change) →
-    IsAsked asked words → Agrees old.content new.gave → Follows (reading_of asked) old new (Err fault) → Says err (fault_text fault) →
+    IsAsked asked words → Agrees old.content (span old.gave new.gave) → Follows (reading_of asked) old new (Err fault) → Says err (fault_text fault) →
     err.before ≤ err.now → RunOf words old new (status_of_fault fault) (untouched text faults) err
 by_fault asked words old new (Refused line) text faults err is agrees follows says later =
     said_run words old new 3 text faults err (omega arith) (omega arith) (λ e. omega (arith, e)) (no_usage asked words 3 is (λ e. omega (arith, e)))
-    (λ three. refusal_given asked words old.content new.gave _ err is agrees says follows.means)
-    (refusal_told asked words old.content new.gave _ _ err is agrees says follows.means) (λ e. absurd (omega (arith, e)))
-    (refusal_exact asked words old.content new.gave _ is agrees follows.means)
-    (refusal_complete asked words old.content new.gave _ _ _ is agrees follows.means)
+    (λ three. refusal_given asked words old.content (span old.gave new.gave) _ err is agrees says follows.means)
+    (refusal_told asked words old.content (span old.gave new.gave) _ _ err is agrees says follows.means) (λ e. absurd (omega (arith, e)))
+    (refusal_exact asked words old.content (span old.gave new.gave) _ is agrees follows.means)
+    (refusal_complete asked words old.content (span old.gave new.gave) _ _ _ is agrees follows.means)
     (λ other. absurd (other refl)) follows.may (λ other. follows.steady (λ e. cc)) later
 by_fault asked words old new Read text faults err is agrees follows says later =
     said_run words old new 4 text faults err (omega arith) (omega arith) (λ e. omega (arith, e)) (no_usage asked words 4 is (λ e. omega (arith, e)))
     (λ e. absurd (omega (arith, e)))
     (λ command named tells. not_answered (reading_of command) _ 4 _ _ (omega arith) (λ e. omega (arith, e)) (λ e. omega (arith, e)) (λ e. omega (arith, e)))
-    (λ four. failed_given asked words old.content new.gave _ is agrees follows.failed)
+    (λ four. failed_given asked words old.content (span old.gave new.gave) _ is agrees follows.failed)
     (λ command named tells status meant. inr (inl refl))
-    (failed_complete asked words old.content new.gave _ _ is agrees follows.failed)
+    (failed_complete asked words old.content (span old.gave new.gave) _ _ is agrees follows.failed)
     (λ other. says) follows.may (λ other. absurd (other refl)) later
 by_fault asked words old new Memory text faults err is agrees follows says later =
     said_run words old new 6 text faults err (omega arith) (omega arith) (λ e. omega (arith, e)) (no_usage asked words 6 is (λ e. omega (arith, e)))
@@ -183,7 +183,7 @@ by_fault asked words old new Memory text faults err is agrees follows says later
     (λ other. says) follows.may (λ other. follows.steady (λ e. cc)) later
 
 pub fault_run : (asked : Command) (words : List (List ℕ)) (old new : Shown) (fault : Fault) (result : ℕ) (text : Option (List ℕ)) (faults : ℕ) (err : Change) →
-    IsAsked asked words → Agrees old.content new.gave → Follows (reading_of asked) old new (Err fault) → result ≡ status_of_fault fault →
+    IsAsked asked words → Agrees old.content (span old.gave new.gave) → Follows (reading_of asked) old new (Err fault) → result ≡ status_of_fault fault →
     Says err (fault_text fault) → err.before ≤ err.now → RunOf words old new result (untouched text faults) err
 fault_run asked words old new fault result text faults err is agrees follows status says later =
     subst (λ (n : ℕ). RunOf words old new n (untouched text faults) err) (sym status)

@@ -1,6 +1,7 @@
 -- The file of a certificate that is read one block at a time.
 use Rattle.std.specs.Prelude.{◌≡◌, ◌≢◌, ℕ, ◌+◌, List, Option, Some, None, Result, Ok, Err, IsErrOf}
 use Rattle.te_ports.specs.Ports.{Rose}
+use Rattle.te_ports.specs.Record.{Pass, pass}
 use Rattle.te_model.specs.declared.certificate.Block.{Block}
 use Rattle.te_model.specs.declared.certificate.Head.{Head}
 use Rattle.block_reader.specs.declared.block_reader.BlockReader.{BlockReader}
@@ -22,18 +23,18 @@ link_after None = 0
 link_after (Some link) = link + 1
 
 -- the feed was given the head and the blocks behind which the reader stands in what reads gave
-pub record IsFed (gave : ℕ → List ℕ → Type 0) (reader : BlockReader) (feed : Feed) (head : Head) (blocks : List Block) : Type 0 where
+pub record IsFed (gave : Pass) (reader : BlockReader) (feed : Feed) (head : Head) (blocks : List Block) : Type 0 where
   pub read : HasRead gave reader head blocks
   pub fed : StandsFor feed head blocks
   pub next : next_link feed ≡ link_after (last_link reader)
 
 -- the feed was given the head and the blocks of a certificate whose text is all that reads gave
-abbrev pub IsFedWhole : (ℕ → List ℕ → Type 0) → Feed → Type 0
+abbrev pub IsFedWhole : Pass → Feed → Type 0
 IsFedWhole gave feed = (head : Head) × (blocks : List Block) × StandsFor feed head blocks × IsTextOf gave head blocks
 
--- the contract of a call that reads on in a file: a fault is that of what reads gave, and a failed read is one of the call
+-- the contract of a call that reads a file block by block: a fault is that of what its reads gave, and a failed read is one of the call
 pub record ReadsOn {A : Type 0} (file : List ℕ) (old new : Shown) (result : Result A StreamFault) : Type 0 where
-  pub refused : (fault : StreamFault) → result ≡ Err fault → IsFaultOf (new.gave file) fault
+  pub refused : (fault : StreamFault) → result ≡ Err fault → IsFaultOf (pass file old.gave new.gave) fault
   pub failed : IsErrOf result faults.Failed → Rose (old.faults file) (new.faults file)
   pub steady : result ≢ Err faults.Failed → new.faults ≡ old.faults
   pub may : KeepsDepot old new

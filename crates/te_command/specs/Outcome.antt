@@ -2,7 +2,7 @@
 use Rattle.std.specs.Prelude.{◌≡◌, ◌≢◌, ◌≤◌, ◌⊎◌, ℕ, ◌↔◌, List, Bool, IsTrue, string_bytes, Option, Some, None, Result, Ok, Err}
 use Rattle.std.specs.Io.KnownBytes.{append_known}
 use Rattle.te_ports.specs.Ports.{Rose, AppendsPart}
-use Rattle.te_ports.specs.Record.{Grows}
+use Rattle.te_ports.specs.Record.{Adds}
 use Rattle.te_ports.specs.Shown.{Shown}
 use Rattle.te_model.specs.declared.certificate.Certificate.{Certificate}
 use Rattle.te_model.specs.declared.network.Network.{Network}
@@ -18,7 +18,7 @@ use Rattle.te_command.specs.declared.answer.Fault.TheVariants.{Refused, Read, Me
 use Rattle.te_command.specs.declared.inputs.Inputs.{Inputs}
 use Rattle.te_command.specs.declared.refusal.BytesFault.{BytesFault}
 use Rattle.te_command.specs.declared.refusal.BytesFault.TheVariants as bytes_fault
-use Rattle.te_command.specs.Files.{Files, given_files}
+use Rattle.te_command.specs.Files.{Files, span, given_files}
 use Rattle.te_command.specs.Reading.{Kind, Answers, Reading, answers, refused_line, GivesIn, RefusedIn, Means, ReadFailed}
 use Rattle.te_command.specs.TopologyFile.{topologies}
 use Rattle.te_command.specs.MatrixFile.{matrices}
@@ -32,7 +32,7 @@ use Rattle.te_command.specs.Run.{Change, Says, message}
 
 -- what a call may do to a depot
 pub record KeepsDepot (old new : Shown) : Type 0 where
-  pub kept : Grows old.gave new.gave
+  pub added : Adds old.content old.gave new.gave
   pub later : (file : List ℕ) → old.faults file ≤ new.faults file
   pub content : new.content ≡ old.content
 
@@ -118,7 +118,7 @@ ReadsValueOrRefusal kind files file (Err fault) = OnRefused fault (RefusedIn kin
 
 -- the contract of a reader of a file
 pub record ReadsFile {A : Type 0} (kind : Kind A) (file : List ℕ) (old new : Shown) (result : Result A Fault) : Type 0 where
-  pub reads : ReadsValueOrRefusal kind (given_files new.gave) file result
+  pub reads : ReadsValueOrRefusal kind (given_files (span old.gave new.gave)) file result
   pub failed : OnRead result (Rose (old.faults file) (new.faults file))
   pub steady : result ≢ Err Read → new.faults ≡ old.faults
   pub may : KeepsDepot old new
@@ -136,8 +136,8 @@ Meant Answer (Err fault) = OnRefused fault (Answer 3)
 
 -- the contract of a command
 pub record Follows (reading : Reading) (old new : Shown) (result : Result Answer Fault) : Type 0 where
-  pub means : Meant (Means reading (given_files new.gave)) result
-  pub failed : OnRead result (ReadFailed reading (given_files new.gave) (λ file. Rose (old.faults file) (new.faults file)))
+  pub means : Meant (Means reading (given_files (span old.gave new.gave))) result
+  pub failed : OnRead result (ReadFailed reading (given_files (span old.gave new.gave)) (λ file. Rose (old.faults file) (new.faults file)))
   pub steady : result ≢ Err Read → new.faults ≡ old.faults
   pub may : KeepsDepot old new
 
@@ -147,9 +147,9 @@ no_answer = record { status = λ status. ⊥; text = λ status text. ⊥; proves
 
 -- the files of a plan gave this plan, its network and its series
 pub record GivesPlan (file : List ℕ) (old new : Shown) (plan : Experiment) (network : Network) (series : Series) : Type 0 where
-  pub plan_given : GivesIn plans (given_files new.gave) file plan
-  pub network_given : GivesIn topologies (given_files new.gave) plan.topology network
-  pub series_given : GivesIn (matrices network) (given_files new.gave) plan.matrices series
+  pub plan_given : GivesIn plans (given_files (span old.gave new.gave)) file plan
+  pub network_given : GivesIn topologies (given_files (span old.gave new.gave)) plan.topology network
+  pub series_given : GivesIn (matrices network) (given_files (span old.gave new.gave)) plan.matrices series
   pub steady : new.faults ≡ old.faults
   pub may : KeepsDepot old new
 

@@ -55,9 +55,9 @@ MeansStatus (reads A kind file next) files status =
     ((status ≡ 3) × ((line : List ℕ) × RefusedIn kind files file line))
     ⊎ ((value : A) × GivesIn kind files file value × MeansStatus (next value) files status)
 
--- what the text at status 0 proves of what the files give
+-- the text is one at status 0, and what it proves of what the files give
 abbrev pub Proves : Reading → Files → List ℕ → Type 0
-Proves (answers a) files text = a.proves text
+Proves (answers a) files text = a.text 0 text × a.proves text
 Proves (reads A kind file next) files text = (value : A) × GivesIn kind files file value × Proves (next value) files text
 
 -- a file has this property that is reached: those before it gave values

@@ -1,9 +1,7 @@
 //! Reading the file of a certificate one block at a time: what is found of it, or the line that refuses it.
-ghost use Rattle.std.specs.Prelude.{◌≡◌, [], None, OnOk};
-ghost use Rattle.te_model.specs.Validity.{IsValidHead};
-ghost use Rattle.block_reader.specs.Blocks.{HasRead, last_link, name_of};
-ghost use Rattle.ratio_checker.specs.Feeds.{head_of_feed};
-ghost use Rattle.te_command.specs.Blocks.{FeedsFile, IsFed, IsFedWhole, IsAnswerTo, ReadsOn};
+ghost use Rattle.std.specs.Prelude.{IfOk};
+ghost use Rattle.te_ports.specs.Record.{pass};
+ghost use Rattle.te_command.specs.Blocks.{FeedsFile, IsFedWhole, IsAnswerTo, ReadsOn};
 ghost use Rattle.te_ports.specs.Shown.{shown_by};
 
 use crate::answer::Fault;
@@ -12,7 +10,6 @@ use crate::refusal::Refusal;
 use block_reader::{BlockReader, StreamFault};
 use ratio_checker::Feed;
 use std::alloc::Global;
-use te_model::Head;
 use te_ports::Depot;
 
 // What is answered where the file has this fault.
@@ -28,43 +25,20 @@ fn answer_to(alloc: Global, file: &str, fault: StreamFault) -> Fault
     }
 }
 
-// Gives the feed each block of the file, and reads the file to its end.
-fn feed_blocks<D: Depot>(
-    depot: &mut D,
-    reader: &mut BlockReader,
-    feed: &mut Feed,
-) -> Result<(), StreamFault>
-    requires { IsFed (D.gave depot.old (name_of reader.old)) reader.old feed.old (head_of_feed feed.old) [] }
-    ensures whole { OnOk result (IsFedWhole (D.gave depot.new (name_of reader.old)) feed.new) }
-    ensures reads { ReadsOn (name_of reader.old) (shown_by D.content D.gave D.faults depot.old)
+// A feed that was given the head of the file, and each of its blocks. The file is read to its end.
+fn feed_blocks<D: Depot>(alloc: Global, depot: &mut D, file: &str) -> Result<Feed, StreamFault>
+    ensures whole { IfOk result (IsFedWhole (pass file.now (D.gave depot.old) (D.gave depot.new))) }
+    ensures reads { ReadsOn file.now (shown_by D.content D.gave D.faults depot.old)
         (shown_by D.content D.gave D.faults depot.new) result }
 {
+    let (mut reader, head) = BlockReader::open(alloc, depot, file)?;
+    let Ok(mut feed) = Feed::new(alloc, head) else {
+        return Err(StreamFault::Memory);
+    };
     'rest: while reader.next(depot)? {
         feed.block(reader.block());
     }
-    Ok(())
-}
-
-// The feed of the head, with each block of the file, of which the reader has read the head alone.
-fn feed_from<D: Depot>(
-    alloc: Global,
-    depot: &mut D,
-    file: &str,
-    reader: &mut BlockReader,
-    head: Head,
-) -> Result<Feed, Fault>
-    requires head { HasRead (D.gave depot.old file.now) reader.old head [] }
-    requires valid { IsValidHead head }
-    requires start { last_link reader.old ≡ None }
-    requires name { name_of reader.old ≡ file.now }
-    ensures { FeedsFile file.now (shown_by D.content D.gave D.faults depot.old)
-        (shown_by D.content D.gave D.faults depot.new) result }
-{
-    let mut feed = Feed::new(alloc, head)?;
-    match feed_blocks(depot, reader, &mut feed) {
-        Ok(()) => Ok(feed),
-        Err(fault) => Err(answer_to(alloc, file, fault)),
-    }
+    Ok(feed)
 }
 
 /// What is found of the certificate that the file of this name gives, as a feed that was given its head and all its
@@ -75,8 +49,8 @@ pub fn feed_in<D: Depot>(alloc: Global, depot: &mut D, file: &str) -> Result<Fee
     ensures { FeedsFile file.now (shown_by D.content D.gave D.faults depot.old)
         (shown_by D.content D.gave D.faults depot.new) result }
 {
-    match BlockReader::open(alloc, depot, file) {
-        Ok((mut reader, head)) => feed_from(alloc, depot, file, &mut reader, head),
+    match feed_blocks(alloc, depot, file) {
+        Ok(feed) => Ok(feed),
         Err(fault) => Err(answer_to(alloc, file, fault)),
     }
 }

@@ -1,15 +1,13 @@
 //! Laws of what commands mean. A law of the definitions is the contract of a function that does nothing.
-ghost use Rattle.std.specs.Prelude.{◌≡◌, ◌⊎◌, ◌↔◌, ℕ, List, Option};
+ghost use Rattle.std.specs.Prelude.{◌≡◌, ◌⊎◌, ℕ, List, Option};
 ghost use Rattle.te_ports.specs.Ports.{Rose};
-ghost use Rattle.te_ports.specs.Record.{IsPieceOf};
-ghost use Rattle.te_command.specs.Files.{given_files, told_files, known_files};
+ghost use Rattle.te_ports.specs.Record.{Read, Adds};
+ghost use Rattle.te_command.specs.Files.{Span, span, given_files, told_files, known_files};
 ghost use Rattle.te_command.specs.Reading.{IsTold, Means, MeansStatus, Proves, ReadFailed, RefusesUntold};
 ghost use Rattle.te_command.specs.Commands.{Command, check, check_network, reading_of};
 ghost use Rattle.te_command.specs.Form.{IsOfCertificate};
 ghost use Rattle.te_command.specs.Run.{OfToldCommand};
 ghost use Rattle.te_command.specs.Converted.{AreConverted, SayYesAlike};
-
-use te_ports::Depot;
 
 /// The told files of a command mean one status, those of the command of some words a text, and those of a command of a certificate no
 /// other one.
@@ -42,33 +40,33 @@ pub fn converted_files_are_answered_alike()
         (boxed : List ℕ) × SayYesAlike line boxed × Means (reading_of (check made)) (told_files content) 0 boxed }
 {}
 
-/// Of any depot, what reads gave of told files is what is told, and so it means what the told files mean.
-pub fn told_files_are_read<D: Depot>(depot: &D)
-    ensures known { (command : Command) → (status : ℕ) → (text : List ℕ) →
-        Means (reading_of command) (given_files (D.gave depot.now)) status text →
-        Means (reading_of command) (known_files (D.gave depot.now) (D.content depot.now)) status text }
-    ensures told { (command : Command) → IsTold (reading_of command) (D.content depot.now) → (status : ℕ) → (text : List ℕ) →
-        Means (reading_of command) (given_files (D.gave depot.now)) status text →
-        Means (reading_of command) (told_files (D.content depot.now)) status text }
+/// What the reads of a call gave of told files is what is told, and so it means what the told files mean.
+pub fn told_files_are_read()
+    ensures known { (command : Command) → (content : List ℕ → Option (List ℕ)) → (made : Span) → Adds content made.before made.now →
+        (status : ℕ) → (text : List ℕ) → Means (reading_of command) (given_files made) status text →
+        Means (reading_of command) (known_files made content) status text }
+    ensures told { (command : Command) → (content : List ℕ → Option (List ℕ)) → (made : Span) → Adds content made.before made.now →
+        IsTold (reading_of command) content → (status : ℕ) → (text : List ℕ) →
+        Means (reading_of command) (given_files made) status text → Means (reading_of command) (told_files content) status text }
 {}
 
-/// Where reads give just the pieces of what is told, what they gave means what the told files mean.
-pub fn given_and_told_are_one()
+/// And what told files mean is what some reads of them give, so that there are reads that give each meaning.
+pub fn told_files_can_be_read()
     ensures { (command : Command) → (content : List ℕ → Option (List ℕ)) → (status : ℕ) → (text : List ℕ) →
-        Means (reading_of command) (given_files (λ file. IsPieceOf (content file))) status text
-        ↔ Means (reading_of command) (told_files content) status text }
+        Means (reading_of command) (told_files content) status text → (before : List Read) →
+        (now : List Read) × Adds content before now × Means (reading_of command) (given_files (span before now)) status text }
 {}
 
-/// Of any depot, a file that is told and gives a value is never the one that is refused.
-pub fn accepted_files_are_not_refused<D: Depot>(depot: &D)
-    ensures { (command : Command) → (text : List ℕ) → Means (reading_of command) (given_files (D.gave depot.now)) 3 text →
-        RefusesUntold (reading_of command) (given_files (D.gave depot.now)) (D.content depot.now) text }
+/// Of any reads, a file that is told and gives a value is never the one that is refused.
+pub fn accepted_files_are_not_refused()
+    ensures { (command : Command) → (content : List ℕ → Option (List ℕ)) → (made : Span) → Adds content made.before made.now →
+        (text : List ℕ) → Means (reading_of command) (given_files made) 3 text →
+        RefusesUntold (reading_of command) (given_files made) content text }
 {}
 
-/// Of any depot, a failed read of `check` is one of a file that its words name, even where the certificate is untold.
-pub fn failed_reads_are_of_named_files<D: Depot>(depot: &D)
-    ensures { (certificate : List ℕ) → (topology : List ℕ) → (before : List ℕ → ℕ) →
-        ReadFailed (reading_of (check_network certificate topology)) (given_files (D.gave depot.now))
-        (λ file. Rose (before file) (D.faults depot.now file)) →
-        Rose (before certificate) (D.faults depot.now certificate) ⊎ Rose (before topology) (D.faults depot.now topology) }
+/// Of any reads, a failed read of `check` is one of a file that its words name, even where the certificate is untold.
+pub fn failed_reads_are_of_named_files()
+    ensures { (certificate : List ℕ) → (topology : List ℕ) → (made : Span) → (before : List ℕ → ℕ) → (now : List ℕ → ℕ) →
+        ReadFailed (reading_of (check_network certificate topology)) (given_files made) (λ file. Rose (before file) (now file)) →
+        Rose (before certificate) (now certificate) ⊎ Rose (before topology) (now topology) }
 {}

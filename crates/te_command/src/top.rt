@@ -1,8 +1,8 @@
 //! The top call: all that the program does.
 ghost use Rattle.std.specs.Prelude.{◌≡◌, ◌↔◌, ℕ, None};
 ghost use Rattle.te_ports.specs.Ports.{Rose};
-ghost use Rattle.te_ports.specs.Record.{Grows};
-ghost use Rattle.te_command.specs.Files.{known_files, told_files};
+ghost use Rattle.te_ports.specs.Record.{Adds};
+ghost use Rattle.te_command.specs.Files.{span, known_files, told_files};
 ghost use Rattle.te_command.specs.Reading.{Means, MeansStatus, ReadFailed};
 ghost use Rattle.te_command.specs.Commands.{command_of, reading_of};
 ghost use Rattle.te_command.specs.Run.{texts, change, OfCommand, OfToldCommand, Answered, WritesMeant, SaysMeant, WritesProof, WritesPartMeant, HasForm, IsOrFails, GivesOrMemory, Written, Steady, Later};
@@ -37,20 +37,21 @@ pub fn run<D: Depot, O: Sink, E: Sink>(
     // 2 exactly where the words are no form of a command.
     ensures usage { (result ≡ 2) ↔ (command_of (texts words.now) ≡ None) }
 
-    // 0, 1, 3 and 7 only where that is what the bytes mean that reads gave: of any depot, and of a file that is told the told bytes.
-    ensures yes { result ≡ 0 → WritesMeant (texts words.now) (known_files (D.gave depot.new) (D.content depot.old)) 0
+    // 0, 1, 3 and 7 only where that is what the bytes mean that the reads of the call gave, of each file one after another from its
+    // start to its end: of any depot, and of a file that is told the told bytes.
+    ensures yes { result ≡ 0 → WritesMeant (texts words.now) (known_files (span (D.gave depot.old) (D.gave depot.new)) (D.content depot.old)) 0
         (change O.written O.faults out.old out.new) }
-    ensures no { result ≡ 1 → WritesMeant (texts words.now) (known_files (D.gave depot.new) (D.content depot.old)) 1
+    ensures no { result ≡ 1 → WritesMeant (texts words.now) (known_files (span (D.gave depot.old) (D.gave depot.new)) (D.content depot.old)) 1
         (change O.written O.faults out.old out.new) }
-    ensures refused { result ≡ 3 → SaysMeant (texts words.now) (known_files (D.gave depot.new) (D.content depot.old)) 3
+    ensures refused { result ≡ 3 → SaysMeant (texts words.now) (known_files (span (D.gave depot.old) (D.gave depot.new)) (D.content depot.old)) 3
         (change E.written E.faults err.old err.new) }
-    ensures no_path { result ≡ 7 → SaysMeant (texts words.now) (known_files (D.gave depot.new) (D.content depot.old)) 7
+    ensures no_path { result ≡ 7 → SaysMeant (texts words.now) (known_files (span (D.gave depot.old) (D.gave depot.new)) (D.content depot.old)) 7
         (change E.written E.faults err.old err.new) }
 
-    // What was written at 0 is proved, and at 5 it was a part of what was to be written.
-    ensures proves { result ≡ 0 → WritesProof (texts words.now) (known_files (D.gave depot.new) (D.content depot.old))
+    // The text that was written at 0 is proved by the bytes that mean it, and at 5 it was a part of what was to be written.
+    ensures proves { result ≡ 0 → WritesProof (texts words.now) (known_files (span (D.gave depot.old) (D.gave depot.new)) (D.content depot.old))
         (change O.written O.faults out.old out.new) }
-    ensures part { result ≡ 5 → WritesPartMeant (texts words.now) (known_files (D.gave depot.new) (D.content depot.old))
+    ensures part { result ≡ 5 → WritesPartMeant (texts words.now) (known_files (span (D.gave depot.old) (D.gave depot.new)) (D.content depot.old))
         (change O.written O.faults out.old out.new) }
 
     // Where all files are told that are to be read: the same of what the told files mean.
@@ -65,7 +66,7 @@ pub fn run<D: Depot, O: Sink, E: Sink>(
 
     // 4 only by a failed read of a file that is reached by what reads gave of those before it, and 5 only by a failed write.
     ensures read { result ≡ 4 → OfCommand (texts words.now) (λ command.
-        ReadFailed (reading_of command) (known_files (D.gave depot.new) (D.content depot.old))
+        ReadFailed (reading_of command) (known_files (span (D.gave depot.old) (D.gave depot.new)) (D.content depot.old))
         (λ file. Rose (D.faults depot.old file) (D.faults depot.new file))) }
     ensures write { result ≡ 5 → Rose (O.faults out.old) (O.faults out.new) }
 
@@ -83,9 +84,9 @@ pub fn run<D: Depot, O: Sink, E: Sink>(
     // What is written, and that nothing else is.
     ensures written { Written result (change O.written O.faults out.old out.new) (change E.written E.faults err.old err.new) }
 
-    // The files stay, as does what was given of them, and no count of faults falls, or rises without its status.
+    // The files stay, reads are only added to the record, and no count of faults falls, or rises without its status.
     ensures content { D.content depot.new ≡ D.content depot.old }
-    ensures kept { Grows (D.gave depot.old) (D.gave depot.new) }
+    ensures added { Adds (D.content depot.old) (D.gave depot.old) (D.gave depot.new) }
     ensures steady { Steady result (D.faults depot.old) (D.faults depot.new) (change O.written O.faults out.old out.new) }
     ensures later { Later (D.faults depot.old) (D.faults depot.new)
         (change O.written O.faults out.old out.new) (change E.written E.faults err.old err.new) }

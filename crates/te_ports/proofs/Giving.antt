@@ -1,47 +1,81 @@
--- What reads give, piece by piece, and what it is of a told file.
-use Rattle.std.proofs.Common.{◌≡◌, ℕ, ◌<◌, ◌≤◌, List, [], ◌∷◌, ◌++◌, length, take, drop, refl, sym, ap, ◌∙◌, subst, arith, length-append, length-take, append-nil}
+-- What the reads of a pass give, one after another, and what it is of a told file.
+use Rattle.std.proofs.Common.{◌≡◌, ℕ, ◌+◌, ◌<◌, ◌≤◌, List, [], ◌∷◌, ◌++◌, length, take, drop, Option, Some, refl, sym, ap, ◌∙◌, subst, arith, length-append, length-take, append-nil, append_assoc}
+use Rattle.std.specs.Prelude.{All}
+use Rattle.std.specs.List.{concat}
 use Rattle.std.proofs.lemmas.Grind.{common_steps}
 use Rattle.std.proofs.Math.Seq.{take-add}
-use Rattle.std.proofs.lemmas.List.{take-append-drop}
-use Rattle.te_ports.specs.Record.{IsPiece, HasGiven, nothing, more, IsRead, IsReadPast, IsReadPastAllowed}
+use Rattle.std.proofs.lemmas.List.{take-append-drop, append_cancel_left}
+use Rattle.std.proofs.lemmas.List.Elements.{All-pop, All-nil, All-append, All-cons}
+use Rattle.std.proofs.lemmas.List.Folds.{concat-append}
+use Rattle.te_ports.specs.Ports.{Told}
+use Rattle.te_ports.specs.Record.{Read, read, IsOfTold, Adds, Pass, pass, Follow, nothing, more, HasGiven, IsRead, IsReadPast, IsReadPastAllowed, reads_from}
 use Rattle.te_ports.specs.Limit.{IsLimit}
 
--- what was given still is, in a greater record
-pub given_kept : (old new : ℕ → List ℕ → Type 0) (bytes : List ℕ) → ((at : ℕ) (piece : List ℕ) → old at piece → new at piece) →
-    HasGiven old bytes → HasGiven new bytes
-given_kept old new _ grows (nothing bytes is) = nothing bytes is
-given_kept old new _ grows (more bytes before piece given next is) =
-    more bytes before piece (given_kept old new before grows given) (grows (length before) piece next) is
+-- records that end alike
+pub same_last : {A : Type 0} (xs ys : List A) (x y : A) → xs ++ x ∷ [] ≡ ys ++ y ∷ [] → (xs ≡ ys) × (x ≡ y)
+same_last [] [] x y is = (refl, cc)
+same_last [] (b ∷ ys) x y is = absurd (let n = ap length is in omega (arith, n, length-append ys (y ∷ [])))
+same_last (a ∷ xs) [] x y is = absurd (let n = ap length is in omega (arith, n, length-append xs (x ∷ [])))
+same_last (a ∷ xs) (b ∷ ys) x y is =
+    let head : a ≡ b = cc in
+    let tail : xs ++ x ∷ [] ≡ ys ++ y ∷ [] = cc in
+    let rest = same_last xs ys x y tail in
+    (ap (λ h. h ∷ xs) head ∙ ap (λ t. b ∷ t) rest.0, rest.1)
 
-pub read_kept : (old new : ℕ → List ℕ → Type 0) (bytes : List ℕ) → ((at : ℕ) (piece : List ℕ) → old at piece → new at piece) →
-    IsRead old bytes → IsRead new bytes
-read_kept old new bytes grows read =
-    record { given = given_kept old new bytes grows read.given; ends = grows (length bytes) [] read.ends }
+-- nothing was added
+pub adds_none : (content : List ℕ → Option (List ℕ)) (old new : List Read) → new ≡ old → Adds content old new
+adds_none content old new is = record { more = []; is = is ∙ sym (append-nil old); pieces = All-nil (IsOfTold content) }
+
+-- one read was added
+pub adds_one : (content : List ℕ → Option (List ℕ)) (old new : List Read) (r : Read) → new ≡ old ++ r ∷ [] → IsOfTold content r → Adds content old new
+adds_one content old new r is piece =
+    record { more = r ∷ []; is = is; pieces = All-cons (IsOfTold content) r [] piece (All-nil (IsOfTold content)) }
+
+-- and then more
+pub adds_on : (content : List ℕ → Option (List ℕ)) (old mid new : List Read) → Adds content old mid → Adds content mid new → Adds content old new
+adds_on content old mid new first next = record {
+  more = first.more ++ next.more;
+  is = next.is ∙ ap (λ reads. reads ++ next.more) first.is ∙ append_assoc old first.more next.more;
+  pieces = All-append (IsOfTold content) first.more next.more first.pieces next.pieces;
+}
+
+-- the same where what is told did not change
+pub adds_then : (before content : List ℕ → Option (List ℕ)) (old mid new : List Read) → content ≡ before → Adds before old mid → Adds content mid new →
+    Adds before old new
+adds_then before content old mid new same first next = adds_on before old mid new first (subst (λ c. Adds c mid new) same next)
+
+-- a read into a buffer gave a piece of its file, where that is told
+pub piece_of_told : (content : List ℕ → Option (List ℕ)) (name : List ℕ) (at n : ℕ) (buf : List ℕ) → 0 < length buf → n ≤ length buf →
+    Told (content name) (λ told. take n buf ≡ take n (drop at told)) →
+    Told (content name) (λ told. n ≡ 0 → 0 < length buf → length told ≤ at) → IsOfTold content (read name at (take n buf))
+piece_of_told content name at n buf some fits bytes end = λ told is.
+    let size : length (take n buf) ≡ n = omega (arith, length-take n buf) in
+    record { bytes_are = bytes told is ∙ ap (λ k. take k (drop at told)) (sym size); ends = λ none. end told is (sym size ∙ none) some }
 
 -- a read at the end of the bytes gave the first n bytes of a buffer, which were appended
-pub piece_given : (gave : ℕ → List ℕ → Type 0) (bytes buf now : List ℕ) (at n : ℕ) → at ≡ length bytes → gave at (take n buf) →
-    n ≤ length buf → now ≡ bytes ++ take n buf →
-    (piece : List ℕ) × gave (length bytes) piece × (now ≡ bytes ++ piece) × (length piece ≡ n)
-piece_given gave bytes buf now at n place given fits is =
-    (take n buf, subst (λ k. gave k (take n buf)) place given, is, omega (arith, length-take n buf))
-
--- a read gave a piece more
-pub given_more : (old new : ℕ → List ℕ → Type 0) (bytes piece now : List ℕ) →
-    ((place : ℕ) (p : List ℕ) → old place p → new place p) → HasGiven old bytes → new (length bytes) piece → now ≡ bytes ++ piece →
-    HasGiven new now
-given_more old new bytes piece now grows given next is = more now bytes piece (given_kept old new bytes grows given) next is
+pub piece_given : (old new : List Read) (name bytes buf now : List ℕ) (at n : ℕ) → at ≡ length bytes →
+    new ≡ old ++ read name at (take n buf) ∷ [] → n ≤ length buf → now ≡ bytes ++ take n buf →
+    (piece : List ℕ) × (new ≡ old ++ read name (length bytes) piece ∷ []) × (now ≡ bytes ++ piece) × (length piece ≡ n)
+piece_given old new name bytes buf now at n place given fits is =
+    (take n buf, subst (λ k. new ≡ old ++ read name k (take n buf) ∷ []) place given, is, omega (arith, length-take n buf))
 
 -- a read gave nothing more
 pub nothing_more : (bytes piece now : List ℕ) → now ≡ bytes ++ piece → length piece ≡ 0 → now ≡ bytes
 nothing_more bytes [] now is none = is ∙ append-nil bytes
 nothing_more bytes (b ∷ piece) now is none = absurd (omega arith)
 
-pub given_end : (old new : ℕ → List ℕ → Type 0) (bytes piece now : List ℕ) →
-    ((place : ℕ) (p : List ℕ) → old place p → new place p) → HasGiven old bytes → new (length bytes) piece → now ≡ bytes ++ piece →
-    length piece ≡ 0 → IsRead new now
-given_end old new bytes [] now grows given next is none =
-    subst (IsRead new) (sym (nothing_more bytes [] now is none)) (record { given = given_kept old new bytes grows given; ends = next })
-given_end old new bytes (b ∷ piece) now grows given next is none = absurd (omega arith)
+pub given_end : (name bytes piece now : List ℕ) (before old new : List Read) → HasGiven (pass name before old) bytes →
+    new ≡ old ++ read name (length bytes) piece ∷ [] → now ≡ bytes ++ piece → length piece ≡ 0 → IsRead (pass name before new) now
+given_end name bytes [] now before old new given next is none =
+    subst (IsRead (pass name before new)) (sym (nothing_more bytes [] now is none)) (record { reads = old; given = given; ends = next })
+given_end name bytes (b ∷ piece) now before old new given next is none = absurd (omega arith)
+
+-- what follows is more
+pub follow_adds : (name : List ℕ) (before now : List Read) (bytes : List ℕ) → Follow name before now bytes → (reads : List Read) × (now ≡ before ++ reads)
+follow_adds name before _ _ (nothing now bytes is none) = ([], is ∙ sym (append-nil before))
+follow_adds name before _ _ (more then now front bytes piece given next is) =
+    let first = follow_adds name before then front given in
+    (first.0 ++ read name (length front) piece ∷ [], next ∙ ap (λ reads. reads ++ read name (length front) piece ∷ []) first.1 ∙ append_assoc before first.0 _)
 
 take_append : (t bytes piece : List ℕ) → take (length bytes) t ≡ bytes → piece ≡ take (length piece) (drop (length bytes) t) →
     take (length (bytes ++ piece)) t ≡ bytes ++ piece
@@ -49,45 +83,122 @@ take_append t bytes piece front next =
     ap (λ k. take k t) (length-append bytes piece) ∙ take-add (length bytes) (length piece) t
     ∙ ap (λ f. f ++ take (length piece) (drop (length bytes) t)) front ∙ ap (λ f. bytes ++ f) (sym next)
 
+-- the last of some reads, and those before it
+last_piece : (content : List ℕ → Option (List ℕ)) (before then now reads first : List Read) (r : Read) → now ≡ before ++ reads →
+    then ≡ before ++ first → now ≡ then ++ r ∷ [] → All (IsOfTold content) reads → All (IsOfTold content) first × IsOfTold content r
+last_piece content before then now reads first r is was next pieces =
+    let same : reads ≡ first ++ r ∷ [] =
+    append_cancel_left before reads (first ++ r ∷ [])
+    (sym is ∙ next ∙ ap (λ f. f ++ r ∷ []) was ∙ append_assoc before first (r ∷ [])) in
+    All-pop (IsOfTold content) reads first (Some r) same pieces
+
 -- what was given of a content is its front
-pub front_of : (gave : ℕ → List ℕ → Type 0) (content bytes : List ℕ) →
-    ((at : ℕ) (piece : List ℕ) → gave at piece → IsPiece content at piece) → HasGiven gave bytes → take (length bytes) content ≡ bytes
-front_of gave content _ pieces (nothing bytes is) = subst (λ b. take (length b) content ≡ b) (sym is) (grind (arith, common_steps))
-front_of gave content _ pieces (more bytes before piece given next is) =
-    subst (λ b. take (length b) content ≡ b) (sym is)
-    (take_append content before piece (front_of gave content before pieces given) ((pieces (length before) piece next).bytes_are))
+front_of_more : (content : List ℕ → Option (List ℕ)) (name told : List ℕ) (before now reads : List Read) (bytes : List ℕ) → content name ≡ Some told →
+    now ≡ before ++ reads → All (IsOfTold content) reads → Follow name before now bytes → take (length bytes) told ≡ bytes
+front_of_more content name told before _ reads _ at is pieces (nothing now bytes same none) =
+    subst (λ b. take (length b) told ≡ b) (sym none) (grind (arith, common_steps))
+front_of_more content name told before _ reads _ at is pieces (more then now front bytes piece given next made) =
+    let first = follow_adds name before then front given in
+    let last = last_piece content before then now reads first.0 (read name (length front) piece) is first.1 next pieces in
+    subst (λ b. take (length b) told ≡ b) (sym made)
+    (take_append told front piece (front_of_more content name told before then first.0 front at first.1 last.0 given) ((last.1 told at).bytes_are))
 
-pub read_is : (gave : ℕ → List ℕ → Type 0) (content bytes : List ℕ) →
-    ((at : ℕ) (piece : List ℕ) → gave at piece → IsPiece content at piece) → IsRead gave bytes → bytes ≡ content
-read_is gave content bytes pieces read =
-    let front = front_of gave content bytes pieces read.given in
-    let short = (pieces (length bytes) [] read.ends).ends refl in
+pub front_of : (content : List ℕ → Option (List ℕ)) (p : Pass) (told bytes : List ℕ) → content p.name ≡ Some told → Adds content p.before p.now →
+    HasGiven p bytes → take (length bytes) told ≡ bytes
+front_of content p told bytes at adds given = front_of_more content p.name told p.before p.now adds.more bytes at adds.is adds.pieces given
+
+-- the whole of it, where a read gave nothing behind it
+pub read_is : (content : List ℕ → Option (List ℕ)) (p : Pass) (told bytes : List ℕ) → content p.name ≡ Some told → Adds content p.before p.now →
+    IsRead p bytes → bytes ≡ told
+read_is content p told bytes at adds is_read =
+    let first = follow_adds p.name p.before is_read.reads bytes is_read.given in
+    let last = last_piece content p.before is_read.reads p.now adds.more first.0 (read p.name (length bytes) []) adds.is first.1 is_read.ends adds.pieces in
+    let front = front_of_more content p.name told p.before is_read.reads first.0 bytes at first.1 last.0 is_read.given in
+    let short = (last.1 told at).ends refl in
     grind (arith, common_steps)
 
-past_front : (gave : ℕ → List ℕ → Type 0) (content : List ℕ) (allowed : List ℕ → ℕ) →
-    ((at : ℕ) (piece : List ℕ) → gave at piece → IsPiece content at piece) → (past : IsReadPastAllowed gave allowed) →
-    allowed past.bytes < length content
-past_front gave content allowed pieces read =
-    let front = ap length (front_of gave content read.bytes pieces read.given) in
-    let past = read.past in
+past_front : (content : List ℕ → Option (List ℕ)) (p : Pass) (told : List ℕ) (allowed : List ℕ → ℕ) → content p.name ≡ Some told →
+    Adds content p.before p.now → (past : IsReadPastAllowed p allowed) → allowed past.bytes < length told
+past_front content p told allowed at adds is_read =
+    let front = ap length (front_of content p told is_read.bytes at adds is_read.given) in
+    let past = is_read.past in
     grind (arith, common_steps)
 
-pub past_is : (gave : ℕ → List ℕ → Type 0) (content : List ℕ) (limit : ℕ) →
-    ((at : ℕ) (piece : List ℕ) → gave at piece → IsPiece content at piece) → IsReadPast gave limit → limit < length content
-past_is gave content limit pieces read = past_front gave content (λ _. limit) pieces read
+pub past_is : (content : List ℕ → Option (List ℕ)) (p : Pass) (told : List ℕ) (limit : ℕ) → content p.name ≡ Some told → Adds content p.before p.now →
+    IsReadPast p limit → limit < length told
+past_is content p told limit at adds is_read = past_front content p told (λ _. limit) at adds is_read
 
 -- and a file with a limit is longer than its own
-pub past_allowed : (gave : ℕ → List ℕ → Type 0) (content : List ℕ) (allowed : List ℕ → ℕ) → IsLimit allowed →
-    ((at : ℕ) (piece : List ℕ) → gave at piece → IsPiece content at piece) → IsReadPastAllowed gave allowed →
-    allowed content < length content
-past_allowed gave content allowed limit pieces read =
-    let whole : read.bytes ++ drop (length read.bytes) content ≡ content =
-    ap (λ f. f ++ drop (length read.bytes) content) (sym (front_of gave content read.bytes pieces read.given))
-    ∙ take-append-drop (length read.bytes) content in
-    let past = read.past in
-    let same = limit.settled read.bytes (drop (length read.bytes) content) (omega arith) in
-    subst (λ a. a < length content) (sym same ∙ ap allowed whole) (past_front gave content allowed pieces read)
+pub past_allowed : (content : List ℕ → Option (List ℕ)) (p : Pass) (told : List ℕ) (allowed : List ℕ → ℕ) → IsLimit allowed → content p.name ≡ Some told →
+    Adds content p.before p.now → IsReadPastAllowed p allowed → allowed told < length told
+past_allowed content p told allowed limit at adds is_read =
+    let whole : is_read.bytes ++ drop (length is_read.bytes) told ≡ told =
+    ap (λ f. f ++ drop (length is_read.bytes) told) (sym (front_of content p told is_read.bytes at adds is_read.given))
+    ∙ take-append-drop (length is_read.bytes) told in
+    let past = is_read.past in
+    let same = limit.settled is_read.bytes (drop (length is_read.bytes) told) (omega arith) in
+    subst (λ a. a < length told) (sym same ∙ ap allowed whole) (past_front content p told allowed at adds is_read)
 
 pub allowed_rises : (allowed : List ℕ → ℕ) → IsLimit allowed → (front rest whole : List ℕ) → whole ≡ front ++ rest →
     allowed front ≤ allowed whole
 allowed_rises allowed limit front rest whole is = subst (λ bytes. allowed front ≤ allowed bytes) (sym is) (limit.rises front rest)
+
+-- a record is not shorter than what follows it, and so the same reads gave the same bytes
+not_before : (name : List ℕ) (before now : List Read) (bytes : List ℕ) → Follow name before now bytes → (r : Read) → before ≡ now ++ r ∷ [] → ⊥
+not_before name before now bytes given r is =
+    let first = follow_adds name before now bytes given in
+    let n = ap length is in let m = ap length first.1 in
+    omega (arith, n, m, length-append now (r ∷ []), length-append before first.0)
+
+pub follow_once : (name : List ℕ) (before now : List Read) (a b : List ℕ) → Follow name before now a → Follow name before now b → a ≡ b
+follow_once name before _ _ _ (nothing now a same none) (nothing _ b is empty) = none ∙ sym empty
+follow_once name before _ _ _ (nothing now a same none) (more then _ front b piece given next made) =
+    absurd (not_before name before then front given _ (sym same ∙ next))
+follow_once name before _ _ _ (more then now front a piece given next made) (nothing _ b is empty) =
+    absurd (not_before name before then front given _ (sym is ∙ next))
+follow_once name before _ _ _ (more then now front a piece given next made) (more then' _ front' b piece' given' next' made') =
+    let last = same_last then then' (read name (length front) piece) (read name (length front') piece') (sym next ∙ next') in
+    let fronts = follow_once name before then front front' given (subst (λ reads. Follow name before reads front') (sym last.0) given') in
+    made ∙ ap (λ f. f ++ piece) fronts ∙ ap (λ (r : Read). front' ++ r.bytes) last.1 ∙ sym made'
+
+pub read_once_only : (p : Pass) (a b : List ℕ) → IsRead p a → IsRead p b → a ≡ b
+read_once_only p a b first next =
+    let last = same_last first.reads next.reads (read p.name (length a) []) (read p.name (length b) []) (sym first.ends ∙ next.ends) in
+    follow_once p.name p.before first.reads a b first.given (subst (λ reads. Follow p.name p.before reads b) (sym last.0) next.given)
+
+-- the reads as a list
+reads_from_more : (name : List ℕ) (at : ℕ) (pieces : List (List ℕ)) (piece : List ℕ) →
+    reads_from name at (pieces ++ piece ∷ []) ≡ reads_from name at pieces ++ read name (at + length (concat pieces)) piece ∷ []
+reads_from_more name at [] piece = ap (λ k. read name k piece ∷ []) (omega arith)
+reads_from_more name at (p ∷ pieces) piece =
+    let place : at + length p + length (concat pieces) ≡ at + length (concat (p ∷ pieces)) = omega (arith, length-append p (concat pieces)) in
+    ap (λ reads. read name at p ∷ reads) (reads_from_more name (at + length p) pieces piece
+    ∙ ap (λ k. reads_from name (at + length p) pieces ++ read name k piece ∷ []) place)
+
+concat_one : (piece : List ℕ) → concat (piece ∷ []) ≡ piece
+concat_one piece = append-nil piece
+
+pub follow_pieces : (name : List ℕ) (before now : List Read) (bytes : List ℕ) → Follow name before now bytes →
+    (pieces : List (List ℕ)) × (now ≡ before ++ reads_from name 0 pieces) × (bytes ≡ concat pieces)
+follow_pieces name before _ _ (nothing now bytes is none) = ([], is ∙ sym (append-nil before), none)
+follow_pieces name before _ _ (more then now front bytes piece given next made) =
+    let first = follow_pieces name before then front given in
+    let step : reads_from name 0 first.0 ++ read name (length front) piece ∷ [] ≡ reads_from name 0 (first.0 ++ piece ∷ []) =
+    ap (λ k. reads_from name 0 first.0 ++ read name k piece ∷ []) (omega (arith, ap length first.2)) ∙ sym (reads_from_more name 0 first.0 piece) in (
+      first.0 ++ piece ∷ [],
+      next ∙ ap (λ reads. reads ++ read name (length front) piece ∷ []) first.1 ∙ append_assoc before (reads_from name 0 first.0) _
+          ∙ ap (λ reads. before ++ reads) step,
+      made ∙ ap (λ f. f ++ piece) first.2 ∙ ap (λ p. concat first.0 ++ p) (sym (concat_one piece)) ∙ sym (concat-append first.0 (piece ∷ [])),
+    )
+
+pub read_pieces : (p : Pass) (bytes : List ℕ) → IsRead p bytes →
+    (pieces : List (List ℕ)) × (p.now ≡ p.before ++ reads_from p.name 0 (pieces ++ [] ∷ [])) × (bytes ≡ concat pieces)
+read_pieces p bytes is_read =
+    let first = follow_pieces p.name p.before is_read.reads bytes is_read.given in
+    let step : reads_from p.name 0 first.0 ++ read p.name (length bytes) [] ∷ [] ≡ reads_from p.name 0 (first.0 ++ [] ∷ []) =
+    ap (λ k. reads_from p.name 0 first.0 ++ read p.name k [] ∷ []) (omega (arith, ap length first.2)) ∙ sym (reads_from_more p.name 0 first.0 []) in (
+      first.0,
+      is_read.ends ∙ ap (λ reads. reads ++ read p.name (length bytes) [] ∷ []) first.1 ∙ append_assoc p.before (reads_from p.name 0 first.0) _
+          ∙ ap (λ reads. p.before ++ reads) step,
+      first.2,
+    )

@@ -1,7 +1,7 @@
 pub mod Ports
 pub mod Record
 pub mod Shown
-pub mod PieceOf
+pub mod Calls
 pub mod Limit
 pub mod MemDepot
 pub mod MemSink

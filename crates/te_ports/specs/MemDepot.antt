@@ -3,16 +3,17 @@ use Rattle.std.specs.Prelude.{ℕ, List}
 use Rattle.std.specs.declared.option.Option.{Option}
 use Rattle.std.specs.Option.{option_map}
 use Rattle.std.specs.BTreeMap.{get_by_text}
-use Rattle.te_ports.specs.Record.{IsPieceOf}
+use Rattle.te_ports.specs.Calls.{reads_of}
+use Rattle.te_ports.specs.Record.{Read}
 use Rattle.te_ports.specs.declared.memory_depot.MemDepot.{MemDepot}
 
 -- the bytes of a name that was added
 abbrev pub depot_content : MemDepot → List ℕ → Option (List ℕ)
 depot_content d name = option_map (λ v. v.items) (get_by_text d.files name)
 
--- a read gives a piece of what was added
-abbrev pub depot_gave : MemDepot → List ℕ → ℕ → List ℕ → Type 0
-depot_gave d name = IsPieceOf (depot_content d name)
+-- the reads that were made
+abbrev pub depot_gave : MemDepot → List Read
+depot_gave d = reads_of d.log.calls
 
 -- the failed calls, counted together for every name
 abbrev pub depot_faults : MemDepot → List ℕ → ℕ

@@ -1,37 +1,69 @@
--- What reads gave: a relation of a file's name, a place and the bytes that a read gave there.
-use Rattle.std.specs.Prelude.{◌≡◌, ℕ, ◌+◌, ◌≤◌, List, [], ◌++◌, take, drop, length, Some}
+-- What reads gave: a list of the reads, in their order.
+use Rattle.std.specs.Prelude.{◌≡◌, ℕ, ◌+◌, ◌≤◌, List, [], ◌∷◌, ◌++◌, take, drop, length, All}
 use Rattle.std.specs.declared.option.Option.{Option}
+use Rattle.te_ports.specs.Ports.{Told}
+
+-- a read that had room for a byte: the name of its file, the place, and the bytes that it gave from there on
+pub record Read : Type 0 where
+  pub name : List ℕ
+  pub at : ℕ
+  pub bytes : List ℕ
+
+abbrev pub read : List ℕ → ℕ → List ℕ → Read
+read name at bytes = record { name = name; at = at; bytes = bytes }
 
 -- the bytes stand in the content from this place on, and are none only at its end
 pub record IsPiece (content : List ℕ) (at : ℕ) (bytes : List ℕ) : Type 0 where
   pub bytes_are : bytes ≡ take (length bytes) (drop at content)
   pub ends : length bytes ≡ 0 → length content ≤ at
 
--- a piece of what is told
-abbrev pub IsPieceOf : Option (List ℕ) → ℕ → List ℕ → Type 0
-IsPieceOf told at bytes = (content : List ℕ) × (told ≡ Some content) × IsPiece content at bytes
+-- the read gave a piece of its file, where that is told
+abbrev pub IsOfTold : (List ℕ → Option (List ℕ)) → Read → Type 0
+IsOfTold content r = Told (content r.name) (λ told. IsPiece told r.at r.bytes)
 
--- what was given still is
-abbrev pub Grows : (List ℕ → ℕ → List ℕ → Type 0) → (List ℕ → ℕ → List ℕ → Type 0) → Type 0
-Grows old new = (name : List ℕ) → (at : ℕ) → (bytes : List ℕ) → old name at bytes → new name at bytes
+-- reads followed, each of which gave a piece of its file, where that is told
+pub record Adds (content : List ℕ → Option (List ℕ)) (old new : List Read) : Type 0 where
+  pub more : List Read
+  pub is : new ≡ old ++ more
+  pub pieces : All (IsOfTold content) more
 
--- reads gave these bytes of a file, piece by piece from its start on
-pub data HasGiven (gave : ℕ → List ℕ → Type 0) : List ℕ → Type 0 where
-  nothing : (bytes : List ℕ) → bytes ≡ [] → HasGiven gave bytes
-  more : (bytes before piece : List ℕ) → HasGiven gave before → gave (length before) piece → bytes ≡ before ++ piece →
-      HasGiven gave bytes
+-- the reads from one time to another, which are to be of the file of this name
+pub record Pass : Type 0 where
+  pub name : List ℕ
+  pub before : List Read
+  pub now : List Read
 
--- reads gave these bytes of a file from its start on, and then nothing
-pub record IsRead (gave : ℕ → List ℕ → Type 0) (bytes : List ℕ) : Type 0 where
-  pub given : HasGiven gave bytes
-  pub ends : gave (length bytes) []
+abbrev pub pass : List ℕ → List Read → List Read → Pass
+pass name before now = record { name = name; before = before; now = now }
 
--- reads gave one byte more of a file than is allowed for a file that begins with them
-pub record IsReadPastAllowed (gave : ℕ → List ℕ → Type 0) (allowed : List ℕ → ℕ) : Type 0 where
+-- these reads followed, and no other: of this file, the first from its start and each one from where that before it ended. Together
+-- they gave the bytes
+pub data Follow (name : List ℕ) (before : List Read) : List Read → List ℕ → Type 0 where
+  nothing : (now : List Read) (bytes : List ℕ) → now ≡ before → bytes ≡ [] → Follow name before now bytes
+  more : (then now : List Read) (front bytes piece : List ℕ) → Follow name before then front →
+      now ≡ then ++ read name (length front) piece ∷ [] → bytes ≡ front ++ piece → Follow name before now bytes
+
+-- the reads of a pass gave these bytes of its file, one after another from the start on
+abbrev pub HasGiven : Pass → List ℕ → Type 0
+HasGiven p bytes = Follow p.name p.before p.now bytes
+
+-- and then one gave nothing: these are the bytes from the start of the file to its end
+pub record IsRead (p : Pass) (bytes : List ℕ) : Type 0 where
+  pub reads : List Read
+  pub given : HasGiven (pass p.name p.before reads) bytes
+  pub ends : p.now ≡ reads ++ read p.name (length bytes) [] ∷ []
+
+-- the reads of a pass gave one byte more of its file than is allowed for a file that begins with them
+pub record IsReadPastAllowed (p : Pass) (allowed : List ℕ → ℕ) : Type 0 where
   pub bytes : List ℕ
-  pub given : HasGiven gave bytes
+  pub given : HasGiven p bytes
   pub past : length bytes ≡ allowed bytes + 1
 
--- reads gave one byte more of a file than the limit allows
-abbrev pub IsReadPast : (ℕ → List ℕ → Type 0) → ℕ → Type 0
-IsReadPast gave limit = IsReadPastAllowed gave (λ _. limit)
+-- one byte more than the limit allows
+abbrev pub IsReadPast : Pass → ℕ → Type 0
+IsReadPast p limit = IsReadPastAllowed p (λ _. limit)
+
+-- reads of a file that gave these pieces, each from where the one before it ended, the first from this place
+abbrev pub reads_from : List ℕ → ℕ → List (List ℕ) → List Read
+reads_from name at [] = []
+reads_from name at (piece ∷ pieces) = read name at piece ∷ reads_from name (at + length piece) pieces

@@ -1,9 +1,10 @@
 -- Calls of the system that are made again where a signal interrupted them.
-use Rattle.std.specs.Prelude.{◌≡◌, ℕ, ◌<◌, List, length, Ok, Err, MatchResult}
+use Rattle.std.specs.Prelude.{◌≡◌, ℕ, ◌<◌, List, [], ◌∷◌, ◌++◌, length, Ok, Err, MatchResult}
 use Rattle.std.specs.declared.result.Result.{Result}
 use Rattle.te_ports.specs.declared.port.Failed.{Failed}
 use Rattle.te_ports.specs.declared.system.SystemFault.{SystemFault}
 use Rattle.te_ports.specs.declared.system.SystemFault.TheVariants.{Interrupted}
+use Rattle.te_ports.specs.Calls.{Made, writes, read_into}
 
 -- one call, or several of which all but the last were interrupted, took one state to another with this last answer
 pub data IsTried {S : Type 0} (call : S → Result ℕ SystemFault → S → Type 0) : S → Result ℕ SystemFault → S → Type 0 where
@@ -11,14 +12,13 @@ pub data IsTried {S : Type 0} (call : S → Result ℕ SystemFault → S → Typ
   again : (old between new : S) (last : Result ℕ SystemFault) → IsTried call old (Err Interrupted) between →
       call between last new → IsTried call old last new
 
--- a write of these bytes, as a call
-abbrev pub write_call : {S : Type 0} → (S → List ℕ → Result ℕ SystemFault → S → Type 0) → List ℕ → S → Result ℕ SystemFault → S → Type 0
-write_call answers bytes old answer new = answers old bytes answer new
+-- a write of these bytes, as a call: it is noted, and nothing else is
+abbrev pub write_call : {S : Type 0} → (S → List Made) → List ℕ → S → Result ℕ SystemFault → S → Type 0
+write_call calls bytes old answer new = calls new ≡ calls old ++ writes bytes answer ∷ []
 
--- a read of the file of this name at this place, as a call that changes the disk and the buffer
-abbrev pub read_call : {S : Type 0} → (S → List ℕ → ℕ → Result ℕ SystemFault → List ℕ → S → Type 0) → List ℕ → ℕ →
-    S × List ℕ → Result ℕ SystemFault → S × List ℕ → Type 0
-read_call answers name at old answer new = answers old.0 name at answer new.1 new.0
+-- a read of the file of this name at this place, as a call that changes the disk and the buffer: it is noted, and nothing else is
+abbrev pub read_call : {S : Type 0} → (S → List Made) → List ℕ → ℕ → S × List ℕ → Result ℕ SystemFault → S × List ℕ → Type 0
+read_call calls name at old answer new = calls new.0 ≡ calls old.0 ++ read_into name at answer new.1 ∷ []
 
 -- a write takes what the system took, and fails exactly where the system did or took nothing of bytes that are there
 abbrev pub IsWriteAnswer : List ℕ → Result ℕ SystemFault → Result ℕ Failed → Type 0

@@ -1,24 +1,43 @@
 //! The files of the system, of which one at a time is kept open.
-ghost use Rattle.std.specs.Prelude.{◌≡◌, ◌≤◌, ◌<◌, ◌+◌, ◌-◌, ◌^◌, min, ℕ, List, length, take, IfOk, string_bytes};
-ghost use Rattle.std.specs.declared.result.Result.{Result};
+ghost use Rattle.std.specs.Prelude.{◌≡◌, ◌≤◌, ◌<◌, ◌+◌, ◌-◌, ◌^◌, min, [], ◌∷◌, ◌++◌, List, length, take, IfOk, string_bytes};
 ghost use Rattle.std.specs.Io.{ReadsAtMost};
-ghost use Rattle.te_ports.specs.declared.system.SystemFault.{SystemFault as Fault};
+ghost use Rattle.te_ports.specs.Calls.{Made, made, reads, bytes_read, read_into};
 
-use crate::SystemFault;
+use crate::{Call, Log, SystemFault};
 use std::fs;
 use std::io::{self, Read, Seek, SeekFrom};
 use std::rt::Files;
 
 /// Files by their names, and what the system answers.
 pub trait Disk {
-    /// A read of the file of this name at this place got this answer from the system, with these bytes in the buffer,
-    /// and left the disk so.
-    ghost answers: { Self → List ℕ → ℕ → Result ℕ Fault → List ℕ → Self → Type 0 };
+    /// The calls of the system, and what it answered.
+    ghost calls: { Self → List Made };
 
     /// Asks the system once.
     fn read_once(&mut self, name: &str, at: u64, buf: &mut [u8]) -> Result<usize, SystemFault>
         ensures bound { ReadsAtMost result buf.new }
-        ensures answered { answers self.old name.now at result buf.new self.new };
+        ensures called { calls self.new ≡ calls self.old ++ read_into name.now at result buf.new ∷ [] };
+}
+
+/// A read into a buffer, as a call: its bytes, or its fault.
+pub fn read_call<'a>(
+    name: &'a str,
+    at: u64,
+    buf: &'a [u8],
+    answer: &Result<usize, SystemFault>,
+) -> Call<'a>
+    requires { ReadsAtMost answer.now buf.now }
+    ensures { made result ≡ read_into name.now at answer.now buf.now }
+{
+    Call::Read {
+        name,
+        at,
+        room: buf.len(),
+        answer: match answer {
+            Ok(count) => Ok(&buf[..*count]),
+            Err(fault) => Err(*fault),
+        },
+    }
 }
 
 /// An open file under its name, and where its next read begins that goes nowhere first.
@@ -60,16 +79,26 @@ impl<F: Read + Seek + Drop> OpenFile<F> {
 }
 
 /// The files that a runtime reaches. The file of the last name stays open until another name is read, or a read failed.
+///
+/// No clause says what a call of the system does. So `ask` and what it calls have to be read: that `read_once`, which notes what
+/// `ask` answered, notes a read of that file at that place.
 #[derive(Drop)]
 pub struct SystemDisk<R: Files + AllocGlobal + Drop> {
     files: R,
     last: Option<OpenFile<R::File>>,
+    log: Log,
 }
 
 impl<R: Files + AllocGlobal + Drop> SystemDisk<R> {
     /// No file is open yet.
-    pub fn new(files: R) -> Self {
-        SystemDisk { files, last: None }
+    pub fn new(files: R) -> Self
+        ensures { result.log.calls ≡ [] }
+    {
+        SystemDisk {
+            files,
+            last: None,
+            log: Log::new(),
+        }
     }
 
     fn open(&self, name: &str) -> io::Result<OpenFile<R::File>>
@@ -81,19 +110,20 @@ impl<R: Files + AllocGlobal + Drop> SystemDisk<R> {
     }
 
     fn last_or_open(&mut self, name: &str) -> io::Result<OpenFile<R::File>>
-        ensures { IfOk result (λ file. string_bytes file.name ≡ name.now) }
+        ensures name { IfOk result (λ file. string_bytes file.name ≡ name.now) }
+        ensures log { self.new.log.calls ≡ self.old.log.calls }
     {
         match self.last.take() {
             Some(file) if file.name.as_str() == name => Ok(file),
             _ => self.open(name),
         }
     }
-}
 
-impl<R: Files + AllocGlobal + Drop> Disk for SystemDisk<R> {
-    ghost answers = { λ _ _ _ _ _ _. Unit {0} };
-
-    fn read_once(&mut self, name: &str, at: u64, buf: &mut [u8]) -> Result<usize, SystemFault> {
+    // Reads once from the file of this name, which stays open unless the read failed.
+    fn ask(&mut self, name: &str, at: u64, buf: &mut [u8]) -> Result<usize, SystemFault>
+        ensures bound { ReadsAtMost result buf.new }
+        ensures log { self.new.log.calls ≡ self.old.log.calls }
+    {
         let mut file = self.last_or_open(name)?;
         match file.read_at(at, buf) {
             Ok(count) => {
@@ -108,5 +138,15 @@ impl<R: Files + AllocGlobal + Drop> Disk for SystemDisk<R> {
                 Err(fault)
             }
         }
+    }
+}
+
+impl<R: Files + AllocGlobal + Drop> Disk for SystemDisk<R> {
+    ghost calls = { λ d. d.log.calls };
+
+    fn read_once(&mut self, name: &str, at: u64, buf: &mut [u8]) -> Result<usize, SystemFault> {
+        let answer = self.ask(name, at, buf);
+        self.log = self.log.then(&read_call(name, at, buf, &answer));
+        answer
     }
 }

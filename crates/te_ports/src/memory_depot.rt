@@ -1,9 +1,10 @@
 //! A depot in memory whose reads can be made to fail.
 ghost use Rattle.std.specs.Prelude.{◌≡◌, ◌≢◌, ◌≤◌, ◌<◌, ◌+◌, ◌-◌, ◌^◌, ◌↔◌, ◌⊎◌, min, Contains, [], ◌∷◌, ◌++◌, ℕ, List, length, take, drop, IfOk, OnOk, OnErr, IsErr, Some, None};
 ghost use Rattle.te_ports.specs.Ports.{Rose, Told};
-ghost use Rattle.te_ports.specs.Record.{IsPiece, IsPieceOf, Grows};
+ghost use Rattle.te_ports.specs.Calls.{made, reads};
+ghost use Rattle.te_ports.specs.Record.{read};
 
-use crate::{Depot, Failed};
+use crate::{Call, Depot, Failed, Log};
 use std::alloc::{AllocError, Global};
 use std::collections::BTreeMap;
 
@@ -16,11 +17,12 @@ pub struct MemDepot {
     piece: usize,
     calls: u64,
     faults: u64,
+    log: Log,
     ghost gives: { 1 ≤ piece },
 }
 
 impl MemDepot {
-    ghost use Rattle.te_ports.specs.MemDepot.{depot_content, depot_faults, depot_calls, depot_piece, depot_failing};
+    ghost use Rattle.te_ports.specs.MemDepot.{depot_content, depot_faults, depot_gave, depot_calls, depot_piece, depot_failing};
 
     /// An empty depot whose fetches give at most `piece` bytes each. `AllocError` where memory is short.
     pub fn new(alloc: Global, piece: usize) -> Result<MemDepot, AllocError>
@@ -30,6 +32,7 @@ impl MemDepot {
         ensures started { IfOk result (λ d. depot_calls d ≡ 0) }
         ensures nothing_fails { IfOk result (λ d. depot_failing d ≡ []) }
         ensures no_fault { IfOk result (λ d. (name : List ℕ) → depot_faults d name ≡ 0) }
+        ensures nothing_read { IfOk result (λ d. depot_gave d ≡ []) }
     {
         Ok(MemDepot {
             alloc,
@@ -38,6 +41,7 @@ impl MemDepot {
             piece,
             calls: 0,
             faults: 0,
+            log: Log::new(),
         })
     }
 
@@ -51,6 +55,7 @@ impl MemDepot {
         ensures calls { depot_calls self.new ≡ depot_calls self.old }
         ensures failing { depot_failing self.new ≡ depot_failing self.old }
         ensures faults { depot_faults self.new ≡ depot_faults self.old }
+        ensures gave { depot_gave self.new ≡ depot_gave self.old }
     {
         let key = String::from_str(self.alloc, name)?;
         let copy = bytes.to_vec(self.alloc)?;
@@ -67,6 +72,7 @@ impl MemDepot {
         ensures piece { depot_piece self.new ≡ depot_piece self.old }
         ensures calls { depot_calls self.new ≡ depot_calls self.old }
         ensures faults { depot_faults self.new ≡ depot_faults self.old }
+        ensures gave { depot_gave self.new ≡ depot_gave self.old }
     {
         self.failing.push(call)?;
         Ok(())
@@ -87,17 +93,27 @@ pub(crate) fn copy_piece(bytes: &[u8], at: u64, piece: usize, buf: &mut [u8]) ->
     count
 }
 
+// A read that put so many bytes into a buffer.
+pub(crate) fn read_of<'a>(name: &'a str, at: u64, buf: &'a [u8], count: usize) -> Call<'a>
+    requires { count ≤ length buf.now }
+    ensures { made result ≡ reads name.now at (length buf.now) (Ok (take count buf.now)) }
+{
+    Call::Read {
+        name,
+        at,
+        room: buf.len(),
+        answer: Ok(&buf[..count]),
+    }
+}
+
 impl Depot for MemDepot {
     ghost use Rattle.te_ports.specs.MemDepot.{depot_content, depot_faults, depot_gave, depot_calls, depot_piece, depot_failing};
-    ghost use Rattle.te_ports.specs.PieceOf.{piece_of_told};
 
     ghost content = { depot_content };
 
     ghost faults = { depot_faults };
 
     ghost gave = { depot_gave };
-
-    ghost gave_told = { λ depot name told is at bytes given. piece_of_told (depot_content depot name) told at bytes is given };
 
     fn fetch(&mut self, name: &str, at: u64, buf: &mut [u8]) -> Result<usize, Failed>
         ensures content { depot_content self.new ≡ depot_content self.old }
@@ -106,8 +122,10 @@ impl Depot for MemDepot {
             take n buf.new ≡ take n (drop at told))) }
         ensures end { IfOk result (λ n. Told (depot_content self.old name.now) (λ told.
             n ≡ 0 → 0 < length buf.new → length told ≤ at)) }
-        ensures gave { IfOk result (λ n. 0 < length buf.new → depot_gave self.new name.now at (take n buf.new)) }
-        ensures kept { Grows (depot_gave self.old) (depot_gave self.new) }
+        ensures gave { IfOk result (λ n. 0 < length buf.new →
+            depot_gave self.new ≡ depot_gave self.old ++ read name.now at (take n buf.new) ∷ []) }
+        ensures no_room { length buf.new ≡ 0 → depot_gave self.new ≡ depot_gave self.old }
+        ensures unread { OnErr result (depot_gave self.new ≡ depot_gave self.old) }
         ensures steady { OnOk result (depot_faults self.new ≡ depot_faults self.old) }
         ensures failed { OnErr result (Rose (depot_faults self.old name.now) (depot_faults self.new name.now)) }
         ensures later { (other : List ℕ) → depot_faults self.old other ≤ depot_faults self.new other }
@@ -131,7 +149,11 @@ impl Depot for MemDepot {
             return Err(Failed);
         }
         match self.files.get(name) {
-            Some(bytes) => Ok(copy_piece(bytes, at, self.piece, buf)),
+            Some(bytes) => {
+                let count = copy_piece(bytes, at, self.piece, buf);
+                self.log = self.log.then(&read_of(name, at, buf, count));
+                Ok(count)
+            }
             None => {
                 self.faults = self.faults.saturating_add(1);
                 Err(Failed)

@@ -1,9 +1,9 @@
 //! What a depot and a sink promise.
-ghost use Rattle.std.specs.Prelude.{◌≡◌, ◌≤◌, ◌<◌, ℕ, List, length, take, drop, IfOk, OnOk, OnErr, Some};
+ghost use Rattle.std.specs.Prelude.{◌≡◌, ◌≤◌, ◌<◌, ℕ, List, [], ◌∷◌, ◌++◌, length, take, drop, IfOk, OnOk, OnErr};
 ghost use Rattle.std.specs.declared.option.Option.{Option};
 ghost use Rattle.std.specs.Io.KnownBytes.{append_known};
 ghost use Rattle.te_ports.specs.Ports.{Rose, Told};
-ghost use Rattle.te_ports.specs.Record.{IsPiece, Grows};
+ghost use Rattle.te_ports.specs.Record.{Read, read};
 
 /// A read or a write that failed.
 #[derive(Clone, Copy, Debug, PartialEq, Eq)]
@@ -17,8 +17,8 @@ pub trait Depot {
     /// How often reads of a name have failed.
     ghost faults: { Self → List ℕ → ℕ };
 
-    /// A read of the file of this name, at this place and with room for a byte, gave these bytes.
-    ghost gave: { Self → List ℕ → ℕ → List ℕ → Type 0 };
+    /// The reads that had room for a byte and did not fail, in their order, and the bytes that each gave.
+    ghost gave: { Self → List Read };
 
     /// Reads bytes of the file of a name from the place `at` on, and answers how many.
     ///
@@ -33,16 +33,14 @@ pub trait Depot {
         ensures end { IfOk result (λ n. Told (content self.old name.now) (λ told.
             n ≡ 0 → 0 < length buf.new → length told ≤ at)) }
 
-        // What was read is on record, and the record keeps what it has.
-        ensures gave { IfOk result (λ n. 0 < length buf.new → gave self.new name.now at (take n buf.new)) }
-        ensures kept { Grows (gave self.old) (gave self.new) }
+        // The read is on record behind those before it, and nothing else is.
+        ensures gave { IfOk result (λ n. 0 < length buf.new →
+            gave self.new ≡ gave self.old ++ read name.now at (take n buf.new) ∷ []) }
+        ensures no_room { length buf.new ≡ 0 → gave self.new ≡ gave self.old }
+        ensures unread { OnErr result (gave self.new ≡ gave self.old) }
         ensures steady { OnOk result (faults self.new ≡ faults self.old) }
         ensures failed { OnErr result (Rose (faults self.old name.now) (faults self.new name.now)) }
         ensures later { (other : List ℕ) → faults self.old other ≤ faults self.new other };
-
-    /// What reads gave of a file that is told is a piece of it.
-    ghost gave_told: { (depot : Self) → (name : List ℕ) → (told : List ℕ) → content depot name ≡ Some told →
-        (at : ℕ) → (bytes : List ℕ) → gave depot name at bytes → IsPiece told at bytes };
 }
 
 /// What takes bytes, one after another.

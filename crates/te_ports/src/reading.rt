@@ -1,8 +1,8 @@
 //! Reading a whole file.
-ghost use Rattle.std.specs.Prelude.{◌≡◌, ◌≢◌, ◌≤◌, ◌<◌, ◌^◌, ◌++◌, ℕ, List, length, IfOk, IsErrOf, Err};
+ghost use Rattle.std.specs.Prelude.{◌≡◌, ◌≢◌, ◌≤◌, ◌<◌, ◌^◌, [], ◌∷◌, ◌++◌, ℕ, List, length, IfOk, IsErrOf, Err};
 ghost use Rattle.te_ports.specs.Ports.{Rose, Told};
 ghost use Rattle.te_ports.specs.Limit.{IsLimit};
-ghost use Rattle.te_ports.specs.Record.{IsRead, IsReadPast, IsReadPastAllowed, Grows};
+ghost use Rattle.te_ports.specs.Record.{Adds, pass, IsRead, IsReadPast, IsReadPastAllowed, read};
 ghost use Rattle.te_ports.specs.declared.reading.LoadFault.TheVariants.{Memory as OutOfMemory};
 
 use crate::{Depot, Failed, Limit};
@@ -42,7 +42,7 @@ impl From<Failed> for LoadFault {
 const CHUNK: usize = 65_536;
 
 /// Reads the file of a name from its start to the first fetch that gives nothing, or until more bytes were read than
-/// the limit allows for them. No byte is read twice.
+/// the limit allows for them. Nothing else is read, and nothing twice.
 ///
 /// `Failed` comes only where a read of this file failed in the call, `TooLong` only where reads gave one byte more than
 /// the limit allows for them, and so only where a told file is longer than its limit.
@@ -54,11 +54,11 @@ pub fn load_within<D: Depot, L: Limit>(
 ) -> Result<Vec<u8>, LoadFault>
     requires { IsLimit (L.allowed limit.now) }
 
-    // The bytes are those that reads gave, told or not.
-    ensures read { IfOk result (λ bytes. IsRead (D.gave depot.new name.now) bytes.items) }
+    // The reads of the call are those of one pass over the file, and the bytes are what they gave, told or not.
+    ensures read { IfOk result (λ bytes. IsRead (pass name.now (D.gave depot.old) (D.gave depot.new)) bytes.items) }
     ensures past { IsErrOf result LoadFault.TooLong →
-        IsReadPastAllowed (D.gave depot.new name.now) (L.allowed limit.now) }
-    ensures kept { Grows (D.gave depot.old) (D.gave depot.new) }
+        IsReadPastAllowed (pass name.now (D.gave depot.old) (D.gave depot.new)) (L.allowed limit.now) }
+    ensures added { Adds (D.content depot.old) (D.gave depot.old) (D.gave depot.new) }
     ensures told { IfOk result (λ bytes. Told (D.content depot.old name.now) (λ told. bytes.items ≡ told)) }
     ensures within { IfOk result (λ bytes. length bytes.items ≤ L.allowed limit.now bytes.items) }
     ensures too_long { IsErrOf result LoadFault.TooLong →
@@ -91,10 +91,11 @@ fn append_piece<D: Depot>(
     bytes: &mut Vec<u8>,
 ) -> Result<usize, LoadFault>
     requires { 0 < length chunk.old }
-    ensures piece { IfOk result (λ n. (piece : List ℕ) × D.gave depot.new name.now (length bytes.old.items) piece
+    ensures piece { IfOk result (λ n. (piece : List ℕ)
+        × (D.gave depot.new ≡ D.gave depot.old ++ read name.now (length bytes.old.items) piece ∷ [])
         × (bytes.new.items ≡ bytes.old.items ++ piece) × (length piece ≡ n)) }
     ensures few { IfOk result (λ n. n ≤ length chunk.old) }
-    ensures kept { Grows (D.gave depot.old) (D.gave depot.new) }
+    ensures added { Adds (D.content depot.old) (D.gave depot.old) (D.gave depot.new) }
     ensures failed { IsErrOf result LoadFault.Failed → Rose (D.faults depot.old name.now) (D.faults depot.new name.now) }
     ensures not_too_long { result ≢ Err LoadFault.TooLong }
     ensures steady { result ≢ Err LoadFault.Failed → D.faults depot.new ≡ D.faults depot.old }
@@ -116,10 +117,10 @@ pub fn load<D: Depot>(
 ) -> Result<Vec<u8>, LoadFault>
     requires { limit ≤ 2 ^ 30 }
 
-    // The bytes are those that reads gave, told or not.
-    ensures read { IfOk result (λ bytes. IsRead (D.gave depot.new name.now) bytes.items) }
-    ensures past { IsErrOf result LoadFault.TooLong → IsReadPast (D.gave depot.new name.now) limit }
-    ensures kept { Grows (D.gave depot.old) (D.gave depot.new) }
+    // The reads of the call are those of one pass over the file, and the bytes are what they gave, told or not.
+    ensures read { IfOk result (λ bytes. IsRead (pass name.now (D.gave depot.old) (D.gave depot.new)) bytes.items) }
+    ensures past { IsErrOf result LoadFault.TooLong → IsReadPast (pass name.now (D.gave depot.old) (D.gave depot.new)) limit }
+    ensures added { Adds (D.content depot.old) (D.gave depot.old) (D.gave depot.new) }
     ensures told { IfOk result (λ bytes. Told (D.content depot.old name.now) (λ told. bytes.items ≡ told)) }
     ensures within { IfOk result (λ bytes. length bytes.items ≤ limit) }
     ensures too_long { IsErrOf result LoadFault.TooLong → Told (D.content depot.old name.now) (λ told. limit < length told) }

@@ -1,8 +1,10 @@
 //! The files of the system as a depot. They tell no content, and count each failure.
-ghost use Rattle.std.specs.Prelude.{◌≡◌, ◌≤◌, ◌<◌, ◌+◌, ◌-◌, ◌^◌, ℕ, List, length, take, IfOk, OnOk, OnErr};
+ghost use Rattle.std.specs.Prelude.{◌≡◌, ◌≤◌, ◌<◌, ◌+◌, ◌-◌, ◌^◌, [], ◌∷◌, ◌++◌, ℕ, List, length, take, IfOk, OnOk, OnErr};
 ghost use Rattle.std.specs.declared.result.Result.{Result};
 ghost use Rattle.std.specs.Io.{ReadsAtMost};
 ghost use Rattle.te_ports.specs.Ports.{Rose};
+ghost use Rattle.te_ports.specs.Calls.{reads_of};
+ghost use Rattle.te_ports.specs.Record.{read};
 ghost use Rattle.te_ports.specs.Trying.{IsTried, IsReadAnswer, read_call};
 ghost use Rattle.te_ports.specs.declared.system.SystemFault.{SystemFault as Fault};
 
@@ -24,6 +26,7 @@ impl<R: Files + AllocGlobal + Drop> RealDepot<SystemDisk<R>> {
     /// The files that the runtime reaches.
     pub fn new(files: R) -> Self
         ensures no_fault { result.faults ≡ 0 }
+        ensures nothing_read { result.disk.log.calls ≡ [] }
     {
         RealDepot::over(SystemDisk::new(files))
     }
@@ -47,7 +50,7 @@ fn read_again<D: Disk>(
     buf: &mut [u8],
 ) -> Result<usize, SystemFault>
     ensures bound { ReadsAtMost result buf.new }
-    ensures tried { IsTried (read_call D.answers name.now at) (disk.old, buf.old) result (disk.new, buf.new) }
+    ensures tried { IsTried (read_call D.calls name.now at) (disk.old, buf.old) result (disk.new, buf.new) }
 {
     let mut answer = disk.read_once(name, at, buf);
     'tries: for _ in 1..TRIES {
@@ -61,25 +64,26 @@ fn read_again<D: Disk>(
 
 impl<D: Disk + Drop> Depot for RealDepot<D> {
     ghost use Rattle.std.specs.Prelude.{None};
-    ghost use Rattle.te_ports.specs.PieceOf.{nothing_is_told};
 
     ghost content = { λ _ _. None };
 
     ghost faults = { λ d _. d.faults };
 
-    ghost gave = { λ _ _ _ _. Unit {0} };
-
-    ghost gave_told = { λ _ _ told is at bytes _. nothing_is_told told at bytes is };
+    ghost gave = { λ d. reads_of (D.calls d.disk) };
 
     fn fetch(&mut self, name: &str, at: u64, buf: &mut [u8]) -> Result<usize, Failed>
         ensures room { IfOk result (λ n. n ≤ length buf.new) }
+        ensures gave { IfOk result (λ n. 0 < length buf.new →
+            reads_of (D.calls self.new.disk) ≡ reads_of (D.calls self.old.disk) ++ read name.now at (take n buf.new) ∷ []) }
+        ensures no_room { length buf.new ≡ 0 → reads_of (D.calls self.new.disk) ≡ reads_of (D.calls self.old.disk) }
+        ensures unread { OnErr result (reads_of (D.calls self.new.disk) ≡ reads_of (D.calls self.old.disk)) }
         ensures steady { OnOk result (self.new.faults ≡ self.old.faults) }
         ensures failed { OnErr result (Rose self.old.faults self.new.faults) }
         ensures later { self.old.faults ≤ self.new.faults }
 
-        // What the system answered last is the answer, and the buffer is as it left it.
+        // The calls are on record, and what the system answered last is the answer.
         ensures answered { (answer : Result ℕ Fault) ×
-            IsTried (read_call D.answers name.now at) (self.old.disk, buf.old) answer (self.new.disk, buf.new) ×
+            IsTried (read_call D.calls name.now at) (self.old.disk, buf.old) answer (self.new.disk, buf.new) ×
             IsReadAnswer answer result }
     {
         match read_again(&mut self.disk, name, at, buf) {

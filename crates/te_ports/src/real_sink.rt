@@ -1,51 +1,103 @@
-//! The streams of the system. They tell no content, and count each failure.
-ghost use Rattle.std.specs.Prelude.{◌≡◌, ◌≤◌, ◌<◌, ◌+◌, ◌-◌, ◌^◌, ℕ, List, length, take, IfOk, OnOk, OnErr};
+//! The streams of the system. They tell what they took, and count each failure.
+ghost use Rattle.std.specs.Prelude.{◌≡◌, ◌≤◌, ◌<◌, ◌+◌, ◌-◌, ◌^◌, [], ◌∷◌, ◌++◌, ℕ, List, length, take, IfOk, OnOk, OnErr};
+ghost use Rattle.std.specs.declared.option.Option.{Option};
 ghost use Rattle.std.specs.declared.result.Result.{Result};
 ghost use Rattle.te_ports.specs.declared.system.SystemFault.{SystemFault as Fault};
 ghost use Rattle.std.specs.Io.{WritesAtMost};
 ghost use Rattle.std.specs.Io.KnownBytes.{Appends, Keeps, WriteAppends};
+ghost use Rattle.te_ports.specs.Calls.{Made, writes, taken_of};
 ghost use Rattle.te_ports.specs.Ports.{Rose};
 ghost use Rattle.te_ports.specs.Trying.{IsTried, IsWriteAnswer, write_call};
 
 use crate::system::TRIES;
-use crate::{Failed, Sink, SystemFault};
+use crate::{Call, Failed, Log, Sink, SystemFault};
 use std::io::Write;
 
 /// A stream of the system, and what it answers.
-pub trait Stream: Write {
-    /// A write of these bytes got this answer from the system, and left the stream so.
-    ghost answers: { Self → List ℕ → Result ℕ Fault → Self → Type 0 };
+pub trait Stream {
+    /// The bytes that it has, where it tells them.
+    ghost contents: { Self → Option (List ℕ) };
+
+    /// The calls of the system, and what it answered.
+    ghost calls: { Self → List Made };
 
     /// Asks the system once.
     fn write_once(&mut self, bytes: &[u8]) -> Result<usize, SystemFault>
         ensures bound { WritesAtMost result bytes.now }
-        ensures bytes { WriteAppends (Self.contents self.old) (Self.contents self.new) result bytes.now }
-        ensures answered { answers self.old bytes.now result self.new };
+        ensures bytes { WriteAppends (contents self.old) (contents self.new) result bytes.now }
+        ensures called { calls self.new ≡ calls self.old ++ writes bytes.now result ∷ [] };
 }
 
-impl<W: Write> Stream for W {
-    ghost answers = { λ _ _ _ _. Unit {0} };
+/// A stream that takes bytes, with its calls.
+///
+/// No clause says what a call of the system does. So `ask` has to be read: that `write_once`, which notes what `ask` answered,
+/// notes a write of those bytes.
+#[derive(Drop)]
+pub struct SystemStream<W: Write + Drop> {
+    inner: W,
+    log: Log,
+}
 
-    fn write_once(&mut self, bytes: &[u8]) -> Result<usize, SystemFault> {
-        match self.write(bytes) {
+impl<W: Write + Drop> SystemStream<W> {
+    /// The bytes go to this stream.
+    pub fn new(inner: W) -> Self
+        ensures inner { result.inner ≡ inner }
+        ensures nothing_written { result.log.calls ≡ [] }
+    {
+        SystemStream {
+            inner,
+            log: Log::new(),
+        }
+    }
+
+    // Writes once.
+    fn ask(&mut self, bytes: &[u8]) -> Result<usize, SystemFault>
+        ensures bound { WritesAtMost result bytes.now }
+        ensures bytes { WriteAppends (W.contents self.old.inner) (W.contents self.new.inner) result bytes.now }
+        ensures log { self.new.log.calls ≡ self.old.log.calls }
+    {
+        match self.inner.write(bytes) {
             Ok(count) => Ok(count),
             Err(error) => Err(SystemFault::from(error)),
         }
     }
 }
 
-/// A stream that takes bytes, as standard output. Its faults are the count of failed writes, which stands still at
-/// 2^64 - 1. A stream that takes nothing of bytes that are there has failed. A write that a signal interrupts is tried
-/// again, a hundred times in all.
+impl<W: Write + Drop> Stream for SystemStream<W> {
+    ghost contents = { λ s. W.contents s.inner };
+
+    ghost calls = { λ s. s.log.calls };
+
+    fn write_once(&mut self, bytes: &[u8]) -> Result<usize, SystemFault> {
+        let answer = self.ask(bytes);
+        self.log = self.log.then(&Call::Write { bytes, answer });
+        answer
+    }
+}
+
+/// A stream that takes bytes, as standard output. It tells what was taken by the calls that are on record. Its faults are the
+/// count of failed writes, which stands still at 2^64 - 1. A stream that takes nothing of bytes that are there has failed. A
+/// write that a signal interrupts is tried again, a hundred times in all.
 #[derive(Drop)]
 pub struct RealSink<W: Stream + Drop> {
     inner: W,
     faults: u64,
 }
 
-impl<W: Stream + Drop> RealSink<W> {
+impl<W: Write + Drop> RealSink<SystemStream<W>> {
     /// The bytes go to this stream.
     pub fn new(inner: W) -> Self
+        ensures inner { result.inner.inner ≡ inner }
+        ensures nothing_written { result.inner.log.calls ≡ [] }
+        ensures no_fault { result.faults ≡ 0 }
+    {
+        RealSink::over(SystemStream::new(inner))
+    }
+}
+
+impl<W: Stream + Drop> RealSink<W> {
+    /// The bytes go to this stream.
+    pub fn over(inner: W) -> Self
         ensures inner { result.inner ≡ inner }
         ensures no_fault { result.faults ≡ 0 }
     {
@@ -57,7 +109,7 @@ impl<W: Stream + Drop> RealSink<W> {
 fn write_again<W: Stream>(stream: &mut W, bytes: &[u8]) -> Result<usize, SystemFault>
     ensures bound { WritesAtMost result bytes.now }
     ensures bytes { WriteAppends (W.contents stream.old) (W.contents stream.new) result bytes.now }
-    ensures tried { IsTried (write_call W.answers bytes.now) stream.old result stream.new }
+    ensures tried { IsTried (write_call W.calls bytes.now) stream.old result stream.new }
 {
     let mut answer = stream.write_once(bytes);
     'tries: for _ in 1..TRIES {
@@ -70,22 +122,26 @@ fn write_again<W: Stream>(stream: &mut W, bytes: &[u8]) -> Result<usize, SystemF
 }
 
 impl<W: Stream + Drop> Sink for RealSink<W> {
-    ghost use Rattle.std.specs.Prelude.{None};
+    ghost use Rattle.std.specs.Prelude.{Some};
 
-    ghost written = { λ _. None };
+    ghost written = { λ s. Some (taken_of (W.calls s.inner)) };
 
     ghost faults = { λ s. s.faults };
 
     fn put(&mut self, bytes: &[u8]) -> Result<usize, Failed>
         ensures bound { IfOk result (λ n. n ≤ length bytes.now) }
         ensures progress { IfOk result (λ n. 0 < length bytes.now → 1 ≤ n) }
+        ensures appended { IfOk result (λ n.
+            taken_of (W.calls self.new.inner) ≡ taken_of (W.calls self.old.inner) ++ take n bytes.now) }
+        ensures unchanged { OnErr result (taken_of (W.calls self.new.inner) ≡ taken_of (W.calls self.old.inner)) }
         ensures steady { OnOk result (self.new.faults ≡ self.old.faults) }
         ensures failed { OnErr result (Rose self.old.faults self.new.faults) }
         ensures later { self.old.faults ≤ self.new.faults }
 
-        // What the system answered last is the answer, and where the stream tells its bytes, it has the first n more.
+        // The calls are on record, what the system answered last is the answer, and where the stream tells its bytes, it has the
+        // first n more.
         ensures answered { (answer : Result ℕ Fault) ×
-            IsTried (write_call W.answers bytes.now) self.old.inner answer self.new.inner ×
+            IsTried (write_call W.calls bytes.now) self.old.inner answer self.new.inner ×
             IsWriteAnswer bytes.now answer result }
         ensures takes { IfOk result (λ n.
             Appends (W.contents self.old.inner) (W.contents self.new.inner) (take n bytes.now)) }

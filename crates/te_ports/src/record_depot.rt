@@ -1,8 +1,8 @@
 //! A depot that tells nothing, and writes down what its reads gave.
-ghost use Rattle.std.specs.Prelude.{◌≡◌, ◌≤◌, ◌<◌, ◌+◌, ◌-◌, ◌^◌, min, [], ℕ, List, length, take, IfOk, OnOk, OnErr};
+ghost use Rattle.std.specs.Prelude.{◌≡◌, ◌≤◌, ◌<◌, ◌+◌, ◌-◌, ◌^◌, min, [], ◌∷◌, ◌++◌, ℕ, List, length, take, IfOk, OnOk, OnErr};
 ghost use Rattle.te_ports.specs.Ports.{Rose};
-ghost use Rattle.te_ports.specs.Record.{Grows};
-ghost use Rattle.te_ports.specs.RecordDepot.{is_on_record, WritesDown};
+ghost use Rattle.te_ports.specs.Record.{read};
+ghost use Rattle.te_ports.specs.RecordDepot.{written_down};
 
 use crate::{Depot, Failed};
 use std::alloc::{AllocError, Global};
@@ -56,7 +56,7 @@ fn note(
     at: u64,
     bytes: &[u8],
 ) -> Result<(), AllocError>
-    ensures noted { OnOk result (WritesDown log.old.items log.new.items name.now at bytes.now) }
+    ensures noted { OnOk result (written_down log.new.items ≡ written_down log.old.items ++ read name.now at bytes.now ∷ []) }
     ensures err { OnErr result (log.new.items ≡ log.old.items) }
 {
     let entry = Entry {
@@ -70,30 +70,26 @@ fn note(
 
 impl<D: Depot + Drop> Depot for RecordDepot<D> {
     ghost use Rattle.std.specs.Prelude.{None};
-    ghost use Rattle.te_ports.specs.PieceOf.{nothing_is_told};
 
     ghost content = { λ _ _. None };
 
     ghost faults = { λ d _. d.faults };
 
-    ghost gave = { λ d. is_on_record d.log.items };
-
-    ghost gave_told = { λ _ _ told is at bytes _. nothing_is_told told at bytes is };
+    ghost gave = { λ d. written_down d.log.items };
 
     fn fetch(&mut self, name: &str, at: u64, buf: &mut [u8]) -> Result<usize, Failed>
         ensures room { IfOk result (λ n. n ≤ length buf.new) }
-        ensures gave { IfOk result (λ n. 0 < length buf.new → is_on_record self.new.log.items name.now at (take n buf.new)) }
-        ensures kept { Grows (is_on_record self.old.log.items) (is_on_record self.new.log.items) }
+        ensures gave { IfOk result (λ n. 0 < length buf.new →
+            written_down self.new.log.items ≡ written_down self.old.log.items ++ read name.now at (take n buf.new) ∷ []) }
         ensures steady { OnOk result (self.new.faults ≡ self.old.faults) }
         ensures failed { OnErr result (Rose self.old.faults self.new.faults) }
         ensures later { self.old.faults ≤ self.new.faults }
 
         // What the other depot gave is written down, and nothing else is.
-        ensures given { IfOk result (λ n. 0 < length buf.new → D.gave self.new.inner name.now at (take n buf.new)) }
-        ensures noted { IfOk result (λ n. 0 < length buf.new →
-            WritesDown self.old.log.items self.new.log.items name.now at (take n buf.new)) }
+        ensures given { IfOk result (λ n. 0 < length buf.new →
+            D.gave self.new.inner ≡ D.gave self.old.inner ++ read name.now at (take n buf.new) ∷ []) }
         ensures no_room { length buf.new ≡ 0 → self.new.log.items ≡ self.old.log.items }
-        ensures err { OnErr result (self.new.log.items ≡ self.old.log.items) }
+        ensures unread { OnErr result (self.new.log.items ≡ self.old.log.items) }
         ensures counted { OnErr result (self.new.faults ≡ min (self.old.faults + 1) (2 ^ 64 - 1)) }
     {
         if let Ok(count) = self.inner.fetch(name, at, buf) {

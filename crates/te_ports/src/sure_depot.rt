@@ -1,10 +1,10 @@
 //! A depot whose reads never fail.
-ghost use Rattle.std.specs.Prelude.{◌≡◌, ◌≢◌, ◌≤◌, ◌<◌, ◌-◌, min, [], ℕ, List, length, take, drop, IfOk, OnOk, OnErr, IsOk};
+ghost use Rattle.std.specs.Prelude.{◌≡◌, ◌≢◌, ◌≤◌, ◌<◌, ◌-◌, min, [], ◌∷◌, ◌++◌, ℕ, List, length, take, drop, IfOk, OnOk, OnErr, IsOk};
 ghost use Rattle.te_ports.specs.Ports.{Rose, Told};
-ghost use Rattle.te_ports.specs.Record.{IsPieceOf, Grows};
+ghost use Rattle.te_ports.specs.Record.{read};
 
-use crate::memory_depot::copy_piece;
-use crate::{Depot, Failed};
+use crate::memory_depot::{copy_piece, read_of};
+use crate::{Depot, Failed, Log};
 use std::alloc::{AllocError, Global};
 use std::collections::BTreeMap;
 
@@ -13,18 +13,21 @@ use std::collections::BTreeMap;
 pub struct SureDepot {
     alloc: Global,
     files: BTreeMap<String, Vec<u8>>,
+    log: Log,
 }
 
 impl SureDepot {
-    ghost use Rattle.te_ports.specs.SureDepot.{sure_content};
+    ghost use Rattle.te_ports.specs.SureDepot.{sure_content, sure_gave};
 
     /// A depot in which every file is empty. `AllocError` where memory is short.
     pub fn new(alloc: Global) -> Result<SureDepot, AllocError>
         ensures empty { IfOk result (λ d. (name : List ℕ) → sure_content d name ≡ []) }
+        ensures nothing_read { IfOk result (λ d. sure_gave d ≡ []) }
     {
         Ok(SureDepot {
             alloc,
             files: BTreeMap::new(alloc),
+            log: Log::new(),
         })
     }
 
@@ -34,6 +37,7 @@ impl SureDepot {
         ensures added { OnOk result (sure_content self.new name.now ≡ bytes.now) }
         ensures others { (other : List ℕ) → other ≢ name.now → sure_content self.new other ≡ sure_content self.old other }
         ensures err { OnErr result ((other : List ℕ) → sure_content self.new other ≡ sure_content self.old other) }
+        ensures gave { sure_gave self.new ≡ sure_gave self.old }
     {
         let key = String::from_str(self.alloc, name)?;
         let copy = bytes.to_vec(self.alloc)?;
@@ -44,15 +48,12 @@ impl SureDepot {
 
 impl Depot for SureDepot {
     ghost use Rattle.te_ports.specs.SureDepot.{sure_content, sure_told, sure_gave};
-    ghost use Rattle.te_ports.specs.PieceOf.{piece_of_told};
 
     ghost content = { sure_told };
 
     ghost faults = { λ _ _. 0 };
 
     ghost gave = { sure_gave };
-
-    ghost gave_told = { λ depot name told is at bytes given. piece_of_told (sure_told depot name) told at bytes is given };
 
     fn fetch(&mut self, name: &str, at: u64, buf: &mut [u8]) -> Result<usize, Failed>
         ensures content { sure_told self.new ≡ sure_told self.old }
@@ -61,15 +62,18 @@ impl Depot for SureDepot {
             take n buf.new ≡ take n (drop at told))) }
         ensures end { IfOk result (λ n. Told (sure_told self.old name.now) (λ told.
             n ≡ 0 → 0 < length buf.new → length told ≤ at)) }
-        ensures gave { IfOk result (λ n. 0 < length buf.new → sure_gave self.new name.now at (take n buf.new)) }
-        ensures kept { Grows (sure_gave self.old) (sure_gave self.new) }
+        ensures gave { IfOk result (λ n. 0 < length buf.new →
+            sure_gave self.new ≡ sure_gave self.old ++ read name.now at (take n buf.new) ∷ []) }
+        ensures no_room { length buf.new ≡ 0 → sure_gave self.new ≡ sure_gave self.old }
         ensures failed { OnErr result (Rose 0 0) }
         ensures never_fails { IsOk result }
         ensures gives { IfOk result (λ n. n ≡ min (length (sure_content self.old name.now) - at) (length buf.new)) }
     {
-        match self.files.get(name) {
-            Some(bytes) => Ok(copy_piece(bytes, at, usize::MAX, buf)),
-            None => Ok(0),
-        }
+        let count = match self.files.get(name) {
+            Some(bytes) => copy_piece(bytes, at, usize::MAX, buf),
+            None => 0,
+        };
+        self.log = self.log.then(&read_of(name, at, buf, count));
+        Ok(count)
     }
 }

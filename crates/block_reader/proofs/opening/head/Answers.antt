@@ -8,9 +8,9 @@ use Rattle.block_reader.proofs.Reading.{reads_then, reads_as, reads_err}
 use Rattle.block_reader.proofs.opening.head.Goals as goal
 
 pub returns-in_err-network-clause-answers : goal.returns-in_err-network-clause-answers
-returns-in_err-network-clause-answers g c =
+returns-in_err-network-clause-answers g c = λ before.
     let p = err_from_is_err_and c.from_residual.result c.from_residual.ensures.1 in
-    rw (p.1, p.2) (head_stops _ _ _ c.args.lines.now c.args.limits.now c.in_err-network.field-0.0 c.in_err-network.ensures.answers)
+    rw (p.1, p.2) (head_stops _ _ _ c.args.lines.now c.args.limits.now c.in_err-network.field-0.0 (c.in_err-network.ensures.answers before))
 
 pub returns-in_err-network-clause-reads : goal.returns-in_err-network-clause-reads
 returns-in_err-network-clause-reads g c =
@@ -18,9 +18,9 @@ returns-in_err-network-clause-reads g c =
     rw (p.1, p.2) (reads_err _ _ _ c.in_err-network.field-0.0 c.in_err-network.ensures.reads)
 
 pub returns-in_err-routes-clause-answers : goal.returns-in_err-routes-clause-answers
-returns-in_err-routes-clause-answers g c =
+returns-in_err-routes-clause-answers g c = λ before.
     let p = err_from_is_err_and c.from_residual-in_err-routes.result c.from_residual-in_err-routes.ensures.1 in
-    rw (p.1, p.2) (head_from_network _ _ _ _ _ c.args.lines.now c.args.limits.now c.in_ok-network.network (Err c.in_err-routes.field-0.0) c.in_ok-network.ensures.answers (after_network_stops _ _ _ c.args.lines.now c.args.limits.now c.in_ok-network.network c.in_err-routes.field-0.0 c.in_err-routes.ensures.answers))
+    rw (p.1, p.2) (head_from_network _ _ _ _ _ c.args.lines.now c.args.limits.now c.in_ok-network.network (Err c.in_err-routes.field-0.0) (c.in_ok-network.ensures.answers before) (after_network_stops _ _ _ c.args.lines.now c.args.limits.now c.in_ok-network.network c.in_err-routes.field-0.0 (c.in_err-routes.ensures.answers before)))
 
 pub returns-in_err-routes-clause-reads : goal.returns-in_err-routes-clause-reads
 returns-in_err-routes-clause-reads g c =
@@ -28,9 +28,9 @@ returns-in_err-routes-clause-reads g c =
     rw (p.1, p.2) (reads_then _ _ _ _ c.in_ok-network.network (Err c.in_err-routes.field-0.0) c.in_ok-network.ensures.reads (reads_err _ _ _ c.in_err-routes.field-0.0 c.in_err-routes.ensures.reads))
 
 pub returns-in_err-set-clause-answers : goal.returns-in_err-set-clause-answers
-returns-in_err-set-clause-answers g c =
+returns-in_err-set-clause-answers g c = λ before.
     let p = err_from_is_err_and c.from_residual-in_err-set.result c.from_residual-in_err-set.ensures.1 in
-    rw (p.1, p.2) (head_from_network _ _ _ _ _ c.args.lines.now c.args.limits.now c.in_ok-network.network (Err c.in_err-set.field-0.0) c.in_ok-network.ensures.answers (head_from_routes _ _ _ _ _ c.args.lines.now c.args.limits.now c.in_ok-network.network c.in_ok-routes.routes (Err c.in_err-set.field-0.0) c.in_ok-routes.ensures.answers (after_routes_stops _ _ _ c.args.lines.now c.args.limits.now c.in_ok-network.network c.as_slice.result.now c.in_ok-routes.routes c.in_err-set.field-0.0 c.as_slice.ensures c.in_err-set.ensures.answers)))
+    rw (p.1, p.2) (head_from_network _ _ _ _ _ c.args.lines.now c.args.limits.now c.in_ok-network.network (Err c.in_err-set.field-0.0) (c.in_ok-network.ensures.answers before) (head_from_routes _ _ _ _ _ c.args.lines.now c.args.limits.now c.in_ok-network.network c.in_ok-routes.routes (Err c.in_err-set.field-0.0) (c.in_ok-routes.ensures.answers before) (after_routes_stops _ _ _ c.args.lines.now c.args.limits.now c.in_ok-network.network c.as_slice.result.now c.in_ok-routes.routes c.in_err-set.field-0.0 c.as_slice.ensures (c.in_err-set.ensures.answers before))))
 
 pub returns-in_err-set-clause-reads : goal.returns-in_err-set-clause-reads
 returns-in_err-set-clause-reads g c =
@@ -38,9 +38,9 @@ returns-in_err-set-clause-reads g c =
     rw (p.1, p.2) (reads_then _ _ _ _ c.in_ok-network.network (Err c.in_err-set.field-0.0) c.in_ok-network.ensures.reads (reads_then _ _ _ _ c.in_ok-routes.routes (Err c.in_err-set.field-0.0) c.in_ok-routes.ensures.reads (reads_err _ _ _ c.in_err-set.field-0.0 c.in_err-set.ensures.reads)))
 
 pub returns-in_err-ratio-clause-answers : goal.returns-in_err-ratio-clause-answers
-returns-in_err-ratio-clause-answers g c =
+returns-in_err-ratio-clause-answers g c = λ before.
     let p = err_from_is_err_and c.from_residual-in_err-ratio.result c.from_residual-in_err-ratio.ensures.1 in
-    rw (p.1, p.2) (head_from_network _ _ _ _ _ c.args.lines.now c.args.limits.now c.in_ok-network.network (Err c.in_err-ratio.field-0.0) c.in_ok-network.ensures.answers (head_from_routes _ _ _ _ _ c.args.lines.now c.args.limits.now c.in_ok-network.network c.in_ok-routes.routes (Err c.in_err-ratio.field-0.0) c.in_ok-routes.ensures.answers (head_from_set _ _ _ _ _ c.args.lines.now c.args.limits.now c.in_ok-network.network c.as_slice.result.now c.in_ok-routes.routes c.in_ok-set.set (Err c.in_err-ratio.field-0.0) c.as_slice.ensures c.in_ok-set.ensures.answers (after_set_stops _ _ _ c.args.lines.now c.args.limits.now c.in_ok-network.network c.in_ok-routes.routes c.in_ok-set.set c.in_err-ratio.field-0.0 c.in_err-ratio.ensures.answers))))
+    rw (p.1, p.2) (head_from_network _ _ _ _ _ c.args.lines.now c.args.limits.now c.in_ok-network.network (Err c.in_err-ratio.field-0.0) (c.in_ok-network.ensures.answers before) (head_from_routes _ _ _ _ _ c.args.lines.now c.args.limits.now c.in_ok-network.network c.in_ok-routes.routes (Err c.in_err-ratio.field-0.0) (c.in_ok-routes.ensures.answers before) (head_from_set _ _ _ _ _ c.args.lines.now c.args.limits.now c.in_ok-network.network c.as_slice.result.now c.in_ok-routes.routes c.in_ok-set.set (Err c.in_err-ratio.field-0.0) c.as_slice.ensures (c.in_ok-set.ensures.answers before) (after_set_stops _ _ _ c.args.lines.now c.args.limits.now c.in_ok-network.network c.in_ok-routes.routes c.in_ok-set.set c.in_err-ratio.field-0.0 (c.in_err-ratio.ensures.answers before)))))
 
 pub returns-in_err-ratio-clause-reads : goal.returns-in_err-ratio-clause-reads
 returns-in_err-ratio-clause-reads g c =
@@ -48,8 +48,8 @@ returns-in_err-ratio-clause-reads g c =
     rw (p.1, p.2) (reads_then _ _ _ _ c.in_ok-network.network (Err c.in_err-ratio.field-0.0) c.in_ok-network.ensures.reads (reads_then _ _ _ _ c.in_ok-routes.routes (Err c.in_err-ratio.field-0.0) c.in_ok-routes.ensures.reads (reads_then _ _ _ _ c.in_ok-set.set (Err c.in_err-ratio.field-0.0) c.in_ok-set.ensures.reads (reads_err _ _ _ c.in_err-ratio.field-0.0 c.in_err-ratio.ensures.reads))))
 
 pub returns-clause-answers : goal.returns-clause-answers
-returns-clause-answers g c =
-    head_from_network _ _ _ _ _ _ c.args.limits.now c.in_ok-network.network (Ok _) c.in_ok-network.ensures.answers (head_from_routes _ _ _ _ _ _ c.args.limits.now c.in_ok-network.network c.in_ok-routes.routes (Ok _) c.in_ok-routes.ensures.answers (head_from_set _ _ _ _ _ _ c.args.limits.now c.in_ok-network.network c.as_slice.result.now c.in_ok-routes.routes c.in_ok-set.set (Ok _) c.as_slice.ensures c.in_ok-set.ensures.answers (head_from_ratio _ _ _ _ c.args.limits.now c.in_ok-network.network c.in_ok-routes.routes c.in_ok-set.set c.in_ok-ratio.ratio c.in_ok-ratio.ensures.answers)))
+returns-clause-answers g c = λ before.
+    head_from_network _ _ _ _ _ _ c.args.limits.now c.in_ok-network.network (Ok _) (c.in_ok-network.ensures.answers before) (head_from_routes _ _ _ _ _ _ c.args.limits.now c.in_ok-network.network c.in_ok-routes.routes (Ok _) (c.in_ok-routes.ensures.answers before) (head_from_set _ _ _ _ _ _ c.args.limits.now c.in_ok-network.network c.as_slice.result.now c.in_ok-routes.routes c.in_ok-set.set (Ok _) c.as_slice.ensures (c.in_ok-set.ensures.answers before) (head_from_ratio _ _ _ _ c.args.limits.now c.in_ok-network.network c.in_ok-routes.routes c.in_ok-set.set c.in_ok-ratio.ratio (c.in_ok-ratio.ensures.answers before))))
 
 pub returns-clause-reads : goal.returns-clause-reads
 returns-clause-reads g c =

@@ -1,5 +1,6 @@
 use Rattle.std.proofs.Common.{◌≡◌, Ok, Err, refl, subst, arith}
 use Rattle.std.proofs.lemmas.Result.{err_from_is_err_and}
+use Rattle.te_ports.specs.Record.{pass}
 use Rattle.cert_text.specs.Fits.{FitsPair}
 use Rattle.cert_text.specs.Reading.{narrow_number, read_many}
 use Rattle.cert_text.specs.Grammar.{read_pair}
@@ -17,14 +18,14 @@ loop-preserved g c =
       rw c.in_ok-push.ensures.items (listed_more (FitsPair c.args.limits.now) c.loop.items.items c.in_ok-item.item c.loop.counter so_far.0 c.in_ok-item.ensures.fits),
       c.in_ok-item.ensures.well,
       rw c.in_ok-push.ensures.items
-          (many_gives _ _ _ _ _ _ (read_pair c.args.limits.now narrow_number) c.loop.counter c.loop.items.items c.in_ok-item.item so_far.2 c.in_ok-item.ensures.answers),
+          (λ before. many_gives _ _ _ _ _ _ (read_pair c.args.limits.now narrow_number) c.loop.counter c.loop.items.items c.in_ok-item.item (so_far.2 before) (c.in_ok-item.ensures.answers before)),
       reads_then _ _ _ _ tt (Ok tt) so_far.3 (reads_as _ _ _ c.in_ok-item.item tt c.in_ok-item.ensures.reads),
     )
 
 pub returns-in_err-item-clause-answers : goal.returns-in_err-item-clause-answers
 returns-in_err-item-clause-answers g c =
     let p = err_from_is_err_and c.from_residual-in_err-item.result c.from_residual-in_err-item.ensures.1 in
-    rw (p.1, p.2) (many_stop _ _ _ _ _ (read_pair c.args.limits.now narrow_number) c.loop.counter c.args.count c.loop.items.items c.in_err-item.field-0.0 c.loop-test.true c.loop.invariant.2 c.in_err-item.ensures.answers)
+    rw (p.1, p.2) (λ before. many_stop _ _ _ _ _ (read_pair c.args.limits.now narrow_number) c.loop.counter c.args.count c.loop.items.items c.in_err-item.field-0.0 c.loop-test.true (c.loop.invariant.2 before) (c.in_err-item.ensures.answers before))
 
 pub returns-in_err-item-clause-reads : goal.returns-in_err-item-clause-reads
 returns-in_err-item-clause-reads g c =
@@ -41,7 +42,7 @@ pub loop-init : goal.loop-init
 loop-init g c = (
   rw c.in_ok-items.ensures.items (record { count = refl; each = tt }),
   c.requires.well,
-  rw c.in_ok-items.ensures.items (none_gives (g.D.Depot.gave c.args.depot.now c.args.name.now) c.args.lines.now (read_pair c.args.limits.now narrow_number)),
+  rw c.in_ok-items.ensures.items (λ before. none_gives (pass c.args.name.now before (g.D.Depot.gave c.args.depot.now)) c.args.lines.now (read_pair c.args.limits.now narrow_number)),
   reads_start _ c.args.name.now,
 )
 
@@ -51,8 +52,8 @@ returns-clause-answers g c =
     let name = c.args.name.now in
     let all : c.loop.counter ≡ c.args.count = omega (arith, c.loop-test.false) in
     rw c.new.ensures
-    (subst (λ n. Gives (gave c.args.depot.now name) (gave c.loop.depot name) c.args.lines.now c.loop.lines (read_many n (read_pair c.args.limits.now narrow_number)) c.loop.items.items) all
-    c.loop.invariant.2)
+    (λ before. subst (λ n. Gives (pass name before (gave c.args.depot.now)) (pass name before (gave c.loop.depot)) c.args.lines.now c.loop.lines (read_many n (read_pair c.args.limits.now narrow_number)) c.loop.items.items) all
+    (c.loop.invariant.2 before))
 
 pub returns-in_err-push-clause-reads : goal.returns-in_err-push-clause-reads
 returns-in_err-push-clause-reads g c =

@@ -1,4 +1,5 @@
-use Rattle.std.proofs.Common.{Ok}
+use Rattle.std.proofs.Common.{List, Ok}
+use Rattle.te_ports.specs.Record.{Read, pass}
 use Rattle.cert_text.specs.Listed.{IsListOf}
 use Rattle.cert_text.specs.Fits.{FitsPair}
 use Rattle.cert_text.specs.Reading.{narrow_number, read_many}
@@ -12,5 +13,5 @@ abbrev pub invariant-loop : goal.invariant-loop
 invariant-loop g l =
     IsListOf l.counter (FitsPair l.limits) l.items.items
     × IsWell l.lines
-    × Gives (g.D.Depot.gave l.fn.depot l.name) (g.D.Depot.gave l.depot l.name) l.fn.lines l.lines (read_many l.counter (read_pair l.limits narrow_number)) l.items.items
+    × ((before : List Read) → Gives (pass l.name before (g.D.Depot.gave l.fn.depot)) (pass l.name before (g.D.Depot.gave l.depot)) l.fn.lines l.lines (read_many l.counter (read_pair l.limits narrow_number)) l.items.items)
     × ReadsNamed {A = Unit {0}} (shown_by g.D.Depot.content g.D.Depot.gave g.D.Depot.faults l.fn.depot) (shown_by g.D.Depot.content g.D.Depot.gave g.D.Depot.faults l.depot) l.name (Ok tt)

@@ -1,11 +1,11 @@
-use Rattle.block_reader.specs.Blocks.{name_of, blocks_left}
+use Rattle.block_reader.specs.Blocks.{blocks_left}
 use Rattle.te_ports.specs.Shown.{shown_by}
 use Rattle.te_command.proofs.Feeding.{StandsFed}
 use Rattle.te_command.proofs.certificates.feed_blocks.Given as goal
 
 abbrev pub invariant-rest : goal.invariant-rest
 invariant-rest g l =
-    StandsFed (name_of l.fn.reader) (shown_by g.D.Depot.content g.D.Depot.gave g.D.Depot.faults l.fn.depot)
+    StandsFed l.file (shown_by g.D.Depot.content g.D.Depot.gave g.D.Depot.faults l.fn.depot)
     (shown_by g.D.Depot.content g.D.Depot.gave g.D.Depot.faults l.depot) l.reader l.feed
 
 abbrev pub decreases-rest : goal.decreases-rest

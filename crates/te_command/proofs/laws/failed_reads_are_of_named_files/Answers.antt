@@ -12,6 +12,5 @@ named certificate topology files Fails (inr (spelled, gives, inl second)) = inr 
 named certificate topology files Fails (inr (spelled, gives, inr (network, makes, none))) = absurd none
 
 pub returns : goal.returns
-returns g c = λ certificate topology before failed.
-    let depot = c.args.depot.now in
-    named certificate topology (given_files (g.D.Depot.gave depot)) (λ file. Rose (before file) (g.D.Depot.faults depot file)) failed
+returns c = λ certificate topology made before now failed.
+    named certificate topology (given_files made) (λ file. Rose (before file) (now file)) failed

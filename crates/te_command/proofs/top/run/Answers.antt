@@ -18,12 +18,12 @@ pub returns-in-Ok : goal.returns-in-Ok
 returns-in-Ok g c =
     answer_run (command_meant c.in-Some.command) _ _ _ c.in-Ok.answer _ _ _
     (record { read = _; is = c.in-Some.ensures; same = ap (map string_bytes) c.deref.ensures.value })
-    (λ name bytes is. g.met.D.Depot.gave_told c.answer.new.depot name bytes (ap (λ f. f name) c.in-Ok.ensures.may.content ∙ is))
+    c.in-Ok.ensures.may.added
     c.deliver.ensures c.in-Ok.ensures
 
 pub returns-in-Err : goal.returns-in-Err
 returns-in-Err g c =
     fault_run (command_meant c.in-Some.command) _ _ _ c.in-Err.fault _ _ _ _
     (record { read = _; is = c.in-Some.ensures; same = ap (map string_bytes) c.deref.ensures.value })
-    (λ name bytes is. g.met.D.Depot.gave_told c.answer.new.depot name bytes (ap (λ f. f name) c.in-Err.ensures.may.content ∙ is))
+    c.in-Err.ensures.may.added
     c.in-Err.ensures c.say_fault.ensures.status c.say_fault.ensures.said c.say_fault.ensures.later

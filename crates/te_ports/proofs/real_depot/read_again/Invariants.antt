@@ -5,4 +5,4 @@ use Rattle.te_ports.proofs.real_depot.read_again.Given as goal
 abbrev pub invariant-tries : goal.invariant-tries
 invariant-tries g l =
     ReadsAtMost l.answer l.buf ×
-    IsTried (read_call g.D.Disk.answers l.name l.at) (l.fn.disk, l.fn.buf) l.answer (l.disk, l.buf)
+    IsTried (read_call g.D.Disk.calls l.name l.at) (l.fn.disk, l.fn.buf) l.answer (l.disk, l.buf)

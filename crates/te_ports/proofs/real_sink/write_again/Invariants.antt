@@ -6,5 +6,5 @@ use Rattle.te_ports.proofs.real_sink.write_again.Given as goal
 abbrev pub invariant-tries : goal.invariant-tries
 invariant-tries g l =
     WritesAtMost l.answer l.bytes ×
-    WriteAppends (g.W.Write.contents l.fn.stream) (g.W.Write.contents l.stream) l.answer l.bytes ×
-    IsTried (write_call g.W.Stream.answers l.bytes) l.fn.stream l.answer l.stream
+    WriteAppends (g.W.Stream.contents l.fn.stream) (g.W.Stream.contents l.stream) l.answer l.bytes ×
+    IsTried (write_call g.W.Stream.calls l.bytes) l.fn.stream l.answer l.stream

@@ -1,6 +1,8 @@
 use Rattle.std.proofs.Common.{◌∙◌, [], Err, refl, sym, ap, subst}
 use Rattle.std.proofs.lemmas.Result.{err_from_is_err_and}
 use Rattle.te_ports.specs.Ports.{Rose}
+use Rattle.te_ports.specs.Record.{pass}
+use Rattle.te_ports.proofs.Giving.{adds_then}
 use Rattle.block_reader.specs.declared.stream_fault.StreamFault.TheVariants.{Failed as IsFailed}
 use Rattle.block_reader.specs.Blocks.{IsFaultOf}
 use Rattle.block_reader.proofs.Handing.{valid_head, head_earliest}
@@ -23,8 +25,8 @@ returns-in-None-clause-valid g c = valid_head c.in_ok-reader.head c.in_ok-reader
 pub returns-in-Some-clause-refused : goal.returns-in-Some-clause-refused
 returns-in-Some-clause-refused g c = λ fault same.
     let read = c.in_ok-reader.ensures in
-    let judged = subst (λ n. Judges (g.D.Depot.gave c.read_head.new.depot n) (g.D.Depot.gave c.judge_rest.new.depot n) c.in_ok-reader.reader.blocks c.in-Some.fault c.judge_rest.result)
-    read.name c.judge_rest.ensures.refused in
+    let judged = subst (λ n. Judges (pass n (g.D.Depot.gave c.args.depot.now) (g.D.Depot.gave c.read_head.new.depot)) (pass n (g.D.Depot.gave c.args.depot.now) (g.D.Depot.gave c.judge_rest.new.depot)) c.in_ok-reader.reader.blocks c.in-Some.fault c.judge_rest.result)
+    read.name (c.judge_rest.ensures.refused _) in
     subst (IsFaultOf _) (fault_is c.judge_rest.result fault same)
     (judged c.in_ok-reader.head [] read.stands (head_earliest c.in_ok-reader.head c.in-Some.fault (sym c.head_fault.ensures ∙ c.in-Some.is)))
 
@@ -59,8 +61,8 @@ returns-in_err-reader-clause-steady g c =
 pub returns-in-Some-clause-later : goal.returns-in-Some-clause-later
 returns-in-Some-clause-later g c = λ other. at_least _ _ _ (c.in_ok-reader.ensures.reads.later other) (c.judge_rest.ensures.reads.later other)
 
-pub returns-in-Some-clause-kept : goal.returns-in-Some-clause-kept
-returns-in-Some-clause-kept g c = λ file at bytes given. c.judge_rest.ensures.reads.kept file at bytes (c.in_ok-reader.ensures.reads.kept file at bytes given)
+pub returns-in-Some-clause-added : goal.returns-in-Some-clause-added
+returns-in-Some-clause-added g c = adds_then _ _ _ _ _ c.in_ok-reader.ensures.reads.content c.in_ok-reader.ensures.reads.added c.judge_rest.ensures.reads.added
 
 pub returns-in-Some-clause-content : goal.returns-in-Some-clause-content
 returns-in-Some-clause-content g c = c.judge_rest.ensures.reads.content ∙ c.in_ok-reader.ensures.reads.content
@@ -74,8 +76,8 @@ returns-in-None-clause-steady g c = λ other. c.in_ok-reader.ensures.reads.stead
 pub returns-in-None-clause-later : goal.returns-in-None-clause-later
 returns-in-None-clause-later g c = c.in_ok-reader.ensures.reads.later
 
-pub returns-in-None-clause-kept : goal.returns-in-None-clause-kept
-returns-in-None-clause-kept g c = c.in_ok-reader.ensures.reads.kept
+pub returns-in-None-clause-added : goal.returns-in-None-clause-added
+returns-in-None-clause-added g c = c.in_ok-reader.ensures.reads.added
 
 pub returns-in-None-clause-content : goal.returns-in-None-clause-content
 returns-in-None-clause-content g c = c.in_ok-reader.ensures.reads.content

@@ -13,7 +13,7 @@ returns-in_err-head-clause-refused g c =
     let f = c.in_err-head.field-0.0 in
     let lines = c.in_ok-lines.ensures in
     rw (p.1, p.2) (λ fault is.
-    subst (IsFaultOf _) (fault_is f fault is) (head_refused _ c.in_ok-lines.lines f lines.line (c.in_err-head.ensures.answers [] lines.behind)))
+    subst (IsFaultOf _) (fault_is f fault is) (head_refused _ c.in_ok-lines.lines f lines.line (c.in_err-head.ensures.answers _ [] lines.behind)))
 
 pub returns-in_err-reader-clause-refused : goal.returns-in_err-reader-clause-refused
 returns-in_err-reader-clause-refused g c =
@@ -22,13 +22,13 @@ returns-in_err-reader-clause-refused g c =
     let lines = c.in_ok-lines.ensures in
     rw (p.1, p.2) (λ fault is.
     subst (IsFaultOf _) (fault_is f fault is)
-    (count_refused _ _ _ c.in_ok-lines.lines c.format_and_head.new.lines c.in_ok-head.head f lines.line lines.behind c.in_ok-head.ensures.answers c.in_err-reader.ensures.counts))
+    (count_refused _ _ _ c.in_ok-lines.lines c.format_and_head.new.lines c.in_ok-head.head f lines.line lines.behind (c.in_ok-head.ensures.answers _) (c.in_err-reader.ensures.counts _)))
 
 pub returns-clause-stands : goal.returns-clause-stands
 returns-clause-stands g c =
     let lines = c.in_ok-lines.ensures in
     opened_reader _ _ _ c.in_ok-lines.lines c.format_and_head.new.lines c.in_ok-reader.reader _ c.in_ok-head.head lines.line lines.behind
-    c.in_ok-head.ensures.answers c.in_ok-head.ensures.fits c.in_ok-reader.ensures.behind c.in_ok-reader.ensures.counts
+    (c.in_ok-head.ensures.answers _) c.in_ok-head.ensures.fits c.in_ok-reader.ensures.behind (c.in_ok-reader.ensures.counts _)
 
 pub returns-in_err-lines-clause-reads : goal.returns-in_err-lines-clause-reads
 returns-in_err-lines-clause-reads g c =

@@ -22,32 +22,32 @@ ok_err : ◌≡◌ {A = Result (Unit {0}) StreamFault} (Ok tt) (Err faults.Faile
 ok_err e = cc
 
 pub returns-in-Failed-clause-behind : goal.returns-in-Failed-clause-behind
-returns-in-Failed-clause-behind g c = λ passed b.
+returns-in-Failed-clause-behind g c = λ before passed b.
     let fill = c.fill.ensures in
-    behind_after_fill _ _ c.args.self.now _ passed fill.behind.0 fill.behind.1 fill.limit fill.closed fill.stands b
+    behind_after_fill _ _ c.args.self.now _ passed fill.behind.0 fill.behind.1 fill.limit fill.closed (fill.stands before) b
 
 pub returns-in-Failed-clause-stood : goal.returns-in-Failed-clause-stood
-returns-in-Failed-clause-stood g c = λ passed b content s.
+returns-in-Failed-clause-stood g c = λ before passed b content s.
     let fill = c.fill.ensures in
     stood_before_fill _ content c.args.self.now.window c.fill.new.self passed fill.behind.0 fill.behind.1 fill.limit fill.closed b.stands s
 
 pub returns-in-TooLong-clause-behind : goal.returns-in-TooLong-clause-behind
-returns-in-TooLong-clause-behind g c = λ passed b.
+returns-in-TooLong-clause-behind g c = λ before passed b.
     let fill = c.fill.ensures in
-    behind_after_fill _ _ c.args.self.now _ passed fill.behind.0 fill.behind.1 fill.limit fill.closed fill.stands b
+    behind_after_fill _ _ c.args.self.now _ passed fill.behind.0 fill.behind.1 fill.limit fill.closed (fill.stands before) b
 
 pub returns-in-TooLong-clause-stood : goal.returns-in-TooLong-clause-stood
-returns-in-TooLong-clause-stood g c = λ passed b content s.
+returns-in-TooLong-clause-stood g c = λ before passed b content s.
     let fill = c.fill.ensures in
     stood_before_fill _ content c.args.self.now.window c.fill.new.self passed fill.behind.0 fill.behind.1 fill.limit fill.closed b.stands s
 
 pub returns-in-Open-clause-behind : goal.returns-in-Open-clause-behind
-returns-in-Open-clause-behind g c = λ passed b.
+returns-in-Open-clause-behind g c = λ before passed b.
     let fill = c.fill.ensures in
-    behind_after_fill _ _ c.args.self.now _ passed fill.behind.0 fill.behind.1 fill.limit fill.closed fill.stands b
+    behind_after_fill _ _ c.args.self.now _ passed fill.behind.0 fill.behind.1 fill.limit fill.closed (fill.stands before) b
 
 pub returns-in-Open-clause-stood : goal.returns-in-Open-clause-stood
-returns-in-Open-clause-stood g c = λ passed b content s.
+returns-in-Open-clause-stood g c = λ before passed b content s.
     let fill = c.fill.ensures in
     stood_before_fill _ content c.args.self.now.window c.fill.new.self passed fill.behind.0 fill.behind.1 fill.limit fill.closed b.stands s
 
@@ -58,7 +58,7 @@ returns-in-Failed-clause-reads g c =
       failed = λ e. elim (fill.failed (sym c.state.ensures ∙ c.in-Failed.is)) [ inl was ↦ absurd (c.requires.well was) | inr rose ↦ rose ];
       steady = λ other. absurd (other refl);
       later = fill.later;
-      kept = fill.kept;
+      added = fill.added;
       content = fill.content;
     }
 
@@ -69,7 +69,7 @@ returns-in-TooLong-clause-reads g c =
       failed = λ e. absurd (long_err e);
       steady = λ other. fill.steady (inl (long_sound _ c.state.result c.state.ensures c.in-TooLong.is));
       later = fill.later;
-      kept = fill.kept;
+      added = fill.added;
       content = fill.content;
     }
 
@@ -80,7 +80,7 @@ returns-in-Open-clause-reads g c =
       failed = λ e. absurd (ok_err e);
       steady = λ other. fill.steady (inl (open_sound _ c.state.result c.state.ensures c.in-Open.is));
       later = fill.later;
-      kept = fill.kept;
+      added = fill.added;
       content = fill.content;
     }
 

@@ -1,5 +1,7 @@
 use Rattle.std.proofs.Common.{◌≡◌, ◌≢◌, ◌∙◌, ◌++◌, refl, sym, ap, subst, inl, inr, arith, rules, append_assoc, length, length-append}
 use Rattle.te_ports.specs.Ports.{Rose}
+use Rattle.te_ports.specs.Record.{pass}
+use Rattle.te_ports.proofs.Giving.{adds_none, adds_then}
 use Rattle.block_reader.specs.declared.window.State.TheVariants.{Open, Failed}
 use Rattle.block_reader.specs.Standing.{ready, StandsAt, StandsIn}
 use Rattle.block_reader.proofs.Going.{at_clear, in_clear}
@@ -11,7 +13,7 @@ pieces-init g c =
     let w = c.args.self.now in
     let clear = c.clear.ensures in (
       refl,
-      (λ passed s. (ready w, at_clear _ w c.clear.new.self passed clear.ready clear.fetched clear.limit clear.state s)),
+      (λ before passed s. (ready w, at_clear _ w c.clear.new.self passed clear.ready clear.fetched clear.limit clear.state s)),
       (λ told is passed s. (ready w, in_clear told w c.clear.new.self passed clear.ready clear.fetched clear.limit clear.state s)),
       clear.ready,
       clear.end,
@@ -21,7 +23,7 @@ pieces-init g c =
       (λ is. inl (sym clear.state ∙ is)),
       (λ is. refl),
       (λ other. at_most_itself _),
-      (λ other at bytes given. given),
+      adds_none _ _ _ refl,
       omega (arith, clear.fetched),
       (λ closed. clear.fetched),
     )
@@ -37,10 +39,10 @@ pieces-preserved g c =
     let is_open : c.pieces.self.state ≡ Open = search rules in
     let sound : c.pieces.self.state ≢ Failed = (λ (is : c.pieces.self.state ≡ Failed). cc) in (
       next.content ∙ all.0,
-      (λ passed s. let h = all.1 passed s in (
+      (λ before passed s. let h = all.1 before passed s in (
         h.0 ++ ready w,
-        subst (StandsAt (g.D.Depot.gave c.fetch.new.depot name) after) (append_assoc passed h.0 (ready w))
-            (at_clear _ w after (passed ++ h.0) clear.ready clear.fetched clear.limit clear.state (next.stands (passed ++ h.0) h.1)),
+        subst (StandsAt (pass name before (g.D.Depot.gave c.fetch.new.depot)) after) (append_assoc passed h.0 (ready w))
+            (at_clear _ w after (passed ++ h.0) clear.ready clear.fetched clear.limit clear.state (next.stands before (passed ++ h.0) h.1)),
       )),
       (λ told is passed s. let h = all.2 told is passed s in (
         h.0 ++ ready w,
@@ -56,7 +58,7 @@ pieces-preserved g c =
       (λ is. inr (subst (λ f. Rose (f name) (g.D.Depot.faults c.fetch.new.depot name)) (all.9 sound) (next.failed (sym clear.state ∙ is)))),
       (λ is. next.steady (λ failed. is (clear.state ∙ failed)) ∙ all.9 sound),
       (λ other. at_least _ _ _ (all.10 other) (next.later other)),
-      (λ other at bytes given. next.kept other at bytes (all.11 other at bytes given)),
+      adds_then _ _ _ _ _ all.0 all.11 next.added,
       omega (arith, all.12, clear.fetched, next.count, ap length next.behind.1, length-append (ready c.pieces.self) next.behind.0),
       (λ closed. absurd (closed (sym (all.7 closed).0 ∙ is_open))),
     )

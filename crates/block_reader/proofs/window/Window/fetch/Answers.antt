@@ -1,9 +1,9 @@
-use Rattle.std.proofs.Common.{◌≡◌, ◌≤◌, length, take, refl, ap, arith, ◌∙◌, length-append, length-take-le}
+use Rattle.std.proofs.Common.{◌≡◌, ◌≤◌, ◌<◌, [], ◌∷◌, ◌++◌, length, take, drop, refl, ap, arith, length-append, length-take-le}
 use Rattle.std.proofs.lemmas.Result.{IfOk-weaker}
-use Rattle.te_ports.specs.Record.{IsPiece}
+use Rattle.te_ports.specs.Record.{read}
 use Rattle.block_reader.specs.Standing.{ready}
 use Rattle.block_reader.proofs.Bytes.{behind}
-use Rattle.block_reader.proofs.Fetching.{count_fits, fits_behind, inside_items, ordered_more, counted_more, open_within, at_answer, in_answer, failed_by, steady_by, fewer_by, within_by, past_by}
+use Rattle.block_reader.proofs.Fetching.{count_fits, fits_behind, inside_items, ordered_more, counted_more, open_within, at_answer, in_answer, told_pieces, added_by, failed_by, steady_by, fewer_by, within_by, past_by}
 use Rattle.block_reader.proofs.window.Window.fetch.Goals as goal
 
 pub returns-clause-behind : goal.returns-clause-behind
@@ -20,18 +20,31 @@ returns-clause-behind g c =
 
 pub returns-clause-stands : goal.returns-clause-stands
 unfolding returns-clause-behind
-returns-clause-stands g c = λ passed s.
+returns-clause-stands g c = λ before passed s.
     let w = c.args.self.now in
     let buf = c.fetch-answer.new.buf in
     let count = c.unwrap_or-count.result in
     let room : count ≤ length buf = count_fits c.fetch-answer.result count (length buf) c.unwrap_or-count.ensures c.fetch-answer.ensures.room in
     let size : length buf ≡ c.space-space.result = omega arith in
     let fits = fits_behind w c.space-space.result (length buf) count c.space-space.ensures.some c.space-space.ensures.inside c.space-space.ensures.below size room in
-    let given = g.D.Depot.gave c.fetch-answer.new.self c.args.name.now w.fetched in
-    at_answer _ _ w _ passed buf c.fetch-answer.result count (c.fetch-answer.ensures.kept c.args.name.now) c.unwrap_or-count.ensures room
+    let old = g.D.Depot.gave c.args.depot.now in
+    let new = g.D.Depot.gave c.fetch-answer.new.self in
+    at_answer c.args.name.now before old new w _ passed buf c.fetch-answer.result count c.requires.is_open c.unwrap_or-count.ensures room
     (returns-clause-behind g c).1
     refl fits.2 c.state_after-self.ensures
-    (IfOk-weaker c.fetch-answer.result _ (λ n. given (take n buf)) (λ n gave. gave fits.0) c.fetch-answer.ensures.gave) s
+    (IfOk-weaker c.fetch-answer.result _ (λ n. new ≡ old ++ read c.args.name.now w.fetched (take n buf) ∷ []) (λ n gave. gave fits.0) c.fetch-answer.ensures.gave)
+    c.fetch-answer.ensures.unread s
+
+pub returns-clause-added : goal.returns-clause-added
+returns-clause-added g c =
+    let w = c.args.self.now in
+    let buf = c.fetch-answer.new.buf in
+    let count = c.unwrap_or-count.result in
+    let room : count ≤ length buf = count_fits c.fetch-answer.result count (length buf) c.unwrap_or-count.ensures c.fetch-answer.ensures.room in
+    let size : length buf ≡ c.space-space.result = omega arith in
+    let fits = fits_behind w c.space-space.result (length buf) count c.space-space.ensures.some c.space-space.ensures.inside c.space-space.ensures.below size room in
+    added_by (g.D.Depot.content c.args.depot.now) _ _ c.args.name.now buf w.fetched c.fetch-answer.result fits.0
+    c.fetch-answer.ensures.room c.fetch-answer.ensures.bytes c.fetch-answer.ensures.end c.fetch-answer.ensures.gave c.fetch-answer.ensures.unread
 
 pub returns-clause-told : goal.returns-clause-told
 unfolding returns-clause-behind
@@ -39,15 +52,15 @@ returns-clause-told g c = λ told is passed s.
     let w = c.args.self.now in
     let buf = c.fetch-answer.new.buf in
     let count = c.unwrap_or-count.result in
-    let name = c.args.name.now in
     let room : count ≤ length buf = count_fits c.fetch-answer.result count (length buf) c.unwrap_or-count.ensures c.fetch-answer.ensures.room in
     let size : length buf ≡ c.space-space.result = omega arith in
     let fits = fits_behind w c.space-space.result (length buf) count c.space-space.ensures.some c.space-space.ensures.inside c.space-space.ensures.below size room in
-    let known = g.met.D.Depot.gave_told c.fetch-answer.new.self name told (ap (λ f. f name) c.fetch-answer.ensures.content ∙ is) w.fetched in
     in_answer told w _ passed buf c.fetch-answer.result count c.unwrap_or-count.ensures room
     (returns-clause-behind g c).1
     refl c.state_after-self.ensures
-    (IfOk-weaker c.fetch-answer.result _ (λ n. IsPiece told w.fetched (take n buf)) (λ n gave. known (take n buf) (gave fits.0)) c.fetch-answer.ensures.gave) s
+    (told_pieces told buf w.fetched c.fetch-answer.result fits.0 c.fetch-answer.ensures.room
+    (IfOk-weaker c.fetch-answer.result _ (λ n. take n buf ≡ take n (drop w.fetched told)) (λ n bytes. bytes told is) c.fetch-answer.ensures.bytes)
+    (IfOk-weaker c.fetch-answer.result _ (λ n. n ≡ 0 → 0 < length buf → length told ≤ w.fetched) (λ n end. end told is) c.fetch-answer.ensures.end)) s
 
 pub returns-clause-count : goal.returns-clause-count
 unfolding returns-clause-behind

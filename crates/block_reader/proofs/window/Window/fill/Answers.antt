@@ -1,20 +1,16 @@
 use Rattle.std.proofs.Common.{◌≡◌, ◌≢◌, ◌∙◌, ◌+◌, ◌-◌, ◌<◌, ◌≤◌, ◌++◌, ℕ, List, [], length, refl, sym, ap, subst, arith, rules, append_assoc, append-nil, inr}
 use Rattle.te_ports.specs.Ports.{Rose}
+use Rattle.te_ports.proofs.Giving.{adds_none, adds_then}
 use Rattle.block_reader.specs.declared.window.State.TheVariants.{Open, Failed}
 use Rattle.block_reader.specs.declared.window.Window.{Window}
-use Rattle.block_reader.specs.Standing.{ready, fetched_of, limit_of, state_of, room_of, IsEndOf, IsStateOf, StandsAt, StandsIn}
-use Rattle.block_reader.proofs.Going.{at_still, in_still}
+use Rattle.block_reader.specs.Standing.{ready, fetched_of, limit_of, state_of, room_of, IsStateOf, StandsIn}
+use Rattle.block_reader.proofs.Going.{at_same, in_still}
 use Rattle.block_reader.proofs.Reading.{at_least, at_most_itself}
 use Rattle.block_reader.proofs.window.Window.fill.Goals.{then-len-self, else-len-self}
 use Rattle.block_reader.proofs.window.Window.fill.Goals as goal
 
 -- a window with the same bytes ready stands where the other one stands
 module _ (w w' : Window) (passed : List ℕ) (same : ready w' ≡ ready w) (at : fetched_of w' ≡ fetched_of w) (limit : limit_of w' ≡ limit_of w) (state : state_of w' ≡ state_of w) where
-  at_same : (gave : ℕ → List ℕ → Type 0) → StandsAt gave w passed → StandsAt gave w' passed
-  at_same gave s =
-      at_still gave gave w w' passed (λ k piece given. given) same at
-      (subst (λ k. IsEndOf gave k w'.fetched w'.state) (sym limit) (subst (λ k. IsEndOf gave w.limit k w'.state) (sym at) (subst (IsEndOf gave w.limit w.fetched) (sym state) s.ends))) s
-
   in_same : (content : List ℕ) → StandsIn content w passed → StandsIn content w' passed
   in_same content s =
       in_still content w w' passed same at
@@ -52,7 +48,7 @@ pieces-init g c =
     ]
     in (
       refl,
-      (λ passed s. at_same w w' passed moved.0 moved.1 moved.2 moved.3 _ s),
+      (λ before passed s. at_same _ w w' passed moved.0 moved.1 moved.2 moved.3 s),
       (λ told is passed s. in_same w w' passed moved.0 moved.1 moved.2 moved.3 told s),
       ([], moved.0 ∙ sym (append-nil (ready w))),
       moved.4,
@@ -61,7 +57,7 @@ pieces-init g c =
       (λ (is : state_of w' ≡ Failed). let no : Open ≡ Failed = sym is_open ∙ sym moved.3 ∙ is in absurd cc),
       (λ is. refl),
       (λ other. at_most_itself _),
-      (λ other at bytes given. given),
+      adds_none _ _ _ refl,
       same_counts _ _ _ _ moved.1 (ap length moved.0),
     )
 
@@ -73,7 +69,7 @@ pieces-preserved g c =
     let is_open : c.pieces.self.state ≡ Open = c.needs.ensures.is_open c.pieces-test.true in
     let sound : c.pieces.self.state ≢ Failed = (λ (is : c.pieces.self.state ≡ Failed). cc) in (
       next.content ∙ all.0,
-      (λ passed s. next.stands passed (all.1 passed s)),
+      (λ before passed s. next.stands before passed (all.1 before passed s)),
       (λ told is passed s. next.told told (ap (λ f. f name) all.0 ∙ is) passed (all.2 told is passed s)),
       (
         all.3.0 ++ next.behind.0,
@@ -85,7 +81,7 @@ pieces-preserved g c =
       (λ is. subst (λ f. Rose (f name) (g.D.Depot.faults c.fetch.new.depot name)) (all.8 sound) (next.failed is)),
       (λ is. next.steady is ∙ all.8 sound),
       (λ other. at_least _ _ _ (all.9 other) (next.later other)),
-      (λ other at bytes given. next.kept other at bytes (all.10 other at bytes given)),
+      adds_then _ _ _ _ _ all.0 all.10 next.added,
       more_counts _ _ _ _ _ _ all.11 next.count,
     )
 
@@ -95,8 +91,8 @@ returns-then-ne-clause-behind g c = ([], sym (append-nil (ready c.args.self.now)
 pub returns-then-ne-clause-later : goal.returns-then-ne-clause-later
 returns-then-ne-clause-later g c = λ other. at_most_itself _
 
-pub returns-then-ne-clause-kept : goal.returns-then-ne-clause-kept
-returns-then-ne-clause-kept g c = λ other at bytes given. given
+pub returns-then-ne-clause-added : goal.returns-then-ne-clause-added
+returns-then-ne-clause-added g c = adds_none _ _ _ refl
 
 pub returns-clause-stands : goal.returns-clause-stands
 returns-clause-stands g c = c.pieces.invariant.1
@@ -122,8 +118,8 @@ returns-clause-failed g c = λ is. inr (c.pieces.invariant.7 is)
 pub returns-clause-later : goal.returns-clause-later
 returns-clause-later g c = c.pieces.invariant.9
 
-pub returns-clause-kept : goal.returns-clause-kept
-returns-clause-kept g c = c.pieces.invariant.10
+pub returns-clause-added : goal.returns-clause-added
+returns-clause-added g c = c.pieces.invariant.10
 
 pub returns-clause-content : goal.returns-clause-content
 returns-clause-content g c = c.pieces.invariant.0

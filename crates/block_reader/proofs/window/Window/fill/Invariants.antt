@@ -1,6 +1,6 @@
 use Rattle.std.proofs.Common.{◌≡◌, ◌≢◌, ◌+◌, ◌≤◌, ℕ, List, ◌++◌, length}
 use Rattle.te_ports.specs.Ports.{Rose, Told}
-use Rattle.te_ports.specs.Record.{Grows}
+use Rattle.te_ports.specs.Record.{Adds, Read, pass}
 use Rattle.block_reader.specs.declared.window.State.TheVariants.{Failed}
 use Rattle.block_reader.specs.Standing.{ready, fetched_of, state_of, room_of, limit_of, reads_left, StandsAt, StandsIn}
 use Rattle.block_reader.proofs.window.Window.fill.Given as goal
@@ -8,7 +8,8 @@ use Rattle.block_reader.proofs.window.Window.fill.Given as goal
 abbrev pub invariant-pieces : goal.invariant-pieces
 invariant-pieces g l =
     (g.D.Depot.content l.depot ≡ g.D.Depot.content l.fn.depot)
-    × ((passed : List ℕ) → StandsAt (g.D.Depot.gave l.fn.depot l.name) l.fn.self passed → StandsAt (g.D.Depot.gave l.depot l.name) l.self passed)
+    × ((before : List Read) (passed : List ℕ) → StandsAt (pass l.name before (g.D.Depot.gave l.fn.depot)) l.fn.self passed →
+    StandsAt (pass l.name before (g.D.Depot.gave l.depot)) l.self passed)
     × Told (g.D.Depot.content l.fn.depot l.name) (λ told. (passed : List ℕ) → StandsIn told l.fn.self passed → StandsIn told l.self passed)
     × ((more : List ℕ) × (ready l.self ≡ ready l.fn.self ++ more))
     × (room_of l.self ≡ room_of l.fn.self)
@@ -17,7 +18,7 @@ invariant-pieces g l =
     × (state_of l.self ≡ Failed → Rose (g.D.Depot.faults l.fn.depot l.name) (g.D.Depot.faults l.depot l.name))
     × (state_of l.self ≢ Failed → g.D.Depot.faults l.depot ≡ g.D.Depot.faults l.fn.depot)
     × ((other : List ℕ) → g.D.Depot.faults l.fn.depot other ≤ g.D.Depot.faults l.depot other)
-    × Grows (g.D.Depot.gave l.fn.depot) (g.D.Depot.gave l.depot)
+    × Adds (g.D.Depot.content l.fn.depot) (g.D.Depot.gave l.fn.depot) (g.D.Depot.gave l.depot)
     × (fetched_of l.self + length (ready l.fn.self) ≡ fetched_of l.fn.self + length (ready l.self))
 
 abbrev pub decreases-pieces : goal.decreases-pieces
