@@ -15,6 +15,8 @@ HEAD = re.compile(r"(?:(?:abbrev|unfoldable) )?(?:pub )?(?:(record|data) )?([^\s
 NO_HEAD = ("use ", "pub use ", "ghost use ", "--", "infix", "module ", "mod ", "pub mod ")
 IMPORT = re.compile(r"^(?:ghost |pub )*use Rattle\.([\w.]+?)(?:\.\{([^}]*)\})?(?: as (\w+))?;?\s*$", re.M)
 WORD = re.compile(r"[^\W\d][\w'≢≡]*|◌\S+◌")
+# Where a document says how much is reached: in a table, or in brackets.
+STATED = re.compile(r"`tools/believed([^`]*)`(?: \| | \()([\d,]+ definitions, [\d,]+ lines, \d+ files, \d+ crates?)")
 ENSURES = re.compile(r"\n    ensures (\w+) \{")
 
 
