@@ -15,6 +15,15 @@ class NotJson(Exception):
     """What the program's reader refuses and Python's takes."""
 
 
+class Written(float):
+    """A number that is not written in digits alone, or too great for 64 bits, and how it is written."""
+
+    def __new__(cls, text):
+        made = super().__new__(cls, text)
+        made.text = text
+        return made
+
+
 class Plan:
     """The values of the keys, with those that are not there; and the keys that stand twice."""
 
@@ -61,8 +70,8 @@ def parse(data, twice):
 
     def floating(text):
         if abs(float(text)) == float("inf"):
-            raise NotJson(f"{text} is out of range")
-        return float(text)
+            raise NotJson(f"{text[:40]}{'..' if len(text) > 40 else ''} is too great for a number")
+        return Written(text)
 
     def whole(text):
         return floating(text) if text == "-0" or len(text) > 20 else int(text)
