@@ -181,7 +181,7 @@ PLANS = [
     ("an envelope beside a margin", member('"margin":[2,1],"envelope":true'), "refused: plan.json: range of envelope", ["not beside a margin"]),
     ("a seed below 0", member('"seed":-1'), "refused: plan.json: kind of seed", ["from 0"]),
     ("a seed of minus 0", member('"seed":-0'), "refused: plan.json: kind of seed", ["from 0"]),
-    ("a seed past 64 bits", member('"seed":18446744073709551616'), "refused: plan.json: kind of seed", ["18446744073709551615"]),
+    ("a seed past 64 bits", member('"seed":18446744073709551616'), "refused: plan.json: kind of seed", ["18446744073709551615", "too great for 64 bits"]),
     ("a recovery of its own", member('"recovery":"local"'), "refused: plan.json: range of recovery", ['"bypass"']),
     ("an empty file name", plan('{"topology":"","matrices":"tm.csv"}'), "refused: plan.json: range of topology", ["name of a file"]),
 ]

@@ -48,6 +48,8 @@ def whole_file_words(heading):
         return "the file has blanks alone", f"its first line must be {wanted}"
     if heading.first.startswith((b"#", b"//", b"%")):
         return "the file begins with a comment, and comments are no part of these files", "delete the line"
+    if heading.first.count(b'"') % 2:
+        return "a double quote of the first line is not closed, so its field goes on over the next lines", f"the first line must be exactly {wanted}"
     if re.match(r"sep=", heading.text, re.I):
         return "the first line tells a spreadsheet what stands between fields, and is no part of these files", "delete the line"
     return None
@@ -127,9 +129,6 @@ def columns_words(heading):
     """Columns of other names."""
     names, order, wanted = heading.names, heading.order, heading.wanted
     lacking, added = [it for it in order if it not in names], [it for it in names if it not in order]
-    if not lacking and not added:
-        return "the first line has a column twice", f"the first line must be exactly {wanted}"
-    if '"' in heading.text and heading.data.count(b'"') % 2:
-        return "a double quote of the first line is not closed, so its field goes on over the next lines", f"the first line must be exactly {wanted}"
+    added += [f"{it} twice" for it in order if names.count(it) > 1]
     said = [f"lacks {', '.join(lacking)}"] * bool(lacking) + [f"has {', '.join(shown(it) or 'a column without a name' for it in added)}"] * bool(added)
     return f"the first line {' and '.join(said)}", f"the first line must be exactly {wanted}"

@@ -65,8 +65,8 @@ HEADERS = [
     ("a letter that only looks alike in the header", net("s\u043eurce,target,capacity,cost\n" + FIBRES), HEADER_OF_NET, ["not what they look like", "CYRILLIC SMALL LETTER O"]),
     ("a character that is not seen in the header", net("source\u200b,target,capacity,cost\n" + FIBRES), HEADER_OF_NET, ["ZERO WIDTH SPACE, which is not seen"]),
     ("names of columns of another tool", net("src,dst,bw,weight\na,b,100,1\n"), HEADER_OF_NET, ["lacks source, target, capacity, cost", "has src, dst, bw, weight"]),
-    ("a column twice", net("source,target,cost,cost\na,b,1,1\n"), HEADER_OF_NET, ["lacks capacity"]),
-    ("a quote that is not closed in the header", net('"source,target,capacity,cost\na,b,100,1\n'), HEADER_OF_NET, ["quote"]),
+    ("a column twice", net("source,target,cost,cost\na,b,1,1\n"), HEADER_OF_NET, ["lacks capacity", "has cost twice"]),
+    ("a quote that is not closed in the header", net('"source,target,capacity,cost\na,b,100,1\n'), HEADER_OF_NET, ["quote of the first line is not closed"]),
 ]
 
 ROWS = [
@@ -79,7 +79,7 @@ ROWS = [
     ("semicolons in a row", link("b;a;100;1"), "refused: net.csv: fields at row 2", ["semicolons"]),
     ("tabs in a row", link("b\ta\t100\t1"), "refused: net.csv: fields at row 2", ["tabs"]),
     ("blanks in place of commas in a row", link("b a 100 1"), "refused: net.csv: fields at row 2", ["stand apart by blanks"]),
-    ("a comment behind a row", link("b,a,100,1,# spare"), "refused: net.csv: fields at row 2", ["5 fields in place of 4"]),
+    ("a comment behind a row", link("b,a,100,1,# spare"), "refused: net.csv: fields at row 2", ["a comment stands behind the row"]),
     ("Latin-1", net((NET + "a,Zürich,100,1\n").encode("latin-1")), "refused: net.csv: name at row 1", ["no UTF-8", "Latin-1", "bytes: 5a fc"]),
     ("a Cyrillic letter in the topology", link("\u0430,c,100,1"), "refused: net.csv: name at row 2", ["CYRILLIC SMALL LETTER A", "looks like a", "type it anew"]),
     ("a Cyrillic letter in a matrix file", demand("0,\u0430,c,1"), "refused: tm.csv: unknown node at row 2", ["CYRILLIC SMALL LETTER A", "type it anew: a"]),
@@ -155,8 +155,8 @@ PLANS = [
     ("a value without quotes", plan('{"topology":net.csv,"matrices":"tm.csv"}'), NOT_JSON, ["a value must stand here, and net.csv is none"]),
     ("True", member('"envelope":True'), NOT_JSON, ["in small letters", "write true"]),
     ("None", member('"margin":None'), NOT_JSON, ["in small letters", "write null"]),
-    ("a zero before a number", member('"k":04'), NOT_JSON, ["JSON writes no number so"]),
-    ("a number with a plus", member('"k":+4'), NOT_JSON, ["JSON writes no number so"]),
+    ("a zero before a number", member('"k":04'), NOT_JSON, ["no sign + before a number"]),
+    ("a number with a plus", member('"k":+4'), NOT_JSON, ["no sign + before a number"]),
     ("two plans in a file", plan(GOOD["plan.json"] + GOOD["plan.json"]), NOT_JSON, ["behind the end of the value"]),
     ("typographic quotes in a plan", plan("{\u201ctopology\u201d:\u201cnet.csv\u201d}"), NOT_JSON, ["typographic quotes"]),
     ("half of a surrogate pair", plan('{"topology":"\\ud800","matrices":"tm.csv"}'), NOT_JSON, ["half of a surrogate pair"]),

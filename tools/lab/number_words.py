@@ -12,6 +12,13 @@ COUNT_STEPS = "number the times in order: the first is step 0, the next 1"
 MARK = "[,'_\u2019\u00a0\u2009\u202f ]"
 
 
+def wanted(column, low, high):
+    """What a column takes. A step or a link of more digits than it has is refused later, by another reason."""
+    if column in LIMITS:
+        return f"a {column} is a whole number from {low} to {high}"
+    return "a link goes by its number, from 0 on" if column == "link" else f"a step is a whole number from 0 to {MAX_STEPS - 1}"
+
+
 class Field:
     """A field, its column, what the column takes, and what to do where no better is known."""
 
@@ -20,7 +27,7 @@ class Field:
         self.raw = data.decode("utf-8", "replace")
         self.text = self.raw.strip()
         self.low, self.high = LIMITS.get(column, (0, MOST_OF_TEN_DIGITS))
-        self.wanted = f"a {column} is a whole number from {self.low} to {self.high}"
+        self.wanted = wanted(column, self.low, self.high)
         self.unit = "round costs, or multiply all of them by the same number" if column == "cost" else UNIT
 
     def is_good(self, text):

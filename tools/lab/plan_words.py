@@ -84,6 +84,8 @@ def value_words(fault):
         return f"{said} {written_fault(value.text)}", takes
     if isinstance(value, int) and not isinstance(value, bool) and value < 0:
         return f"{said} is below 0", takes
+    if isinstance(value, int) and value >= 2**64:
+        return f"{said} is too great for 64 bits", takes
     if key == "margin" and isinstance(value, list) and len(value) == 2:
         return f"{said} is a list of two, of which one is no whole number", takes
     if key == "schemes" and isinstance(value, list):
@@ -204,7 +206,7 @@ def place_words(place, text, at):
     if not rest.strip():
         return f"{place}the file ends before the value does", "close each bracket and each quote, or copy the whole file again"
     if re.match(r"[+.]?[0-9]", rest) or re.match(r"\.?[0-9_xX.]", rest) and text[at - 1 : at].isdigit():
-        return f"{place}JSON writes no number so: without a sign +, zeros in front, a point at an end, or marks", "write digits alone"
+        return f"{place}JSON has no sign + before a number, no zeros in front of one, no point at an end and no marks in it", "write digits alone"
     if plain_text(rest[:1]) != rest[:1]:
         return f"{place}a character is not what it looks like: {look_alikes(rest[:1])}", "type it anew"
     return None

@@ -32,7 +32,9 @@ class Plan:
         self.failures = members.get("failures")
         self.schemes = members.get("schemes", list(SCHEMES))
         self.recovery = members.get("recovery", "none")
-        self.publish = members.get("publish", "racke")
+        self.publish, self.names_publish = members.get("publish", "racke"), "publish" in members
+        self.k, self.budget = members.get("k", 4), members.get("budget", 4)
+        self.trees, self.seed = members.get("trees", 8), members.get("seed", 0)
         self.margin = members.get("margin")
         self.envelope = members.get("envelope", False)
         self.twice = twice
@@ -80,7 +82,7 @@ def parse(data, twice):
     value = json.loads(text, object_pairs_hook=pairs, parse_constant=constant, parse_float=floating, parse_int=whole)
     json.dumps(value, ensure_ascii=False).encode("utf-8")
     if depth(value) > MAX_DEPTH:
-        raise NotJson("it nests too deep")
+        raise NotJson("the values nest more than 127 deep")
     return value
 
 

@@ -31,7 +31,9 @@ def fields_words(record, header, data):
         return "the row ends in a comma, so it has an empty field more", "delete the last comma"
     if have < wanted and data.endswith(record.data):
         return f"{counts}, and the file ends in this row, without a line's end: it may have been cut", "copy the whole file again, or write the row whole"
-    if have > wanted and any(a.isdigit() and b.isdigit() for a, b in zip(record.fields[2:], record.fields[3:])):
+    if have > wanted and record.fields[wanted].lstrip().startswith((b"#", b"//")):
+        return "a comment stands behind the row, and comments are no part of these files", "delete the comment and the comma before it"
+    if have > wanted and all(it.strip(b" .\"").isdigit() for it in record.fields[2 if header[0] == b"source" else 3 :]):
         return f"it has {have} fields in place of {wanted}: a decimal comma or a thousands mark takes a number apart", f"write whole numbers without marks; {UNIT}"
     return counts, f"each row is {b','.join(header).decode()}"
 

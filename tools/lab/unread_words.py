@@ -49,5 +49,5 @@ def folder_words(name):
     if same:
         why = look_alikes(base) or look_alikes(same[0])
         return f"that folder has {shown(same[0])}: names are told apart by capitals and blanks" + (f", and by what only looks alike: {why}" if why else "")
-    close = difflib.get_close_matches(base, near, 1)
+    close = difflib.get_close_matches(base, near, 1, 0.8)
     return f"that folder has {some(near) or 'no files'}" + (f" (is it {close[0]}?)" if close else "")
