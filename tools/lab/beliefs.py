@@ -4,8 +4,8 @@ import glob
 import os
 import re
 
-# What a definition is: its place, the comment above it, its lines without comments, and the words that it uses.
-Definition = collections.namedtuple("Definition", "crate file name line comment lines words")
+# What a definition is: its place, the comment above it, its text, how many lines of that are no comments, and the words that it uses.
+Definition = collections.namedtuple("Definition", "crate file name line comment text lines words")
 # A type or a constant of the code that definitions name, and the crate that has it.
 OfCode = collections.namedtuple("OfCode", "crate name")
 
@@ -73,10 +73,10 @@ def definitions_of(crate, file, text, dropped=()):
         code = [it for it in rest if not it.strip().startswith("--")]
         kept = [it for it in equations(name, code) if not any(it[0].startswith(f"{name} ({gone} ") for gone in dropped)]
         comment = " ".join(it[2:].strip() for it in above)
-        yield Definition(crate, file, name, first + len(above), comment, len(code), words_of(sum(kept, [])) - {name})
+        yield Definition(crate, file, name, first + len(above), comment, "\n".join(rest), len(code), words_of(sum(kept, [])) - {name})
         if head.group(1) == "data":
             for made in re.findall(r"^  (?:pub )?([^\s:]+) :", "\n".join(code), re.M):
-                yield Definition(crate, file, made, first + len(above), comment, 0, frozenset({name}))
+                yield Definition(crate, file, made, first + len(above), comment, "", 0, frozenset({name}))
 
 
 def equations(name, code):
