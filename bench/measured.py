@@ -35,16 +35,23 @@ def best_run(times, *words, wanted=(0,), folder=None):
     return min((run(*words, wanted=wanted, folder=folder) for _ in range(times)), key=lambda it: it.seconds)
 
 
+def build(*words, folder=None):
+    """Builds a program by running it, which may take long and says on the standard error how far it is."""
+    ran = subprocess.run(words, cwd=folder, stdin=subprocess.DEVNULL, stdout=subprocess.DEVNULL, check=False)
+    if ran.returncode:
+        sys.exit(f"{' '.join(words)} ended with {ran.returncode}")
+
+
 def yates():
     """The program, which is built where it is missing or older than a source."""
-    run(os.path.join(TOP, "yates"), "check", SAMPLE)
+    build(os.path.join(TOP, "yates"), "check", SAMPLE)
     return os.path.join(TOP, "crates", "yates", "out", "yates")
 
 
 def measure():
     """The program of the crate `measure`, which runs calls of the libraries that no command has alone."""
     folder = os.path.join(TOP, "crates", "measure")
-    run("rt", "run", "--", "each", folder=folder)
+    build("rt", "run", "--", "each", folder=folder)
     return os.path.join(folder, "out", "measure")
 
 
