@@ -62,7 +62,7 @@ def exchange_words(heading):
         return None
     do = f"give the {heading.kind} file, whose first line must be exactly {heading.wanted}"
     swapped = "are two files of the plan exchanged? " if what in ("a topology", "a matrix file", "a failure file") else ""
-    return f"this is {what}, and the plan names it as {heading.kind}", f"{swapped}{do[0].upper()}{do[1:]}" if swapped else do
+    return f"this is {what}, given as {heading.kind}", f"{swapped}{do[0].upper()}{do[1:]}" if swapped else do
 
 
 def separator_words(heading):
