@@ -32,7 +32,7 @@ CLAIMS = [
 
 FAILURES = [
     ("a ratio that is too low", ["c"], {"c": SMALLEST_WITH_LESS}, "no link 0 rule I4 place 0",
-     ["link 0 (a to b), of capacity 10", "10000000000000 is above 9999990000000", "proves a ratio of 1000000 or more, and the file claims 999999"]),
+     ["link 0 (a to b), of capacity 10", "10000000000000 is above 9999990000000", "the least ratio that this block proves is 1000000, and the file claims 999999"]),
     ("no block", ["c"], {"c": PARALLEL_WITHOUT_SECOND}, "no link 1 rule I2 place 0", ["pair 0 (a to b)", "500000 is above 0", "has no block of this link"]),
     ("a share that is not covered", ["c"], changed("0 1000000 1 1", "0 999999 1 1"), "no link 0 rule I2 place 0", ["1000000 is above 999999", "potential 1, A 999999 and B 1"]),
     ("a potential that rises too much", ["c"], changed("0 0 1\nend", "0 0 2\nend"), "no link 0 rule I1 place 1", ["source a rises over link 0 (a to b)", "2 is above 1", "0 at a and 2 at b"]),

@@ -66,10 +66,15 @@ def answer(name, data, cert, net, said):
 
 
 def failure_named(cert, said):
-    """The inequality that the program names, where it fails by a reckoning at its place."""
+    """The inequality that the program names, where there is one of this place and it fails by a reckoning."""
     named = re.fullmatch(r"no link (\d+) rule I(\d) place (\d+)", said)
-    failed = tuple(map(int, named.groups())) if named else None
-    return failed if failed and failure_at(cert, *failed).fails else None
+    if not named:
+        return None
+    try:
+        failed = tuple(map(int, named.groups()))
+        return failed if failure_at(cert, *failed).fails else None
+    except (IndexError, KeyError, TypeError):
+        return None
 
 
 def failure_lines(cert, link, rule, place):

@@ -69,5 +69,5 @@ def ratio_failure(cert, link, block, place):
     capacity = cert["links"][link][2]
     need = -(-block["a"] * weighted // (block["b"] * capacity))
     says = "the ratio pays for the weights: A * 1000000 * (sum of capacity * weight) <= B * 1000000 * capacity * ratio"
-    known = f"the sum of capacity * weight is {weighted}, A {block['a']} and B {block['b']}; this block proves a ratio of {need} or more, and the file claims {cert['ratio']}"
+    known = f"the sum of capacity * weight is {weighted}, A {block['a']} and B {block['b']}; the least ratio that this block proves is {need}, and the file claims {cert['ratio']}"
     return Failure(says, block["a"] * UNIT * weighted, block["b"] * UNIT * capacity * cert["ratio"], known)
