@@ -65,6 +65,7 @@ HEADERS = [
     ("a letter that only looks alike in the header", net("s\u043eurce,target,capacity,cost\n" + FIBRES), HEADER_OF_NET, ["not what they look like", "CYRILLIC SMALL LETTER O"]),
     ("a character that is not seen in the header", net("source\u200b,target,capacity,cost\n" + FIBRES), HEADER_OF_NET, ["ZERO WIDTH SPACE, which is not seen"]),
     ("names of columns of another tool", net("src,dst,bw,weight\na,b,100,1\n"), HEADER_OF_NET, ["lacks source, target, capacity, cost", "has src, dst, bw, weight"]),
+    ("no header and no costs", net("a,b,100\nb,a,100\n"), HEADER_OF_NET, ["lacks source, target, capacity, cost and has a, b, 100"]),
     ("a column twice", net("source,target,cost,cost\na,b,1,1\n"), HEADER_OF_NET, ["lacks capacity", "has cost twice"]),
     ("a quote that is not closed in the header", net('"source,target,capacity,cost\na,b,100,1\n'), HEADER_OF_NET, ["quote of the first line is not closed"]),
 ]
@@ -129,6 +130,8 @@ NUMBERS = [
     ("typographic quotes", link("b,c,\u201c100\u201d,1"), NUMBER_OF_NET, ["quotes that belong to the field"]),
     ("a demand below 0 as accountants write it", demand("0,a,c,(5)"), NUMBER_OF_TM, ["no amounts below 0"]),
     ("bit/s that is no whole kbit/s", link("b,c,10000000500,1"), NUMBER_OF_NET, ["in kbit/s it would be 10000000.5"]),
+    ("Tbit/s in bit/s that is no whole Mbit/s", link("b,c,8000000000500,1"), NUMBER_OF_NET, ["in Mbit/s it would be 8000000.0005"]),
+    ("bit/s of 20 digits", link("b,c,10000000000000000000,1"), NUMBER_OF_NET, ["in Tbit/s it would be 10000000"]),
     ("Tbit/s in bit/s", link("b,c,8000000000000,1"), NUMBER_OF_NET, ["in Mbit/s it would be 8000000"]),
     ("a time of milliseconds as a step", tm(TM + "1078099200000,a,b,7\n"), "refused: tm.csv: number at row 1", ["time stamp"]),
     ("a time of the day as a step", tm(TM + "12:00,a,b,7\n"), "refused: tm.csv: number at row 1", ["date or a time"]),
