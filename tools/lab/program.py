@@ -15,8 +15,6 @@ class Answer:
 
     def __init__(self, out, err, status):
         self.out, self.err, self.status = out, err, status
-        # What it says where it writes one line, whichever stream has it.
-        self.line = (err or out[:1000].decode("utf-8", "replace")).rstrip("\n")
 
 
 def answer(words, folder=None, seconds=None):
