@@ -75,6 +75,7 @@ ACCEPTED = [
     ("demands in another unit than capacities", demand("0,a,c,700000"), "", ["in step 0 the demands that leave a are 700007", "have 100"]),
     ("half of a fibre is cut", cut("0,1,2"), "", ["1 outage is of one direction", "link 2 (b>c)"]),
     ("a key twice", member('"schemes":["spf"],"k":3,"k":4'), "", ["the key k stands twice"]),
+    ("demands of few units", {}, "", ["the median of the demands above 0 is 7", "times 1000 fit the limits"]),
     ("no step", {**tm(TM), **plan('{"topology":"net.csv","matrices":"tm.csv"}')}, "", ["has no step"]),
 ]
 

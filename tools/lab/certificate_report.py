@@ -16,10 +16,10 @@ MOST_BYTES = reference_check.FORMATS[2][-1]
 
 
 class Report:
-    """The line of `check`, its status, and the words for it, each a line."""
+    """The line of `check`, its status, the words for it, each a line, and whether all of it was reckoned here."""
 
-    def __init__(self, line, status, words):
-        self.line, self.status, self.words = line, status, words
+    def __init__(self, line, status, words, is_own=True):
+        self.line, self.status, self.words, self.is_own = line, status, words, is_own
 
 
 def most_bytes(data):
@@ -56,21 +56,25 @@ def answer(name, data, cert, net, said):
     difference = network_words(cert, net) if net else None
     if difference:
         return Report("no network", 1, [file, f"  why:   {difference[0]}", f"  do:    {difference[1]}"])
-    failed = failed_inequality(data, cert, said)
+    is_own = said is None or len(data) <= WHOLE
+    failed = reference_check.first_failure(cert) if is_own else failure_named(cert, said)
     if failed is None:
         kind = {None: "all", "box": "box"}.get(cert["set"] and cert["set"][0]) or "margin {} {}".format(*cert["set"][1:3])
-        return Report(f"yes ratio {cert['ratio']} set {kind}", 0, [file, *claim_words(cert)])
+        return Report(f"yes ratio {cert['ratio']} set {kind}", 0, [file, *claim_words(cert)], is_own)
     link, rule, place = failed
-    return Report(f"no link {link} rule I{rule} place {place}", 1, [file, *failure_lines(cert, link, rule, place)])
+    return Report(f"no link {link} rule I{rule} place {place}", 1, [file, *failure_lines(cert, link, rule, place)], is_own)
 
 
-def failed_inequality(data, cert, said):
-    """The first inequality that fails: reckoned here, or of a large file taken from the program and reckoned at its place."""
-    if said is None or len(data) <= WHOLE:
-        return reference_check.first_failure(cert)
+def failure_named(cert, said):
+    """The inequality that the program names, where there is one of this place and it fails by a reckoning."""
     named = re.fullmatch(r"no link (\d+) rule I(\d) place (\d+)", said)
-    failed = tuple(map(int, named.groups())) if named else None
-    return failed if failed and failure_at(cert, *failed).fails else None
+    if not named:
+        return None
+    try:
+        failed = tuple(map(int, named.groups()))
+        return failed if failure_at(cert, *failed).fails else None
+    except (IndexError, KeyError, TypeError):
+        return None
 
 
 def failure_lines(cert, link, rule, place):

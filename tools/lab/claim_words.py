@@ -24,16 +24,18 @@ def size(cert):
 def claim_words(cert):
     """What is claimed: the lines below a yes."""
     ratio = decimal(cert["ratio"], UNIT)
-    claim = f"for each matrix of the set, whatever its scale, this routing's most used link is used at most {ratio} times as much as that of any other routing"
+    claim = f"for each matrix of the set and each other routing of it, the most used link of this routing is used at most {ratio} times as much as that of the other"
     return [f"  claim: {claim}", *(f"  set:   {line}" for line in set_lines(cert))]
 
 
 def set_lines(cert):
     """Which matrices the set holds."""
     nodes, pairs = len(cert["names"]), len(cert["pairs"])
-    others = f"; the other {counted(nodes * (nodes - 1) - pairs, 'pair', 'pairs')} of two nodes have no demand" if pairs < nodes * (nodes - 1) else ""
+    others = f"; pairs that are not declared ({nodes * (nodes - 1) - pairs} of {nodes * (nodes - 1)}) have none" if pairs < nodes * (nodes - 1) else ""
+    if not pairs:
+        return ["no pair is declared, so the matrix without any demand alone"]
     if not cert["set"]:
-        return [f"each matrix of demands between the {counted(pairs, 'declared pair', 'declared pairs')}{others}"]
+        return [f"each matrix of demands of the {counted(pairs, 'declared pair', 'declared pairs')}{others}"]
     if cert["set"][0] == "margin":
         return margin_lines(cert, others)
     return box_lines(cert, others)
@@ -42,7 +44,8 @@ def set_lines(cert):
 def margin_lines(cert, others):
     _, most, least, base = cert["set"]
     idle = sum(1 for it in base if not it)
-    lines = [f"each demand from {least}/{most} to {most}/{least} of its base, up to one factor that all demands have in common{others}"]
+    span = "is its base" if most == least else f"from {least}/{most} to {most}/{least} of its base"
+    lines = [f"each demand {span}, up to one factor that all demands have in common{others}"]
     lines.append(f"{counted(len(base) - idle, 'pair has', 'pairs have')} a base above 0, and {counted(idle, 'has', 'have')} none and so no demand in the set")
     return lines
 

@@ -62,7 +62,7 @@ def exchange_words(heading):
         return None
     do = f"give the {heading.kind} file, whose first line must be exactly {heading.wanted}"
     swapped = "are two files of the plan exchanged? " if what in ("a topology", "a matrix file", "a failure file") else ""
-    return f"this is {what}, and the plan names it as {heading.kind}", f"{swapped}{do[0].upper()}{do[1:]}" if swapped else do
+    return f"this is {what}, given as {heading.kind}", f"{swapped}{do[0].upper()}{do[1:]}" if swapped else do
 
 
 def separator_words(heading):
@@ -113,8 +113,8 @@ def wide_words(heading):
     one = "demand" if heading.kind == "matrices" else "link"
     nodes = {it.decode() for it in heading.net.nodes}
     below = [it.split(b",")[0].strip(b' "').decode("utf-8", "replace") for it in re.split(rb"[\r\n]+", heading.data[:100_000])[1:]]
-    columns = [it for it in heading.fields if it in nodes or it and it in below]
-    if len(columns) >= 2:
+    columns = [it for it in heading.fields[1:] if it in nodes or it and it in below]
+    if len(columns) >= 2 and len(columns) >= len(heading.fields) - 2:
         do = f"write a row for each {one}: {heading.wanted}"
         return f"this is a table with nodes as columns ({columns[0]}, {columns[1]}, ..)", f"{do}; {AS_ROWS}" if heading.kind == "matrices" else do
     pairs = [it for it in heading.fields if re.fullmatch(r"\S+(->|>|_|-|:)\S+", it) and set(re.split("->|>|_|-|:", it)) <= nodes]

@@ -33,9 +33,9 @@ def rise_failure(cert, link, block, place):
     source, over = divmod(place, len(cert["links"]) + 1)
     row = dict(block["rows"])[source]
     if over == 0:
-        return Failure(f"the potential of source {node(cert, source)} at itself must be 0", row[source], 0, "")
+        return Failure(f"the potential of source {node(cert, source)} at itself is 0", row[source], 0, "")
     tail, head, *_ = cert["links"][over - 1]
-    says = f"the potential of source {node(cert, source)} rises over {link_text(cert, over - 1)} by no more than the weight of that link"
+    says = f"the potential of source {node(cert, source)} rises over {link_text(cert, over - 1)} by its weight at most: potential at the head <= potential at the tail + weight"
     known = f"it is {row[tail]} at {node(cert, tail)} and {row[head]} at {node(cert, head)}, and the weight is {block['weights'][over - 1]}"
     return Failure(says, row[head], row[tail] + block["weights"][over - 1], known)
 
@@ -50,7 +50,8 @@ def cover_failure(cert, link, block, pair):
     known += f", plus {plus} and minus {minus}" if cert["set"] else ""
     if "is_absent" in block:
         known = f"its share is {share} millionths, and the file has no block of this link"
-    says = f"the share of {pair_text(cert, pair)} on the link by B{' and A by minus' if cert['set'] else ''} is at most A by its potential{' and plus' if cert['set'] else ''}"
+    form = "share * B + A * minus <= A * (potential + plus)" if cert["set"] else "share * B <= A * potential"
+    says = f"what {pair_text(cert, pair)} puts on the link is covered by its potential: {form}"
     return Failure(says, share * block["b"] + block["a"] * minus, block["a"] * (distance + plus), known)
 
 
@@ -59,7 +60,7 @@ def bounds_failure(cert, link, block, place):
     lower, upper = reference_check.bounds(cert)
     added = sum(most * plus for most, plus in zip(upper, block["plus"]))
     taken = sum(least * minus for least, minus in zip(lower, block["minus"]))
-    return Failure("the sum over the pairs of upper demand by plus is at most that of lower demand by minus", added, taken, "")
+    return Failure("what plus adds is taken back by minus: sum of upper * plus <= sum of lower * minus", added, taken, "")
 
 
 def ratio_failure(cert, link, block, place):
@@ -67,6 +68,6 @@ def ratio_failure(cert, link, block, place):
     weighted = sum(it[2] * weight for it, weight in zip(cert["links"], block["weights"]))
     capacity = cert["links"][link][2]
     need = -(-block["a"] * weighted // (block["b"] * capacity))
-    says = "A, a million and the sum of capacity by weight is at most B, a million, the link's capacity and the ratio, multiplied with each other"
-    known = f"the sum of capacity by weight is {weighted}, A {block['a']} and B {block['b']}; this block proves a ratio of {need} or more, and the file claims {cert['ratio']}"
+    says = "the ratio pays for the weights: A * 1000000 * (sum of capacity * weight) <= B * 1000000 * capacity * ratio"
+    known = f"the sum of capacity * weight is {weighted}, A {block['a']} and B {block['b']}; the least ratio that this block proves is {need}, and the file claims {cert['ratio']}"
     return Failure(says, block["a"] * UNIT * weighted, block["b"] * UNIT * capacity * cert["ratio"], known)

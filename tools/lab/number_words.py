@@ -8,6 +8,8 @@ from .letters import called, look_alikes, plain_text, shown
 LIMITS = {"capacity": (1, MAX_AMOUNT), "cost": (1, MAX_COST), "demand": (0, MAX_AMOUNT)}
 MOST_OF_TEN_DIGITS = 9_999_999_999
 UNIT = "choose one unit for all capacities and demands in which each is whole: in kbit/s they may go up to 4.29 Tbit/s, in Mbit/s up to 4.29 Pbit/s"
+# Units that are coarser than bit/s, each with the digits that it takes away.
+COARSER = [(3, "kbit"), (6, "Mbit"), (9, "Gbit"), (12, "Tbit")]
 COUNT_STEPS = "number the times in order: the first is step 0, the next 1"
 MARK = "[,'_\u2019\u00a0\u2009\u202f ]"
 
@@ -99,12 +101,13 @@ def whole_words(field):
         return f"the cost {value} is too great; {field.wanted}", "divide all costs by the same number"
     if field.column not in LIMITS:
         return f"the {field.column} {value} is too great; {field.wanted}", f"write the number of the {field.column}"
-    smaller, name = (value, "kbit") if value // 1000 <= field.high else (value // 1000, "Mbit")
-    return f"the {field.column} {value} is too great, as where it is given in bit/s; {field.wanted}", f"in {name}/s it would be {thousandth(smaller)}; {UNIT}"
+    places, name = next((places, name) for places, name in COARSER if value // 10**places <= field.high)
+    return f"the {field.column} {value} is too great, as where it is given in bit/s; {field.wanted}", f"in {name}/s it would be {shifted(value, places)}; {UNIT}"
 
 
-def thousandth(value):
-    return f"{value // 1000}.{value % 1000:03d}".rstrip("0").rstrip(".")
+def shifted(value, places):
+    """The number with its point so many places to the left, without needless digits."""
+    return f"{value // 10**places}.{value % 10**places:0{places}d}".rstrip("0").rstrip(".")
 
 
 def point_words(field):

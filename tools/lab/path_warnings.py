@@ -13,8 +13,8 @@ def path_warnings(plan, net, series, publish):
     `publish` gives the certificate of a plan of this name as text: None where it is not made in time, and an empty one where none is made.
     It is itself None where the program is not to be asked: then only `ecmp` is counted.
     """
-    most = {"spf": 1, "ecmp": 1024, "ksp": plan.k, "racke": plan.trees}[plan.publish]
-    if most <= plan.budget or not (plan.publish in plan.schemes or plan.names_publish):
+    most = {"spf": 1, "ksp": plan.k, "racke": plan.trees}.get(plan.publish)
+    if most is not None and most <= plan.budget or not (plan.publish in plan.schemes or plan.names_publish):
         return []
     if plan.publish == "ecmp":
         counts = ecmp_counts(net, series.pairs, plan.budget)
@@ -23,7 +23,7 @@ def path_warnings(plan, net, series, publish):
     else:
         counts = published_counts(plan, publish)
     if counts is None:
-        return [f"{plan.publish} may have {most} paths for a pair, and publish keeps {plan.budget} (the key budget); how many pairs have more was not found in time"]
+        return [f"{plan.publish} may have {most or 'more'} paths for a pair, and publish keeps {plan.budget} (the key budget); how many pairs have more was not found in time"]
     many = [it for it in counts if it > plan.budget]
     if not many:
         return []

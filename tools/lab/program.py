@@ -16,8 +16,6 @@ class Answer:
 
     def __init__(self, out, err, status, seconds=0.0):
         self.out, self.err, self.status, self.seconds = out, err, status, seconds
-        # What it says where it writes one line, whichever stream has it.
-        self.line = (err or out[:1000].decode("utf-8", "replace")).rstrip("\n")
 
 
 def processor_time():

@@ -19,18 +19,30 @@ class NotRegular(Exception):
 
 
 class Input:
-    """A file of the experiment: what it is, its name as given, its bytes, and its faults."""
+    """A file: what it is, its name as given, its bytes, what they give, and its faults."""
 
-    def __init__(self, kind, name, faults, data):
-        self.kind, self.name, self.faults, self.data = kind, name, faults, data
+    def __init__(self, kind, name, faults, data, value=None):
+        self.kind, self.name, self.faults, self.data, self.value = kind, name, faults, data, value
+
+
+def input_of(kind, name, plan, reader):
+    """The file of this name, which the plan names, as the reader takes it."""
+    data = bytes_of(name, plan)
+    value, faults = (None, [Fault("too long")]) if len(data) > INPUT_LIMIT else reader(data)
+    return Input(kind, name, faults, data, value)
+
+
+def check_regular(name):
+    """Raises where the file is neither regular nor a folder."""
+    mode = os.stat(name).st_mode
+    if not stat.S_ISREG(mode) and not stat.S_ISDIR(mode):
+        raise NotRegular(f"{name} is a pipe or a device, and tools/explain reads regular files alone")
 
 
 def bytes_of(name, plan, most=INPUT_LIMIT):
     """The bytes of a file, and one more at most than the program would read."""
     try:
-        mode = os.stat(name).st_mode
-        if not stat.S_ISREG(mode) and not stat.S_ISDIR(mode):
-            raise NotRegular(f"{name} is a pipe or a device, and tools/explain reads regular files alone")
+        check_regular(name)
         with open(name, "rb") as file:
             return file.read(most + 1)
     except (OSError, ValueError) as error:
@@ -64,10 +76,9 @@ class Reading:
 
     def next(self, kind, name, reader):
         """What the file gives; None where that is not to be used, since the program stops there."""
-        data = bytes_of(name, self.name)
-        value, faults = (None, [Fault("too long")]) if len(data) > INPUT_LIMIT else reader(data)
-        self.files.append(Input(kind, name, faults, data))
-        return None if faults and not self.goes_on else value
+        file = input_of(kind, name, self.name, reader)
+        self.files.append(file)
+        return None if file.faults and not self.goes_on else file.value
 
     def refused(self):
         """The files with faults: the first alone, or all."""

@@ -11,6 +11,10 @@ AGAIN = "publish it again, or copy the whole file again; a certificate is not to
 PLACE_OF_NAME = "one name of 1 to 32 of the characters A-Z a-z 0-9 _ . -"
 
 
+def plural(number, noun):
+    return f"{number} {noun}{'s' if number != 1 else ''}"
+
+
 class Line:
     """What a line must be: in words, its first word, how many numbers follow, and the range of the last of these."""
 
@@ -53,7 +57,7 @@ def lines_of_set(form, pairs, links):
     other = "set margin NUM DEN" if form == "1" else "set box"
     words = yield Line(f"set all or {other}", "set", None)
     for word in {"all": [], "margin": ["base"], "box": ["lower", "upper"]}[words[1]]:
-        yield Line(f"{word} and {pairs} numbers, one for each pair", word, pairs)
+        yield Line(f"{word} and {plural(pairs, 'number')}, one for each pair", word, pairs)
     yield Line("ratio and a number", "ratio", 1)
     blocks = int((yield counts("blocks", 0, reference_check.FORMATS[int(form)][2]))[1])
     return blocks, words[1] != "all"
@@ -61,11 +65,11 @@ def lines_of_set(form, pairs, links):
 
 def lines_of_block(block, nodes, links, pairs, has_bounds, most_rows):
     row = yield numbers(f"block {block}: LINK A B ROWS, four numbers, of which ROWS is 0 to {most_rows}", 4, 0, most_rows)
-    yield numbers(f"the weights of block {block}: {links} numbers, one for each link", links)
+    yield numbers(f"the weights of block {block}: {plural(links, 'number')}, one for each link", links)
     for number in range(int(row[3])):
         yield numbers(f"row {number} of block {block}: SOURCE and {nodes} potentials", nodes + 1)
     for word in ["plus", "minus"] * has_bounds:
-        yield Line(f"{word} of block {block} and {pairs} numbers, one for each pair", word, pairs)
+        yield Line(f"{word} of block {block} and {plural(pairs, 'number')}, one for each pair", word, pairs)
 
 
 def line_wanted(lines, number):
@@ -117,7 +121,7 @@ def line_words(wanted, found, number):
     if found.endswith(b"\r"):
         return "the line ends in CR LF, as where the file was saved or fetched under Windows", "fetch it again as it is (binary), or: tr -d '\\r' < FILE"
     if not found:
-        return "the line is empty", AGAIN
+        return "an empty line", AGAIN
     if wanted.text.startswith("nothing"):
         return "something stands behind the line end, as where two files were put together", AGAIN
     if not text.isascii():
@@ -175,8 +179,8 @@ def amount_words(wanted, values):
     if wanted.count is None and wanted.word is None:
         if len(values) < 2 or not wanted.low <= values[1] <= wanted.high:
             return f"L is {values[1] if len(values) > 1 else 'missing'}"
-        return f"L is {values[1]}, and {len(values) - 2} links follow"
+        return f"L is {values[1]}, and {plural(len(values) - 2, 'link')} stand there"
     count = 2 if wanted.count is None else wanted.count
     if len(values) != count:
-        return f"it has {len(values)} number{'s' if len(values) != 1 else ''} in place of {count}"
+        return f"it has {plural(len(values), 'number')} in place of {count}"
     return f"{values[-1]} is not from {wanted.low} to {wanted.high}"

@@ -124,7 +124,7 @@ def coarse_units(net, series):
         return []
     factor = next((it for it in factors if median * it >= FINE_DEMAND), factors[-1])
     return [
-        f"the median of the demands above 0 is {median}: a demand is split between paths in whole units, so what is delivered, and peak, are coarse beside parts. "
+        f"the median of the demands above 0 is {median}: a demand is split between paths in whole units, so peak may be far above parts with nothing lost. "
         f"Choose a finer unit: all capacities and demands times {factor} fit the limits"
     ]
 
