@@ -8,7 +8,7 @@ use Rattle.te_ports.specs.declared.system.SystemFault.{SystemFault}
 use Rattle.te_ports.specs.declared.system.SystemFault.TheVariants.{Interrupted}
 use Rattle.te_ports.specs.Calls.{Made, writes, read_into, bytes_read, read_by, reads_of, taken_by, taken_of}
 use Rattle.te_ports.specs.Record.{read}
-use Rattle.te_ports.specs.Trying.{IsTried, once, again, read_call, write_call}
+use Rattle.te_ports.specs.Trying.{IsCalled, IsTried, once, again, read_call, write_call}
 use Rattle.te_ports.proofs.Recording.{reads_more, taken_more, read_by_read, read_by_none}
 
 -- a write after one that took nothing
@@ -21,23 +21,32 @@ appends_after_keeping (Some xs) (Some ys) new answer bytes keeps appends =
     subst (λ front. WriteAppends (Some front) new answer bytes) keeps appends
 
 -- only the last of the calls is a read
+reads_called : {S : Type 0} (calls : S → List Made) (name : List ℕ) (at count : ℕ) (old new : S × List ℕ) (answer : Result ℕ SystemFault) →
+    IsCalled (read_call calls name at) count old answer new →
+    reads_of (calls new.0) ≡ reads_of (calls old.0) ++ read_by (read_into name at answer new.1)
+reads_called calls name at _ _ _ _ (once count old new answer one is) = reads_more (calls old.0) (calls new.0) (read_into name at answer new.1) is
+reads_called calls name at _ _ _ _ (again count fewer old between new last more called is) =
+    reads_more (calls between.0) (calls new.0) (read_into name at last new.1) is
+    ∙ ap (λ front. front ++ read_by (read_into name at last new.1))
+    (reads_called calls name at fewer old between (Err Interrupted) called ∙ append-nil (reads_of (calls old.0)))
+
 pub reads_tried : {S : Type 0} (calls : S → List Made) (name : List ℕ) (at : ℕ) (old new : S × List ℕ) (answer : Result ℕ SystemFault) →
     IsTried (read_call calls name at) old answer new →
     reads_of (calls new.0) ≡ reads_of (calls old.0) ++ read_by (read_into name at answer new.1)
-reads_tried calls name at _ _ _ (once old new answer is) = reads_more (calls old.0) (calls new.0) (read_into name at answer new.1) is
-reads_tried calls name at _ _ _ (again old between new last tried is) =
-    reads_more (calls between.0) (calls new.0) (read_into name at last new.1) is
-    ∙ ap (λ front. front ++ read_by (read_into name at last new.1))
-    (reads_tried calls name at old between (Err Interrupted) tried ∙ append-nil (reads_of (calls old.0)))
+reads_tried calls name at old new answer tried = reads_called calls name at tried.count old new answer tried.calls
 
 -- and takes bytes
-pub taken_tried : {S : Type 0} (calls : S → List Made) (bytes : List ℕ) (old new : S) (answer : Result ℕ SystemFault) →
-    IsTried (write_call calls bytes) old answer new → taken_of (calls new) ≡ taken_of (calls old) ++ taken_by (writes bytes answer)
-taken_tried calls bytes _ _ _ (once old new answer is) = taken_more (calls old) (calls new) (writes bytes answer) is
-taken_tried calls bytes _ _ _ (again old between new last tried is) =
+taken_called : {S : Type 0} (calls : S → List Made) (bytes : List ℕ) (count : ℕ) (old new : S) (answer : Result ℕ SystemFault) →
+    IsCalled (write_call calls bytes) count old answer new → taken_of (calls new) ≡ taken_of (calls old) ++ taken_by (writes bytes answer)
+taken_called calls bytes _ _ _ _ (once count old new answer one is) = taken_more (calls old) (calls new) (writes bytes answer) is
+taken_called calls bytes _ _ _ _ (again count fewer old between new last more called is) =
     taken_more (calls between) (calls new) (writes bytes last) is
     ∙ ap (λ front. front ++ taken_by (writes bytes last))
-    (taken_tried calls bytes old between (Err Interrupted) tried ∙ append-nil (taken_of (calls old)))
+    (taken_called calls bytes fewer old between (Err Interrupted) called ∙ append-nil (taken_of (calls old)))
+
+pub taken_tried : {S : Type 0} (calls : S → List Made) (bytes : List ℕ) (old new : S) (answer : Result ℕ SystemFault) →
+    IsTried (write_call calls bytes) old answer new → taken_of (calls new) ≡ taken_of (calls old) ++ taken_by (writes bytes answer)
+taken_tried calls bytes old new answer tried = taken_called calls bytes tried.count old new answer tried.calls
 
 -- so a read that was tried gave this, or nothing
 pub tried_read : {S : Type 0} (calls : S → List Made) (name : List ℕ) (at n : ℕ) (old new : S) (before buf : List ℕ) →

@@ -42,7 +42,7 @@ impl<D: Disk + Drop> RealDepot<D> {
     }
 }
 
-// Asks until no signal interrupts, and answers what the system answered last.
+// Asks until no signal interrupts, a hundred times at most, and answers what the system answered last.
 fn read_again<D: Disk>(
     disk: &mut D,
     name: &str,
@@ -81,7 +81,8 @@ impl<D: Disk + Drop> Depot for RealDepot<D> {
         ensures failed { OnErr result (Rose self.old.faults self.new.faults) }
         ensures later { self.old.faults ≤ self.new.faults }
 
-        // The calls are on record, and what the system answered last is the answer.
+        // The calls are on record, as many as it takes until none is interrupted and a hundred at most, and what the system answered
+        // last is the answer.
         ensures answered { (answer : Result ℕ Fault) ×
             IsTried (read_call D.calls name.now at) (self.old.disk, buf.old) answer (self.new.disk, buf.new) ×
             IsReadAnswer answer result }

@@ -105,7 +105,7 @@ impl<W: Stream + Drop> RealSink<W> {
     }
 }
 
-// Asks until no signal interrupts, and answers what the system answered last.
+// Asks until no signal interrupts, a hundred times at most, and answers what the system answered last.
 fn write_again<W: Stream>(stream: &mut W, bytes: &[u8]) -> Result<usize, SystemFault>
     ensures bound { WritesAtMost result bytes.now }
     ensures bytes { WriteAppends (W.contents stream.old) (W.contents stream.new) result bytes.now }
