@@ -22,7 +22,7 @@ pub struct RealDepot<D: Disk + Drop> {
     faults: u64,
 }
 
-impl<R: Files + AllocGlobal + Drop> RealDepot<SystemDisk<R>> {
+impl<R: Files + Drop> RealDepot<SystemDisk<R>> {
     /// The files that the runtime reaches.
     pub fn new(files: R) -> Self
         ensures no_fault { result.faults ≡ 0 }
