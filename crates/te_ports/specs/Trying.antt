@@ -4,7 +4,7 @@ use Rattle.std.specs.declared.result.Result.{Result}
 use Rattle.te_ports.specs.declared.port.Failed.{Failed}
 use Rattle.te_ports.specs.declared.system.SystemFault.{SystemFault}
 use Rattle.te_ports.specs.declared.system.SystemFault.TheVariants.{Interrupted}
-use Rattle.te_ports.specs.Calls.{Made, writes, read_into}
+use Rattle.te_ports.specs.Calls.{SystemCall, writes, read_into}
 
 -- how often a call is made at most
 abbrev pub most_calls : ℕ
@@ -24,12 +24,12 @@ pub record IsTried {S : Type 0} (call : S → Result ℕ SystemFault → S → T
   pub gives_up : answer ≡ Err Interrupted → count ≡ most_calls
 
 -- a write of these bytes, as a call: it is noted, and nothing else is
-abbrev pub write_call : {S : Type 0} → (S → List Made) → List ℕ → S → Result ℕ SystemFault → S → Type 0
-write_call calls bytes old answer new = calls new ≡ calls old ++ writes bytes answer ∷ []
+abbrev pub NotesWrite : {S : Type 0} → (S → List SystemCall) → List ℕ → S → Result ℕ SystemFault → S → Type 0
+NotesWrite calls bytes old answer new = calls new ≡ calls old ++ writes bytes answer ∷ []
 
 -- a read of the file of this name at this place, as a call that changes the disk and the buffer: it is noted, and nothing else is
-abbrev pub read_call : {S : Type 0} → (S → List Made) → List ℕ → ℕ → S × List ℕ → Result ℕ SystemFault → S × List ℕ → Type 0
-read_call calls name at old answer new = calls new.0 ≡ calls old.0 ++ read_into name at answer new.1 ∷ []
+abbrev pub NotesRead : {S : Type 0} → (S → List SystemCall) → List ℕ → ℕ → S × List ℕ → Result ℕ SystemFault → S × List ℕ → Type 0
+NotesRead calls name at old answer new = calls new.0 ≡ calls old.0 ++ read_into name at answer new.1 ∷ []
 
 -- a write takes what the system took, and fails exactly where the system did or took nothing of bytes that are there
 abbrev pub IsWriteAnswer : List ℕ → Result ℕ SystemFault → Result ℕ Failed → Type 0

@@ -1,9 +1,9 @@
 //! The files of the system, of which one at a time is kept open.
 ghost use Rattle.std.specs.Prelude.{◌≡◌, ◌≤◌, ◌<◌, ◌+◌, ◌-◌, ◌^◌, min, [], ◌∷◌, ◌++◌, List, length, take, IfOk, Some, Ok};
 ghost use Rattle.std.specs.Io.{ReadsAtMost};
-ghost use Rattle.te_ports.specs.Calls.{Made, made, reads, bytes_read, read_into};
+ghost use Rattle.te_ports.specs.Calls.{SystemCall, system_call, reads, bytes_read, read_into};
 ghost use Rattle.te_ports.specs.OpenFiles.{name_bytes, telling, ReadsAt};
-ghost use Rattle.te_ports.specs.declared.disk.OpenFile.{OpenFile as Opened};
+ghost use Rattle.te_ports.specs.declared.disk.OpenFile.{OpenFile};
 ghost use Rattle.std.specs.declared.io.Error.{Error as IoError};
 
 use crate::{Call, FileName, Log, SystemFault};
@@ -14,7 +14,7 @@ use std::rt::Files;
 /// Files by their names, and what the system answers.
 pub trait Disk {
     /// The calls of the system, and what it answered.
-    ghost calls: { Self → List Made };
+    ghost calls: { Self → List SystemCall };
 
     /// Asks the system once.
     fn read_once(&mut self, name: &str, at: u64, buf: &mut [u8]) -> Result<usize, SystemFault>
@@ -30,7 +30,7 @@ pub fn read_call<'a>(
     answer: &Result<usize, SystemFault>,
 ) -> Call<'a>
     requires { ReadsAtMost answer.now buf.now }
-    ensures { made result ≡ read_into name.now at answer.now buf.now }
+    ensures { system_call result ≡ read_into name.now at answer.now buf.now }
 {
     Call::Read {
         name,
@@ -125,7 +125,7 @@ impl<R: Files + Drop> SystemDisk<R> {
 
     fn last_or_open(&mut self, name: &str) -> io::Result<OpenFile<R::File>>
         ensures name { IfOk result (λ file. name_bytes file.name ≡ name.now) }
-        ensures last { (file : Opened R.File) → self.old.last ≡ Some file → name_bytes file.name ≡ name.now → result ≡ Ok file }
+        ensures last { (file : OpenFile R.File) → self.old.last ≡ Some file → name_bytes file.name ≡ name.now → result ≡ Ok file }
         ensures log { self.new.log.calls ≡ self.old.log.calls }
     {
         match self.last.take() {
@@ -138,9 +138,9 @@ impl<R: Files + Drop> SystemDisk<R> {
     // on, and not opened again.
     fn ask(&mut self, name: &str, at: u64, buf: &mut [u8]) -> Result<usize, SystemFault>
         ensures bound { ReadsAtMost result buf.new }
-        ensures kept { IfOk result (λ n. (file : Opened R.File) × (self.new.last ≡ Some file) × (name_bytes file.name ≡ name.now) ×
+        ensures kept { IfOk result (λ n. (file : OpenFile R.File) × (self.new.last ≡ Some file) × (name_bytes file.name ≡ name.now) ×
             (file.next ≡ min (at + n) (2 ^ 64 - 1))) }
-        ensures reads { IfOk result (λ n. (old : Opened R.File) → (new : Opened R.File) → self.old.last ≡ Some old → self.new.last ≡ Some new →
+        ensures reads { IfOk result (λ n. (old : OpenFile R.File) → (new : OpenFile R.File) → self.old.last ≡ Some old → self.new.last ≡ Some new →
             name_bytes old.name ≡ name.now → ReadsAt {E = IoError} (telling R.File.remaining R.File.stream_position R.File.stream_bytes)
             old.next old.file new.file at (Ok n) buf.new) }
         ensures log { self.new.log.calls ≡ self.old.log.calls }

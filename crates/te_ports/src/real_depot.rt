@@ -5,7 +5,7 @@ ghost use Rattle.std.specs.Io.{ReadsAtMost};
 ghost use Rattle.te_ports.specs.Ports.{Rose};
 ghost use Rattle.te_ports.specs.Calls.{reads_of};
 ghost use Rattle.te_ports.specs.Record.{read};
-ghost use Rattle.te_ports.specs.Trying.{IsTried, IsReadAnswer, read_call};
+ghost use Rattle.te_ports.specs.Trying.{IsTried, IsReadAnswer, NotesRead};
 ghost use Rattle.te_ports.specs.declared.system.SystemFault.{SystemFault as Fault};
 
 use crate::disk::{Disk, SystemDisk};
@@ -50,7 +50,7 @@ fn read_again<D: Disk>(
     buf: &mut [u8],
 ) -> Result<usize, SystemFault>
     ensures bound { ReadsAtMost result buf.new }
-    ensures tried { IsTried (read_call D.calls name.now at) (disk.old, buf.old) result (disk.new, buf.new) }
+    ensures tried { IsTried (NotesRead D.calls name.now at) (disk.old, buf.old) result (disk.new, buf.new) }
 {
     let mut answer = disk.read_once(name, at, buf);
     'tries: for _ in 1..TRIES {
@@ -84,7 +84,7 @@ impl<D: Disk + Drop> Depot for RealDepot<D> {
         // The calls are on record, as many as it takes until none is interrupted and a hundred at most, and what the system answered
         // last is the answer.
         ensures answered { (answer : Result ℕ Fault) ×
-            IsTried (read_call D.calls name.now at) (self.old.disk, buf.old) answer (self.new.disk, buf.new) ×
+            IsTried (NotesRead D.calls name.now at) (self.old.disk, buf.old) answer (self.new.disk, buf.new) ×
             IsReadAnswer answer result }
     {
         match read_again(&mut self.disk, name, at, buf) {

@@ -1,5 +1,5 @@
 use Rattle.std.proofs.Common.{rules, ◌≡◌, refl, subst, Err}
-use Rattle.te_ports.specs.Trying.{IsCalled, once, again, read_call}
+use Rattle.te_ports.specs.Trying.{IsCalled, once, again, NotesRead}
 use Rattle.te_ports.specs.declared.system.SystemFault.TheVariants.{Interrupted}
 use Rattle.te_ports.proofs.real_depot.read_again.Goals as goal
 
@@ -11,6 +11,6 @@ tries-preserved g c =
     let interrupted : c.tries.answer ≡ Err Interrupted = search rules in (
       c.read_once-answer-in-tries.ensures.bound,
       again _ c.tries.counter _ _ _ _ refl
-          (subst (λ answer. IsCalled (read_call g.D.Disk.calls c.args.name.now c.args.at) c.tries.counter (c.args.disk.now, c.args.buf.now) answer (c.tries.disk, c.tries.buf)) interrupted c.tries.invariant.1)
+          (subst (λ answer. IsCalled (NotesRead g.D.Disk.calls c.args.name.now c.args.at) c.tries.counter (c.args.disk.now, c.args.buf.now) answer (c.tries.disk, c.tries.buf)) interrupted c.tries.invariant.1)
           c.read_once-answer-in-tries.ensures.called,
     )
