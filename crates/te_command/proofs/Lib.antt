@@ -11,6 +11,7 @@ pub mod Table
 pub mod Delivering
 pub mod Answering
 pub mod Running
+pub mod Arguments
 pub mod Refusing
 mod Generating
 mod Texts

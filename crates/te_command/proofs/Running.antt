@@ -1,63 +1,19 @@
 -- All that `run` promises, at each of its ends.
 use Rattle.std.proofs.Common.{◌≡◌, ◌≢◌, ◌≤◌, ◌↔◌, ℕ, List, Option, Some, None, Ok, Err, inl, inr, refl, sym, ap, ◌∙◌, subst, arith}
-use Rattle.te_ports.specs.Ports.{Rose}
-use Rattle.te_ports.specs.Record.{Adds}
 use Rattle.te_ports.specs.Shown.{Shown}
 use Rattle.te_command.specs.declared.answer.Answer.{Answer}
 use Rattle.te_command.specs.declared.answer.Fault.{Fault}
 use Rattle.te_command.specs.declared.answer.Fault.TheVariants.{Refused, Read, Memory}
-use Rattle.te_command.specs.Files.{Files, span, told_files, known_files}
-use Rattle.te_command.specs.Reading.{Reading, Means, MeansStatus, ReadFailed}
+use Rattle.te_command.specs.Files.{Files, span, known_files}
+use Rattle.te_command.specs.Reading.{Reading}
 use Rattle.te_command.specs.Commands.{Command, command_of, reading_of}
 use Rattle.te_command.specs.Outcome.{KeepsDepot, Delivers, Follows, status_of, answer_text, status_of_fault, fault_text}
-use Rattle.te_command.specs.Run.{OfCommand, OfToldCommand, Change, Says, Answered, WritesMeant, SaysMeant, WritesProof, WritesPartMeant, HasForm, IsOrFails, GivesOrMemory, Written, Steady, Later, message}
+use Rattle.te_command.specs.Run.{Change, Says, Answered, SaysMeant, message}
+use Rattle.te_command.specs.Clauses.{FailsToRead, AnswersTold, IsExact, IsComplete, RunOf}
 use Rattle.te_command.proofs.Telling.{Agrees}
 use Rattle.te_command.proofs.Delivering.{untouched, other_status, form_written}
 use Rattle.te_command.proofs.Following.{no_change}
 use Rattle.te_command.proofs.Answering.{IsAsked, answer_given, refusal_given, answer_told, refusal_told, answer_form, answer_exact, refusal_exact, answer_complete, refusal_complete, failed_given, failed_complete}
-
--- a read failed of a file that is reached
-abbrev FailsToRead : List (List ℕ) → Shown → Shown → Type 0
-FailsToRead words old new =
-    OfCommand words (λ command. ReadFailed (reading_of command) (known_files (span old.gave new.gave) old.content) (λ file. Rose (old.faults file) (new.faults file)))
-
--- what the told files mean is answered, as far as the status goes, and with its text
-abbrev IsExact : List (List ℕ) → Shown → ℕ → Type 0
-IsExact words old result =
-    OfToldCommand words old.content
-    (λ command. (status : ℕ) → MeansStatus (reading_of command) (told_files old.content) status → IsOrFails result status)
-
-abbrev IsComplete : List (List ℕ) → Shown → Shown → ℕ → Change → Type 0
-IsComplete words old new result out =
-    OfToldCommand words old.content (λ command. (status : ℕ) → MeansStatus (reading_of command) (told_files old.content) status →
-    ¬ ReadFailed (reading_of command) (told_files old.content) (λ file. Rose (old.faults file) (new.faults file)) → ¬ Rose out.before out.now →
-    GivesOrMemory result out status (Means (reading_of command) (told_files old.content) status))
-
-abbrev AnswersTold : List (List ℕ) → Shown → ℕ → Change → Change → Type 0
-AnswersTold words old result out err = OfToldCommand words old.content (λ command. Answered (reading_of command) (told_files old.content) result out err)
-
--- the clauses of `run`, by their names
-abbrev pub RunOf : List (List ℕ) → Shown → Shown → ℕ → Change → Change → Type 0
-RunOf words old new result out err = record {
-  usage : (result ≡ 2) ↔ (command_of words ≡ None);
-  yes : result ≡ 0 → WritesMeant words (known_files (span old.gave new.gave) old.content) 0 out;
-  no : result ≡ 1 → WritesMeant words (known_files (span old.gave new.gave) old.content) 1 out;
-  refused : result ≡ 3 → SaysMeant words (known_files (span old.gave new.gave) old.content) 3 err;
-  no_path : result ≡ 7 → SaysMeant words (known_files (span old.gave new.gave) old.content) 7 err;
-  proves : result ≡ 0 → WritesProof words (known_files (span old.gave new.gave) old.content) out;
-  part : result ≡ 5 → WritesPartMeant words (known_files (span old.gave new.gave) old.content) out;
-  told : AnswersTold words old result out err;
-  form : OfCommand words (λ command. HasForm command result out err);
-  read : result ≡ 4 → FailsToRead words old new;
-  write : result ≡ 5 → Rose out.before out.now;
-  exact : IsExact words old result;
-  complete : IsComplete words old new result out;
-  written : Written result out err;
-  content : new.content ≡ old.content;
-  added : Adds old.content old.gave new.gave;
-  steady : Steady result old.faults new.faults out;
-  later : Later old.faults new.faults out err;
-}
 
 -- the command of the words is the one that was asked for
 asked_is : (asked : Command) (words : List (List ℕ)) → IsAsked asked words → command_of words ≡ Some asked

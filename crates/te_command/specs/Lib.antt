@@ -17,6 +17,7 @@ pub mod Commands
 pub mod Form
 pub mod Converted
 pub mod Run
+pub mod Clauses
 pub mod Asked
 pub mod Outcome
 pub mod Blocks
