@@ -1,5 +1,7 @@
 pub mod Following
 pub mod Telling
+pub mod Asking
+pub mod Meaning
 pub mod Plans
 pub mod Verdict
 pub mod Feeding

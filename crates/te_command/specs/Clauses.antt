@@ -6,7 +6,7 @@ use Rattle.te_ports.specs.Shown.{Shown}
 use Rattle.te_command.specs.Files.{span, told_files, known_files}
 use Rattle.te_command.specs.Reading.{Means, MeansStatus, ReadFailed}
 use Rattle.te_command.specs.Commands.{command_of, reading_of}
-use Rattle.te_command.specs.Run.{OfCommand, OfToldCommand, Change, Says, Answered, WritesMeant, SaysMeant, WritesProof, WritesPartMeant, HasForm, IsOrFails, GivesOrMemory, Written, Steady, Later, message}
+use Rattle.te_command.specs.Run.{OfCommand, OfToldCommand, Change, Says, Answered, WritesMeant, SaysMeant, WritesProof, WritesPartMeant, HasForm, ReadsInOrder, IsOrFails, GivesOrMemory, Written, Steady, Later, message}
 
 -- a read failed of a file that is reached
 abbrev pub FailsToRead : List (List ℕ) → Shown → Shown → Type 0
@@ -42,6 +42,7 @@ RunOf words old new result out err = record {
   part : result ≡ 5 → WritesPartMeant words (known_files (span old.gave new.gave) old.content) out;
   told : AnswersTold words old result out err;
   form : OfCommand words (λ command. HasForm command result out err);
+  order : ReadsInOrder words (span old.gave new.gave);
   read : result ≡ 4 → FailsToRead words old new;
   write : result ≡ 5 → Rose out.before out.now;
   exact : IsExact words old result;

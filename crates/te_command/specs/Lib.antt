@@ -1,5 +1,6 @@
 pub mod Files
 pub mod Reading
+pub mod Order
 pub mod CertificateFile
 pub mod InputFile
 pub mod Limits
