@@ -1,5 +1,5 @@
 -- Tables that are read line by line, of which one line is kept.
-use Rattle.std.proofs.Common.{◌≡◌, ◌≢◌, ℕ, ◌+◌, Bool, true, false, List, [], ◌∷◌, ◌++◌, length, Option, Some, None, Result, Ok, Err, refl, sym, ap, subst, ◌∙◌, append_assoc, drop, ◌⊎◌, inl, inr}
+use Rattle.std.proofs.Common.{◌≡◌, ℕ, ◌+◌, true, false, List, [], ◌∷◌, ◌++◌, Result, Ok, Err, refl, sym, ap, subst, ◌∙◌, append_assoc, drop, ◌⊎◌, inl, inr}
 use Rattle.std.specs.Prelude.{codes, IfOk}
 use Rattle.std.specs.declared.alloc.Global.{Global}
 use Rattle.te_model.specs.Faults.{line_ends, LeavesAt}
@@ -12,7 +12,7 @@ use Rattle.cert_text.proofs.Decimals.{ok_is}
 use Rattle.number_tables.specs.declared.fault.TableFault.{TableFault}
 use Rattle.number_tables.specs.declared.fault.TableFault.TheVariants as faults
 use Rattle.number_tables.specs.declared.line.NumLine.{NumLine}
-use Rattle.number_tables.specs.Leaving.{LeavesAfter, body_lines, ReadsLines}
+use Rattle.number_tables.specs.Leaving.{body_lines, ReadsLines}
 use Rattle.number_tables.specs.Outcome.{fault_of}
 use Rattle.number_tables.specs.Passing.{PassesLines}
 use Rattle.number_tables.specs.Reading.{begins_with_end, read_line}

@@ -1,5 +1,5 @@
 -- The clauses, of what is passed.
-use Rattle.std.proofs.Common.{◌≡◌, sym, ap, subst, ◌∙◌, Ok, Err}
+use Rattle.std.proofs.Common.{sym, ap, subst, ◌∙◌, Ok, Err}
 use Rattle.std.proofs.lemmas.Result.{err_from_is_err_and}
 use Rattle.cert_text.specs.Place.{Place, place}
 use Rattle.number_tables.specs.Passing.{PassesLines}

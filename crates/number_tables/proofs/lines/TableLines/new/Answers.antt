@@ -1,4 +1,4 @@
-use Rattle.std.proofs.Common.{◌≡◌, ℕ, List, sym, ap, ◌∙◌, refl}
+use Rattle.std.proofs.Common.{ap, ◌∙◌, refl}
 use Rattle.cert_text.specs.Place.{Place, place}
 use Rattle.number_tables.specs.Leaving.{place_of, body_lines}
 use Rattle.number_tables.specs.Table.{file_of}
