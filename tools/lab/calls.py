@@ -351,9 +351,11 @@ POLISHED = [
 # The plan of a margin, a topology and matrices, and the plan of their envelope, which is the box of the margin.
 MARGINS = [([MARGIN_OF_ONE, TRIANGLE_NET, TENS], ENVELOPE)]
 
-# Words that are no form of a command.
+# Words that are no form of a command. Bytes that are no text are none either.
 NO_FORMS = [
     [],
+    [b"\xff"],
+    ["check", b"\xff"],
     ["check"],
     ["Check", "c"],
     ["check", "c", "t", "t"],

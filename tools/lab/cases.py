@@ -1,4 +1,5 @@
 """The table of ordinary mistakes: files in place of good ones, the program's line, and words that `tools/explain` must say.
+`more_cases` goes on with it.
 
 A case is (what the user did, the files that differ from GOOD, the line, the words). Where the line is empty the files are
 accepted, and the words stand in warnings. A file that is None is not there.
@@ -74,6 +75,7 @@ ACCEPTED = [
     ("demands in another unit than capacities", demand("0,a,c,700000"), "", ["in step 0 the demands that leave a are 700007", "have 100"]),
     ("half of a fibre is cut", cut("0,1,2"), "", ["1 outage is of one direction", "link 2 (b>c)"]),
     ("a key twice", member('"schemes":["spf"],"k":3,"k":4'), "", ["the key k stands twice"]),
+    ("demands of few units", {}, "", ["the median of the demands above 0 is 7", "times 1000 fit the limits"]),
     ("no step", {**tm(TM), **plan('{"topology":"net.csv","matrices":"tm.csv"}')}, "", ["has no step"]),
 ]
 
@@ -161,7 +163,7 @@ PLANS = [
     ("UTF-16", plan(GOOD["plan.json"].encode("utf-16")), "refused: plan.json: not json", ["UTF-16"]),
     ("NaN", member('"seed":NaN'), "refused: plan.json: not json", ["NaN"]),
     ("a list", plan("[]"), "refused: plan.json: kind of plan", ["not an object"]),
-    ("demands", member('"demands":"tm.csv"'), "refused: plan.json: unknown key", ["'demands'", "is it matrices?"]),
+    ("demands", member('"demands":"tm.csv"'), "refused: plan.json: unknown key", ['"demands"', "is it matrices?"]),
     ("scheme", member('"scheme":"spf"'), "refused: plan.json: unknown key", ["is it schemes?"]),
     ("a comment as a key", member('"_comment":"mine"'), "refused: plan.json: unknown key", ["no comments"]),
     ("a key with a capital", plan('{"Topology":"net.csv","matrices":"tm.csv"}'), "refused: plan.json: unknown key", ["is it topology?"]),
@@ -180,7 +182,7 @@ PLANS = [
     ("an envelope beside a margin", member('"margin":[2,1],"envelope":true'), "refused: plan.json: range of envelope", ["not beside a margin"]),
     ("a seed below 0", member('"seed":-1'), "refused: plan.json: kind of seed", ["from 0"]),
     ("a seed of minus 0", member('"seed":-0'), "refused: plan.json: kind of seed", ["from 0"]),
-    ("a seed past 64 bits", member('"seed":18446744073709551616'), "refused: plan.json: kind of seed", ["18446744073709551615"]),
+    ("a seed past 64 bits", member('"seed":18446744073709551616'), "refused: plan.json: kind of seed", ["18446744073709551615", "too great for 64 bits"]),
     ("a recovery of its own", member('"recovery":"local"'), "refused: plan.json: range of recovery", ['"bypass"']),
     ("an empty file name", plan('{"topology":"","matrices":"tm.csv"}'), "refused: plan.json: range of topology", ["name of a file"]),
 ]

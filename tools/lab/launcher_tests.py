@@ -14,7 +14,10 @@ from .program import TOP
 RT = """#!/bin/sh
 case "$1 $2" in
 "version ") echo "rattle-kit-13f logic 0" ;;
-"all check") cat "$(dirname "$0")/said"; [ -f "$(dirname "$0")/wait" ] && exec sleep 60; exit "$(cat "$(dirname "$0")/status")" ;;
+"all check")
+    cat "$(dirname "$0")/said"
+    [ -f "$(dirname "$0")/edited" ] && touch src/main.rt
+    [ -f "$(dirname "$0")/wait" ] && exec sleep 60; exit "$(cat "$(dirname "$0")/status")" ;;
 "run --")
     mkdir -p out
     printf '#!/bin/sh\\n[ $# -eq 2 ] || { echo usage >&2; exit 2; }\\necho yes\\n' > out/yates
@@ -23,6 +26,8 @@ case "$1 $2" in
 esac
 """
 PROVED = "== low\nlogic=proved functions=1 sum=0\n== middle\n== yates\nlogic=proved functions=1 sum=0\n== summary\n3 of 3 crates ok\n"
+# What another kit may print of the same: no word behind, a blank behind a name, and a line before.
+PROVED_IN_OTHER_WORDS = "== low \nlogic=proved\n== middle\n== yates\nrt: chose --jobs 4 for yates\nlogic=proved\tfunctions=1\n== summary\n"
 FAILED = "== low\nlogic=proved functions=1 sum=0\n== middle\nlogic=not-proved\n== yates\n== summary\n1 of 3 crates ok\n"
 CRATES = "# the layers\nlow:\nmiddle: low csv\nyates: middle\nbench: low\n"
 
@@ -118,6 +123,25 @@ def first_build():
         return faults + [f"the second call: {err!r} {status}"] * ((out, err, status) != ("yes\n", "", 0))
 
 
+def other_words_of_a_kit():
+    with tempfile.TemporaryDirectory() as folder:
+        _, err, status = Place(folder, PROVED_IN_OTHER_WORDS).launch("check", "c")
+        lines = [r"^1 of 3 low: proved, \d+ s$", r"^2 of 3 middle: proved before, \d+ s$", r"^3 of 3 yates: proved, \d+ s$"]
+        return differences(err, *lines) + [f"status {status}"] * (status != 0)
+
+
+def edited_while_it_is_built():
+    """A source that is edited during the build is newer than the program, so the next call builds again."""
+    with tempfile.TemporaryDirectory() as folder:
+        place = Place(folder)
+        place.write("../kit/edited", "")
+        place.launch("check", "c")
+        os.remove(os.path.join(place.kit, "edited"))
+        _, again, _ = place.launch("check", "c")
+        _, then, _ = place.launch("check", "c")
+        return differences(again, r"^yates: crates/yates/src/main\.rt is newer than the program") + [f"a third build: {then!r}"] * (then != "")
+
+
 def failing_build():
     with tempfile.TemporaryDirectory() as folder:
         out, err, status = Place(folder, FAILED, 1, "rattle-kit-12a").launch("check", "c")
@@ -188,6 +212,8 @@ def no_kit():
 CASES = [
     ("the first build", first_build),
     ("a build that fails", failing_build),
+    ("other words of a kit", other_words_of_a_kit),
+    ("an edit during the build", edited_while_it_is_built),
     ("sources that are newer", newer_sources),
     ("words of no form", words_of_no_form),
     ("an interrupted build", interrupted_build),

@@ -15,6 +15,15 @@ class NotJson(Exception):
     """What the program's reader refuses and Python's takes."""
 
 
+class Written(float):
+    """A number that is not written in digits alone, or too great for 64 bits, and how it is written."""
+
+    def __new__(cls, text):
+        made = super().__new__(cls, text)
+        made.text = text
+        return made
+
+
 class Plan:
     """The values of the keys, with those that are not there; and the keys that stand twice."""
 
@@ -23,7 +32,9 @@ class Plan:
         self.failures = members.get("failures")
         self.schemes = members.get("schemes", list(SCHEMES))
         self.recovery = members.get("recovery", "none")
-        self.publish = members.get("publish", "racke")
+        self.publish, self.names_publish = members.get("publish", "racke"), "publish" in members
+        self.k, self.budget = members.get("k", 4), members.get("budget", 4)
+        self.trees, self.seed = members.get("trees", 8), members.get("seed", 0)
         self.margin = members.get("margin")
         self.envelope = members.get("envelope", False)
         self.twice = twice
@@ -61,8 +72,8 @@ def parse(data, twice):
 
     def floating(text):
         if abs(float(text)) == float("inf"):
-            raise NotJson(f"{text} is out of range")
-        return float(text)
+            raise NotJson(f"{text[:40]}{'..' if len(text) > 40 else ''} is too great for a number")
+        return Written(text)
 
     def whole(text):
         return floating(text) if text == "-0" or len(text) > 20 else int(text)
@@ -71,7 +82,7 @@ def parse(data, twice):
     value = json.loads(text, object_pairs_hook=pairs, parse_constant=constant, parse_float=floating, parse_int=whole)
     json.dumps(value, ensure_ascii=False).encode("utf-8")
     if depth(value) > MAX_DEPTH:
-        raise NotJson("it nests too deep")
+        raise NotJson("the values nest more than 127 deep")
     return value
 
 

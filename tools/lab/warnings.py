@@ -1,4 +1,8 @@
 """What the program accepts and a user may not mean: one line of text each."""
+from .inputs import MAX_AMOUNT
+
+# Demands in the thousands are split between paths in whole units with little left over.
+FINE_DEMAND = 1000
 
 
 def warnings(plan, net, series, outages):
@@ -10,6 +14,7 @@ def warnings(plan, net, series, outages):
     found += steps_without_rows(plan, series)
     if plan.margin:
         found += base_of_margin(series, net)
+    found += coarse_units(net, series)
     found += demands_beyond_nodes(net, series)
     found += cuts_of_one_way(net, outages)
     return found
@@ -105,6 +110,39 @@ def base_of_margin(series, net):
         return []
     said = shown([pair_name(net, pair) for pair in outside])
     return [f"{counted(len(outside), 'pair has', 'pairs have')} no demand in step 0, which is the margin's base, so a published claim is for matrices without theirs: {said}"]
+
+
+def coarse_units(net, series):
+    """Where half of the demands are of few units, and all amounts would fit in a finer one."""
+    demands = sorted(demand for step in series.steps for demand in step.values() if demand)
+    if not demands or demands[(len(demands) - 1) // 2] >= FINE_DEMAND:
+        return []
+    median = demands[(len(demands) - 1) // 2]
+    greatest = max(demands[-1], *(link[2] for link in net.links))
+    factors = [10**power for power in range(1, 10) if greatest * 10**power <= MAX_AMOUNT]
+    if not factors:
+        return []
+    factor = next((it for it in factors if median * it >= FINE_DEMAND), factors[-1])
+    return [
+        f"the median of the demands above 0 is {median}: a demand is split between paths in whole units, so peak may be far above parts with nothing lost. "
+        f"Choose a finer unit: all capacities and demands times {factor} fit the limits"
+    ]
+
+
+def report_warnings(plan, report):
+    """Steps of a report, if there is one, in which the few paths of smore cost more than twice what any routing must ask."""
+    rows = [line.split(",") for line in report.decode("ascii").split("\n")[1:-1]]
+    lows = {row[1]: int(row[9]) for row in rows if row[0] == "mcf" and row[9] != "-"}
+    found = [(int(row[8]), lows[row[1]], row[1]) for row in rows if row[0] == "smore" and row[1] in lows]
+    high = {step: (parts, low) for parts, low, step in found if parts > 2 * low}
+    if not high:
+        return []
+    step = max(high, key=lambda it: high[it][0] / max(high[it][1], 1))
+    parts, low = high[step]
+    return [
+        f"smore asks of its most used link more than twice what any routing must, in {counted(len(high), 'step', 'steps')}: in step {step} its parts is {parts}, "
+        f"and the low of mcf {low}. It has at most {plan.budget} paths a pair (the key budget) of those of {plan.trees} trees: raise both"
+    ]
 
 
 def demands_beyond_nodes(net, series):

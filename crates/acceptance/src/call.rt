@@ -2,9 +2,11 @@
 ghost use Rattle.std.specs.Prelude.{◌≤◌};
 
 use std::alloc::Global;
+use std::env::Args;
+use std::io;
 use std::process::Abort;
 use std::test::Fail;
-use te_command::run;
+use te_command::{run, serve};
 use te_ports::{Depot, Entry, MemDepot, MemSink, RecordDepot};
 
 /// The texts of files, each in parts. A file without parts is not there.
@@ -71,10 +73,10 @@ pub const SECOND_READ_FAILS: Call<'static> = Call {
 
 /// What a call left.
 #[derive(Drop)]
-struct Outcome {
-    status: u8,
-    out: MemSink,
-    err: MemSink,
+pub struct Outcome {
+    pub status: u8,
+    pub out: MemSink,
+    pub err: MemSink,
 }
 
 /// The call of a row.
@@ -149,7 +151,7 @@ fn out_for(alloc: Global, call: &Call<'_>) -> Result<MemSink, Fail> {
     Ok(out)
 }
 
-fn strings_of(alloc: Global, words: &[&str]) -> Result<Vec<String>, Fail> {
+pub fn strings_of(alloc: Global, words: &[&str]) -> Result<Vec<String>, Fail> {
     let mut all = Vec::new(alloc);
     for word in words {
         all.push(String::from_str(alloc, word)?)?;
@@ -168,6 +170,18 @@ fn outcome_of<D: Depot>(
     let mut err = MemSink::new(alloc, room_of_err, 200)?;
     let words = strings_of(alloc, words)?;
     let status = run(alloc, &words, depot, &mut out, &mut err);
+    Ok(Outcome { status, out, err })
+}
+
+/// What these arguments leave over this depot.
+pub fn outcome_of_arguments<D: Depot>(
+    alloc: Global,
+    arguments: io::Result<Args>,
+    depot: &mut D,
+) -> Result<Outcome, Fail> {
+    let mut out = MemSink::new(alloc, 200, 4)?;
+    let mut err = MemSink::new(alloc, 200, 200)?;
+    let status = serve(alloc, arguments, depot, &mut out, &mut err);
     Ok(Outcome { status, out, err })
 }
 

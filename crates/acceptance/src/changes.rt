@@ -2,7 +2,7 @@
 use crate::call::{
     CHECK, Call, Command, Files, PUBLISH, Row, depot_of, follow_each_other, leaves_over, says,
 };
-use crate::texts::{SMALLEST, SMALLEST_WITH_LESS};
+use crate::texts::{SMALLEST, SMALLEST_HEAD, SMALLEST_WITH_LESS};
 use std::alloc::Global;
 use std::process::Abort;
 use std::test::Fail;
@@ -116,6 +116,12 @@ const CHANGES: &[Change<'static>] = &[
         &[&[&[SMALLEST]], &[SMALLEST_WITH_LESS], &[&[SMALLEST]]],
         (&[], 0, 3, "refused: c: shape at line 17\n"),
     ),
+    // It grows.
+    (
+        CHECK,
+        &[&[&[SMALLEST_HEAD]], &[&[SMALLEST]]],
+        (&[], 0, 0, "yes ratio 1000000 set all\n"),
+    ),
     // It is cut, written late, or deleted.
     (
         CHECK,
@@ -159,19 +165,29 @@ fn versions_of(
     Ok(versions)
 }
 
-/// Files with these names that change so, of which the reads are on record.
-fn changing_files(
+/// The same files at each read, in pieces of these sizes.
+fn versions_in_pieces(
     alloc: Global,
     names: &[&str],
-    all_files: &[Files<'_>],
-) -> Result<RecordDepot<ChangingDepot>, Fail> {
+    files: Files<'_>,
+    sizes: &[usize],
+) -> Result<Vec<MemDepot>, Fail> {
+    let mut versions = Vec::new(alloc);
+    for size in sizes {
+        versions.push(depot_of(alloc, names, files, (*size).max(1))?)?;
+    }
+    Ok(versions)
+}
+
+/// Files of these versions, of which the reads are on record.
+fn changing_files(alloc: Global, versions: Vec<MemDepot>) -> RecordDepot<ChangingDepot> {
     let changing = ChangingDepot {
-        versions: versions_of(alloc, names, all_files)?,
+        versions,
         reads: 0,
         faults: 0,
         log: Log::new(),
     };
-    Ok(RecordDepot::new(alloc, changing))
+    RecordDepot::new(alloc, changing)
 }
 
 /// The call leaves what it has to over the files that the reads gave.
@@ -191,7 +207,8 @@ fn answers_reads(
 
 fn is_answered(alloc: Global, change: Change<'_>) -> Result<bool, Fail> {
     let (command, all_files, row) = change;
-    let mut depot = changing_files(alloc, command.names, all_files)?;
+    let versions = versions_of(alloc, command.names, all_files)?;
+    let mut depot = changing_files(alloc, versions);
     answers_reads(alloc, &says(command, row), &mut depot)
 }
 
@@ -206,6 +223,21 @@ fn all_are_answered(rt: &impl Abort, alloc: Global, changes: &[Change<'_>]) -> R
 #[test]
 fn what_reads_gave_is_answered(rt: HostRuntime) -> Result<(), Fail> {
     all_are_answered(&rt, rt.alloc(), CHANGES)
+}
+
+/// The first read gives one byte, and the next ones more or less, as those of a pipe.
+fn is_answered_in_pieces(alloc: Global, row: Row<'_>) -> Result<bool, Fail> {
+    let versions = versions_in_pieces(alloc, CHECK.names, row.0, &[1, 40, 7, 64])?;
+    let mut depot = changing_files(alloc, versions);
+    answers_reads(alloc, &says(CHECK, row), &mut depot)
+}
+
+#[test]
+fn pieces_of_a_file_are_of_any_size(rt: HostRuntime) -> Result<(), Fail> {
+    let row: Row<'_> = (&[&[SMALLEST]], 1, 0, "yes ratio 1000000 set all\n");
+    let answered = is_answered_in_pieces(rt.alloc(), row)?;
+    assert!(rt; answered);
+    Ok(())
 }
 
 /// The command says that its file is too long where that has no end.

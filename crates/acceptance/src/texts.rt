@@ -5,7 +5,7 @@ pub const SMALLEST: &str =
     "yates-ratio 1\nnodes 2\na\nb\nlinks 1\n0 1 10 1\npairs 1\n0 1 1\n1000000 1 0\nset all\nratio 1000000\nblocks 1\n0 1000000 1 1\n1\n0 0 1\nend\n";
 
 /// The smallest certificate up to its set, and from its blocks on.
-const SMALLEST_HEAD: &str =
+pub const SMALLEST_HEAD: &str =
     "yates-ratio 1\nnodes 2\na\nb\nlinks 1\n0 1 10 1\npairs 1\n0 1 1\n1000000 1 0\nset all\n";
 
 const SMALLEST_END: &str = "blocks 1\n0 1000000 1 1\n1\n0 0 1\nend\n";

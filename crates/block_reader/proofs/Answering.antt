@@ -1,6 +1,6 @@
 -- Reading over the lines that stand ready is a step of reading each content in which they stand.
 use Rattle.std.proofs.Common.{◌≡◌, ◌∙◌, ℕ, zero, suc, ◌+◌, ◌<◌, ◌≤◌, List, [], ◌∷◌, ◌++◌, length, take, drop, Result, Ok, Err, refl, sym, ap, subst, inl, inr, arith, append_assoc, append-nil, length-append}
-use Rattle.te_ports.specs.Record.{Pass}
+use Rattle.te_ports.specs.Record.{Pass, IsBegun}
 use Rattle.te_model.specs.FileLimit.{file_limit}
 use Rattle.cert_text.specs.Place.{Place, place, ◌>>=◌}
 use Rattle.cert_text.specs.Reading.{read_many}
@@ -14,7 +14,7 @@ use Rattle.block_reader.specs.Standing.{ready, fetched_of, IsStateOf, StandsIn}
 use Rattle.block_reader.specs.Ahead.{IsAhead}
 use Rattle.block_reader.specs.Step.{Took, StepsTo, IsForwardStep}
 use Rattle.block_reader.specs.Answers.{place_of, place_in, HasLimit, IsBehind, HasEnough, IsClosedBy, PassesFront, IsDrained, Gives, StopsAs, AnswersPart}
-use Rattle.block_reader.proofs.Going.{at_pass, at_past}
+use Rattle.block_reader.proofs.Going.{at_begun, at_part, at_pass, at_past}
 use Rattle.block_reader.proofs.Limits.{limit_after_pass}
 use Rattle.block_reader.proofs.Items.{left_is, read_in, stops_in}
 
@@ -96,7 +96,7 @@ pub part_stops : {X : Type 0} (gave given drained : Pass) (old filled : Lines) (
     HasEnough filled.window n → filled.line ≡ old.line → ((line : ℕ) → stop ≡ stops.Shape line → f (place_of filled) ≡ Err line) →
     ((passed : List ℕ) → IsBehind given filled passed → IsDrained drained filled.window passed stop fault) →
     (passed : List ℕ) → IsBehind gave old passed → StopsAs drained old passed f fault
-part_stops gave given drained old filled n f stop faults.Failed ahead behind stood enough line stops_at drain passed b = tt
+part_stops gave given drained old filled n f stop faults.Failed ahead behind stood enough line stops_at drain passed b = drain passed (behind passed b)
 part_stops gave given drained old filled n f stop faults.TooLong ahead behind stood enough line stops_at drain passed b = drain passed (behind passed b)
 part_stops gave given drained old filled n f stop (faults.Shape k) ahead behind stood enough line stops_at drain passed b =
     let d = drain passed (behind passed b) in record {
@@ -107,16 +107,22 @@ part_stops gave given drained old filled n f stop (faults.Shape k) ahead behind 
           ∙ stops_in n filled.line k f d.1.0 filled.window passed ahead d.1.2 enough (stops_at k d.0);
     }
 part_stops gave given drained old filled n f stop (faults.Rule rule) ahead behind stood enough line stops_at drain passed b = drain passed (behind passed b)
-part_stops gave given drained old filled n f stop faults.Memory ahead behind stood enough line stops_at drain passed b = tt
+part_stops gave given drained old filled n f stop faults.Memory ahead behind stood enough line stops_at drain passed b = drain passed (behind passed b)
 
 -- nothing was read, since the file is too long or a read failed
 pub fill_stops : {X : Type 0} (gave given : Pass) (old filled : Lines) (f : Place → Result (X × Place) ℕ) (fault : StreamFault) →
     ((passed : List ℕ) → IsBehind gave old passed → IsBehind given filled passed) → IsClosedBy filled.window fault →
     (passed : List ℕ) → IsBehind gave old passed → StopsAs given old passed f fault
-fill_stops gave given old filled f fault behind (inl failed) passed b = subst (StopsAs given old passed f) (sym failed.0) tt
+fill_stops gave given old filled f fault behind (inl failed) passed b =
+    let now = behind passed b in
+    subst (StopsAs given old passed f) (sym failed.0) (at_part given file_limit filled.window passed now.stands now.limited.limit failed.1)
 fill_stops gave given old filled f fault behind (inr long) passed b =
     let now = behind passed b in
     subst (StopsAs given old passed f) (sym long.0) (at_past given file_limit filled.window passed now.stands now.limited.limit long.1)
+
+-- what was read is a pass that was begun
+pub behind_begun : (gave : Pass) (l : Lines) (passed : List ℕ) → IsBehind gave l passed → IsBegun gave
+behind_begun gave l passed b = at_begun gave l.window passed b.stands
 
 -- ---- one part after another
 
@@ -138,16 +144,16 @@ gives_then {X} {Y} g0 g1 g2 l0 l1 l2 f h x y first next = λ passed b.
 
 pub stops_first : {X Y : Type 0} (given : Pass) (old : Lines) (passed : List ℕ) (f : Place → Result (X × Place) ℕ) (h : X → Place → Result (Y × Place) ℕ) (fault : StreamFault) →
     StopsAs given old passed f fault → StopsAs given old passed (λ p. f p >>= λ z. h z.0 z.1) fault
-stops_first given old passed f h faults.Failed s = tt
+stops_first given old passed f h faults.Failed s = s
 stops_first given old passed f h faults.TooLong s = s
 stops_first given old passed f h (faults.Shape k) s = record { bytes = s.bytes; whole = s.whole; stood = s.stood; stops = ap (λ r. r >>= λ z. h z.0 z.1) s.stops }
 stops_first given old passed f h (faults.Rule rule) s = s
-stops_first given old passed f h faults.Memory s = tt
+stops_first given old passed f h faults.Memory s = s
 
 pub stops_next : {X Y : Type 0} (g0 g1 g2 : Pass) (l0 l1 : Lines) (f : Place → Result (X × Place) ℕ) (h : X → Place → Result (Y × Place) ℕ) (x : X) (fault : StreamFault) →
     Gives g0 g1 l0 l1 f x → ((passed : List ℕ) → IsBehind g1 l1 passed → StopsAs g2 l1 passed (h x) fault) →
     (passed : List ℕ) → IsBehind g0 l0 passed → StopsAs g2 l0 passed (λ p. f p >>= λ z. h z.0 z.1) fault
-stops_next g0 g1 g2 l0 l1 f h x faults.Failed first next passed b = tt
+stops_next g0 g1 g2 l0 l1 f h x faults.Failed first next passed b = let one = first passed b in next (passed ++ one.0) one.1
 stops_next g0 g1 g2 l0 l1 f h x faults.TooLong first next passed b = let one = first passed b in next (passed ++ one.0) one.1
 stops_next g0 g1 g2 l0 l1 f h x (faults.Shape k) first next passed b =
     let one = first passed b in
@@ -159,7 +165,7 @@ stops_next g0 g1 g2 l0 l1 f h x (faults.Shape k) first next passed b =
       stops = ap (λ r. r >>= λ z. h z.0 z.1) sooner.1 ∙ stop.stops;
     }
 stops_next g0 g1 g2 l0 l1 f h x (faults.Rule rule) first next passed b = let one = first passed b in next (passed ++ one.0) one.1
-stops_next g0 g1 g2 l0 l1 f h x faults.Memory first next passed b = tt
+stops_next g0 g1 g2 l0 l1 f h x faults.Memory first next passed b = let one = first passed b in next (passed ++ one.0) one.1
 
 pub done_gives : {X : Type 0} (gave : Pass) (l : Lines) (x : X) → Gives gave gave l l (λ p. Ok (x, p)) x
 done_gives {X} gave l x = λ passed b.
@@ -260,7 +266,7 @@ many_fail {X} item (suc n) (suc m) k p xs q lt read stops =
 pub many_stop : {X : Type 0} (g0 g1 g2 : Pass) (l0 l1 : Lines) (item : Place → Result (X × Place) ℕ) (n count : ℕ) (xs : List X) (fault : StreamFault) → n < count →
     Gives g0 g1 l0 l1 (read_many n item) xs → ((passed : List ℕ) → IsBehind g1 l1 passed → StopsAs g2 l1 passed item fault) →
     (passed : List ℕ) → IsBehind g0 l0 passed → StopsAs g2 l0 passed (read_many count item) fault
-many_stop g0 g1 g2 l0 l1 item n count xs faults.Failed lt first next passed b = tt
+many_stop g0 g1 g2 l0 l1 item n count xs faults.Failed lt first next passed b = let one = first passed b in next (passed ++ one.0) one.1
 many_stop g0 g1 g2 l0 l1 item n count xs faults.TooLong lt first next passed b = let one = first passed b in next (passed ++ one.0) one.1
 many_stop g0 g1 g2 l0 l1 item n count xs (faults.Shape k) lt first next passed b =
     let one = first passed b in
@@ -272,4 +278,4 @@ many_stop g0 g1 g2 l0 l1 item n count xs (faults.Shape k) lt first next passed b
       stops = many_fail item n count k (place_in l0 passed stop.bytes) xs (place_in l1 (passed ++ one.0) stop.bytes) lt sooner.1 stop.stops;
     }
 many_stop g0 g1 g2 l0 l1 item n count xs (faults.Rule rule) lt first next passed b = let one = first passed b in next (passed ++ one.0) one.1
-many_stop g0 g1 g2 l0 l1 item n count xs faults.Memory lt first next passed b = tt
+many_stop g0 g1 g2 l0 l1 item n count xs faults.Memory lt first next passed b = let one = first passed b in next (passed ++ one.0) one.1

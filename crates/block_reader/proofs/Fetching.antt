@@ -43,11 +43,11 @@ pub count_fits : {E : Type 0} (r : Result ℕ E) (count room : ℕ) → count �
 count_fits (Ok n) count room is fits = omega (arith, is, fits)
 count_fits (Err fault) count room is fits = omega (arith, is)
 
-given_by : (p : Pass) (bytes : List ℕ) (limit : ℕ) (none long : Bool) → HasGiven p bytes → (none ≡ true → IsRead p bytes) →
+given_by : (p : Pass) (bytes : List ℕ) (limit : ℕ) (none long : Bool) → (none ≡ false → HasGiven p bytes) → (none ≡ true → IsRead p bytes) →
     (long ≡ true → length bytes ≡ limit + 1) → IsGiven p bytes limit (by_tests none long)
 given_by p bytes limit true long given ended past = ended refl
-given_by p bytes limit false true given ended past = (given, past refl)
-given_by p bytes limit false false given ended past = given
+given_by p bytes limit false true given ended past = (given refl, past refl)
+given_by p bytes limit false false given ended past = given refl
 
 pub at_answer : {E : Type 0} (name : List ℕ) (before old new : List Read) (w w' : Window) (passed buf : List ℕ) (r : Result ℕ E) (count : ℕ) →
     state_of w ≡ Open → count ≡ result_unwrap_or r 0 → count ≤ length buf →
@@ -62,8 +62,9 @@ at_answer name before old new w w' passed buf (Ok n) count was is_count room nex
     let none : (n == 0) ≡ true → IsRead (pass name before new) bytes = (λ e. let zero : count ≡ 0 = grind (arith, nat_tests) in ended (size ∙ zero)) in
     let past : nat_lt w'.limit w'.fetched ≡ true → length bytes ≡ w'.limit + 1 =
     (λ e. let beyond : w'.limit < w'.fetched = grind (arith, nat_tests) in omega (arith, long_as, beyond, below)) in
+    let some : (n == 0) ≡ false → HasGiven (pass name before new) bytes = (λ e. let one : 1 ≤ count = grind (arith, nat_tests) in all (omega (arith, one, size))) in
     subst (IsGiven (pass name before new) bytes w'.limit) (sym is)
-    (given_by (pass name before new) bytes w'.limit (n == 0) (nat_lt w'.limit w'.fetched) all none past)) s
+    (given_by (pass name before new) bytes w'.limit (n == 0) (nat_lt w'.limit w'.fetched) some none past)) s
 at_answer name before old new w w' passed buf (Err fault) count was is_count room next at below is gave unread s =
     let same : ready w' ≡ ready w = next ∙ ap (λ k. ready w ++ take k buf) is_count ∙ append-nil (ready w) in
     at_failed (pass name before old) (pass name before new) w w' passed refl refl unread same (omega (arith, at, is_count)) was is s

@@ -4,14 +4,14 @@ use Rattle.std.specs.Prelude.{◌⊎◌}
 use Rattle.std.proofs.Math.Seq.{take-append_seam, drop-append_seam}
 use Rattle.std.proofs.lemmas.List.{take-take, nil_from_length}
 use Rattle.te_model.specs.FileLimit.{file_limit}
-use Rattle.te_ports.specs.Record.{Pass, IsRead, IsReadPastAllowed}
+use Rattle.te_ports.specs.Record.{Pass, IsRead, IsReadInPart, IsReadPastAllowed}
 use Rattle.block_reader.specs.declared.window.Window.{Window}
 use Rattle.block_reader.specs.declared.window.State.{State}
 use Rattle.block_reader.specs.declared.window.State.TheVariants.{Open, Ended, Failed, TooLong}
 use Rattle.block_reader.specs.Standing.{ready, fetched_of, state_of, limit_of, IsStateOf, StandsAt, StandsIn}
 use Rattle.block_reader.specs.declared.lines.Lines.{Lines}
 use Rattle.block_reader.specs.Answers.{HasLimit, IsBehind, IsWhole, PassesFront}
-use Rattle.block_reader.proofs.Going.{at_clear, at_whole, at_past}
+use Rattle.block_reader.proofs.Going.{at_clear, at_whole, at_part, at_past}
 use Rattle.te_model.proofs.FileLimits.{line_settles}
 use Rattle.block_reader.proofs.Limits.{limit_after_more}
 
@@ -156,6 +156,10 @@ limit_is {gave} {given} {w} {w'} {passed} {more} d = d.limit ∙ d.limited.limit
 pub drained_past : {gave given : Pass} {w w' : Window} {passed more : List ℕ} → Drained gave given w w' passed more → state_of w' ≡ TooLong → IsReadPastAllowed given file_limit
 drained_past {gave} {given} {w} {w'} {passed} {more} d is =
     at_past given file_limit w' (total d) d.after (limit_is d ∙ ap file_limit (sym (all_given d))) is
+
+pub drained_part : {gave given : Pass} {w w' : Window} {passed more : List ℕ} → Drained gave given w w' passed more → state_of w' ≡ Failed → IsReadInPart given file_limit
+drained_part {gave} {given} {w} {w'} {passed} {more} d is =
+    at_part given file_limit w' (total d) d.after (limit_is d ∙ ap file_limit (sym (all_given d))) is
 
 pub drained_whole : {gave given : Pass} {w w' : Window} {passed more : List ℕ} → Drained gave given w w' passed more → state_of w' ≡ Ended →
     (bytes : List ℕ) × IsWhole given bytes × StandsIn bytes w passed

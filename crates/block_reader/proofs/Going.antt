@@ -1,8 +1,8 @@
 -- How a window goes on in what reads gave, and in a content.
-use Rattle.std.proofs.Common.{◌≡◌, ◌∙◌, ℕ, ◌+◌, ◌≤◌, List, [], ◌∷◌, ◌++◌, length, take, Option, Some, drop, refl, sym, ap, subst, arith, append_assoc, append-nil, length-append, length-take, length-drop}
+use Rattle.std.proofs.Common.{◌≡◌, ◌⊎◌, inl, inr, ◌∙◌, ℕ, ◌+◌, ◌≤◌, List, [], ◌∷◌, ◌++◌, length, take, Option, Some, drop, refl, sym, ap, subst, arith, append_assoc, append-nil, length-append, length-take, length-drop}
 use Rattle.std.proofs.lemmas.List.{take_all}
 use Rattle.std.proofs.Math.Seq.{take-add}
-use Rattle.te_ports.specs.Record.{Pass, pass, Read, read, Adds, IsPiece, HasGiven, nothing, more, IsRead, IsReadPastAllowed}
+use Rattle.te_ports.specs.Record.{Pass, pass, Read, read, Adds, IsPiece, HasGiven, nothing, more, IsBegun, IsRead, IsReadInPart, IsReadPastAllowed}
 use Rattle.te_ports.proofs.Giving.{front_of, read_is, given_end}
 use Rattle.block_reader.specs.declared.window.Window.{Window}
 use Rattle.block_reader.specs.declared.window.State.{State}
@@ -67,7 +67,7 @@ in_failed content w w' passed same at is =
 -- a piece more was read, which says what became of the file
 pub at_more : (name : List ℕ) (before old new : List Read) (w w' : Window) (passed piece : List ℕ) → state_of w ≡ Open →
     new ≡ old ++ read name (fetched_of w) piece ∷ [] → ready w' ≡ ready w ++ piece → fetched_of w' ≡ fetched_of w + length piece →
-    ((bytes : List ℕ) → HasGiven (pass name before new) bytes → length bytes ≡ fetched_of w' → (length piece ≡ 0 → IsRead (pass name before new) bytes) →
+    ((bytes : List ℕ) → (1 ≤ length piece → HasGiven (pass name before new) bytes) → length bytes ≡ fetched_of w' → (length piece ≡ 0 → IsRead (pass name before new) bytes) →
     IsGiven (pass name before new) bytes (limit_of w') (state_of w')) →
     StandsAt (pass name before old) w passed → StandsAt (pass name before new) w' passed
 at_more name before old new w w' passed piece was gave next at state s =
@@ -76,7 +76,7 @@ at_more name before old new w w' passed piece was gave next at state s =
     at ∙ ap (λ k. k + length piece) s.count ∙ sym (length-append (passed ++ ready w) piece) ∙ sym (ap length whole) in
     let given : HasGiven (pass name before old) (passed ++ ready w) = subst (IsGiven (pass name before old) (passed ++ ready w) w.limit) was s.given in
     let read_there : new ≡ old ++ read name (length (passed ++ ready w)) piece ∷ [] = subst (λ k. new ≡ old ++ read name k piece ∷ []) s.count gave in record {
-      given = state (passed ++ ready w') (more old new (passed ++ ready w) (passed ++ ready w') piece given read_there whole) (sym count)
+      given = state (passed ++ ready w') (λ some. more old new (passed ++ ready w) (passed ++ ready w') piece given some read_there whole) (sym count)
           (λ none. given_end name (passed ++ ready w) piece (passed ++ ready w') before old new given read_there whole none);
       count = count;
     }
@@ -170,6 +170,27 @@ pub at_past : (gave : Pass) (allowed : List ℕ → ℕ) (w : Window) (passed : 
 at_past gave allowed w passed s limit is =
     let long : IsGiven gave (passed ++ ready w) w.limit TooLong = subst (IsGiven gave (passed ++ ready w) w.limit) is s.given in
     record { bytes = passed ++ ready w; given = long.0; past = long.1 ∙ ap (λ k. k + 1) limit }
+
+-- and where a read failed, they gave a part of the file
+pub at_part : (gave : Pass) (allowed : List ℕ → ℕ) (w : Window) (passed : List ℕ) → StandsAt gave w passed →
+    limit_of w ≡ allowed (passed ++ ready w) → state_of w ≡ Failed → IsReadInPart gave allowed
+at_part gave allowed w passed s limit is =
+    let short : w.fetched ≤ w.limit = w.within (λ long. let no : Failed ≡ TooLong = sym is ∙ long in cc) in
+    record {
+      bytes = passed ++ ready w;
+      given = subst (IsGiven gave (passed ++ ready w) w.limit) is s.given;
+      within = omega (arith, short, s.count, limit);
+    }
+
+-- whatever became of the file, a pass over it was begun
+pub at_begun : (gave : Pass) (w : Window) (passed : List ℕ) → StandsAt gave w passed → IsBegun gave
+at_begun gave w passed s = (passed ++ ready w, go w.state s.given)
+  where
+    go : (state : State) → IsGiven gave (passed ++ ready w) w.limit state → HasGiven gave (passed ++ ready w) ⊎ IsRead gave (passed ++ ready w)
+    go Open given = inl given
+    go Ended given = inr given
+    go Failed given = inl given
+    go TooLong given = inl given.0
 
 -- where the file is told, the window stands in what is told
 pub at_told : (content : List ℕ → Option (List ℕ)) (gave : Pass) (w : Window) (passed told : List ℕ) → content gave.name ≡ Some told →

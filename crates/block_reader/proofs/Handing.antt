@@ -90,11 +90,11 @@ shape_refused given bytes k whole stops = (bytes, whole, fault_is bytes k stops)
 pub stop_refused : {X : Type 0} (given : Pass) (lines : Lines) (passed : List ℕ) (f : Place → Result (X × Place) ℕ) (fault : StreamFault) →
     ((content : List ℕ) → StandsIn content lines.window passed → (k : ℕ) → f (place_in lines passed content) ≡ Err k → read_certificate narrow_number (place 1 content) ≡ Err k) →
     StopsAs given lines passed f fault → IsFaultOf given fault
-stop_refused given lines passed f faults.Failed whole s = tt
+stop_refused given lines passed f faults.Failed whole s = s
 stop_refused given lines passed f faults.TooLong whole s = s
 stop_refused given lines passed f (faults.Shape k) whole s = shape_refused given s.bytes k s.whole (whole s.bytes s.stood k s.stops)
 stop_refused given lines passed f (faults.Rule rule) whole s = absurd s
-stop_refused given lines passed f faults.Memory whole s = tt
+stop_refused given lines passed f faults.Memory whole s = s
 
 pub block_refused : (gave given : Pass) (b : Blocks) (head : Head) (blocks : List Block) (fault : StreamFault) → 1 ≤ b.left → AreBehind gave b head blocks →
     ((passed : List ℕ) → IsBehind gave b.lines passed → StopsAs given b.lines passed (read_block b.room.limits narrow_number b.room.counts) fault) → IsFaultOf given fault

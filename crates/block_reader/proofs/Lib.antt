@@ -18,3 +18,4 @@ pub mod Beginning
 pub mod Handing
 pub mod Advancing
 pub mod Starting
+pub mod Begun

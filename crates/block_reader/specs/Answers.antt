@@ -1,7 +1,7 @@
 -- Reading of a part of a file over the lines that stand ready, as a step of reading its whole content.
-use Rattle.std.specs.Prelude.{◌≡◌, ◌≢◌, ◌⊎◌, ℕ, ◌≤◌, List, ◌++◌, length, drop, Result, Ok, Err}
+use Rattle.std.specs.Prelude.{◌≡◌, ◌≢◌, ◌⊎◌, ℕ, ◌≤◌, List, [], ◌++◌, length, drop, Result, Ok, Err}
 use Rattle.te_model.specs.FileLimit.{file_limit}
-use Rattle.te_ports.specs.Record.{Pass, IsRead, IsReadPastAllowed}
+use Rattle.te_ports.specs.Record.{Pass, HasGiven, IsBegun, IsRead, IsReadInPart, IsReadPastAllowed}
 use Rattle.cert_text.specs.Place.{Place, place}
 use Rattle.cert_text.specs.Grammar.{read_closing}
 use Rattle.cert_text.specs.declared.fault.Stop.{Stop}
@@ -31,6 +31,10 @@ pub record IsBehind (gave : Pass) (lines : Lines) (passed : List ℕ) : Type 0 w
   pub stands : StandsAt gave lines.window passed
   pub limited : HasLimit lines.window passed
 
+-- a read of the first bytes failed, or memory for the window was short and nothing was read
+abbrev pub IsOpeningFault : Pass → StreamFault → Type 0
+IsOpeningFault given fault = ((fault ≡ faults.Failed) × IsReadInPart given file_limit) ⊎ ((fault ≡ faults.Memory) × HasGiven given [])
+
 -- no read of the file failed
 abbrev pub IsWell : Lines → Type 0
 IsWell lines = state_of lines.window ≢ Failed
@@ -57,11 +61,11 @@ pub record IsWhole (gave : Pass) (bytes : List ℕ) : Type 0 where
 
 -- what became of a file that was read to its end after reading stopped
 abbrev pub IsDrained : Pass → Window → List ℕ → Stop → StreamFault → Type 0
-IsDrained given old passed stop faults.Failed = Unit {0}
+IsDrained given old passed stop faults.Failed = IsReadInPart given file_limit
 IsDrained given old passed stop faults.TooLong = IsReadPastAllowed given file_limit
 IsDrained given old passed stop (faults.Shape line) = (stop ≡ stops.Shape line) × ((bytes : List ℕ) × IsWhole given bytes × StandsIn bytes old passed)
 IsDrained given old passed stop (faults.Rule rule) = ⊥
-IsDrained given old passed stop faults.Memory = Unit {0}
+IsDrained given old passed stop faults.Memory = IsBegun given
 
 -- each content in which the new lines stand is one in which the old ones do, and reading of it there gives the value
 abbrev pub Moves : {X : Type 0} → Lines → List ℕ → Lines → List ℕ → (Place → Result (X × Place) ℕ) → X → Type 0
@@ -82,11 +86,11 @@ pub record IsMisread {X : Type 0} (given : Pass) (old : Lines) (passed : List �
 
 -- the fault of a file whose reading stopped
 abbrev pub StopsAs : {X : Type 0} → Pass → Lines → List ℕ → (Place → Result (X × Place) ℕ) → StreamFault → Type 0
-StopsAs given old passed f faults.Failed = Unit {0}
+StopsAs given old passed f faults.Failed = IsReadInPart given file_limit
 StopsAs given old passed f faults.TooLong = IsReadPastAllowed given file_limit
 StopsAs given old passed f (faults.Shape line) = IsMisread given old passed f line
 StopsAs given old passed f (faults.Rule rule) = ⊥
-StopsAs given old passed f faults.Memory = Unit {0}
+StopsAs given old passed f faults.Memory = IsBegun given
 
 -- what is read, or why nothing is
 abbrev pub AnswersPart : {X : Type 0} → Pass → Pass → Lines → Lines → (Place → Result (X × Place) ℕ) → Result X StreamFault → Type 0

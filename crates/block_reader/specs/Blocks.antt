@@ -9,7 +9,7 @@ use Rattle.te_model.specs.Formats.{limits_of}
 use Rattle.te_model.specs.Text.{Spells}
 use Rattle.te_model.specs.Faults.{IsShapeFault, IsRuleFault}
 use Rattle.te_model.specs.Validity.{head_fault, blocks_fault, link_before, earlier_fault}
-use Rattle.te_ports.specs.Record.{Pass, IsReadPastAllowed}
+use Rattle.te_ports.specs.Record.{Pass, IsBegun, IsReadInPart, IsReadPastAllowed}
 use Rattle.cert_text.specs.Place.{Place, place, ◌>>=◌}
 use Rattle.cert_text.specs.Reading.{narrow_number, read_many}
 use Rattle.cert_text.specs.Grammar.{read_counted, read_block, read_closing, read_certificate, counts_of}
@@ -113,13 +113,14 @@ pub record HasRead (gave : Pass) (r : BlockReader) (head : Head) (blocks : List 
   pub no_fault : r.fault ≡ None
   pub not_over : r.over ≡ false
 
--- the fault is that of what reads gave; a failed read is one of any file, and so is want of memory
+-- the fault is that of what reads gave: a read can fail behind any part of a file within its limit, and memory be short behind any
+-- pass that was begun
 abbrev pub IsFaultOf : Pass → StreamFault → Type 0
-IsFaultOf gave faults.Failed = Unit {0}
+IsFaultOf gave faults.Failed = IsReadInPart gave file_limit
 IsFaultOf gave faults.TooLong = IsReadPastAllowed gave file_limit
 IsFaultOf gave (faults.Shape line) = (bytes : List ℕ) × IsWhole gave bytes × IsShapeFault bytes line
 IsFaultOf gave (faults.Rule rule) = (bytes : List ℕ) × IsWhole gave bytes × IsRuleFault bytes rule
-IsFaultOf gave faults.Memory = Unit {0}
+IsFaultOf gave faults.Memory = IsBegun gave
 
 -- a reader behind a head and the count of its blocks, of which none was read
 pub record IsBehindHead (r : BlockReader) (name : List ℕ) (head : Head) : Type 0 where

@@ -36,11 +36,11 @@ impl BlockReader {
     ghost use Rattle.te_model.specs.Validity.{follows, IsValidHead, IsValidBlock};
     ghost use Rattle.cert_text.specs.Fits.{FitsHead};
     ghost use Rattle.te_ports.specs.Ports.{Rose};
-    ghost use Rattle.te_ports.specs.Record.{Adds, Read, pass};
+    ghost use Rattle.te_ports.specs.Record.{Adds, IsBegun, Read, pass};
     ghost use Rattle.te_ports.specs.Shown.{shown_by};
     ghost use Rattle.block_reader.specs.Answers.{IsWell};
     ghost use Rattle.block_reader.specs.Depots.{ReadsNamed};
-    ghost use Rattle.block_reader.specs.Blocks.{AreBehind, HasRead, IsReaderOf, IsFaultOf, IsTextOf, IsBehindHead, CountsBlocks, name_of, lent_block, last_link, blocks_left, holds_block, noted_fault, is_over};
+    ghost use Rattle.block_reader.specs.Blocks.{AreBehind, HasRead, IsReaderOf, IsFaultOf, IsTextOf, ReaderStandsAt, IsBehindHead, CountsBlocks, name_of, lent_block, last_link, blocks_left, holds_block, noted_fault, is_over};
 
     /// Reads what stands before the blocks of the file of this name.
     ///
@@ -64,6 +64,7 @@ impl BlockReader {
         ensures name { IfOk result (λ r. name_of r.0 ≡ name.now) }
         ensures refused { (fault : StreamFault) → result ≡ Err fault →
             IsFaultOf (pass name.now (D.gave depot.old) (D.gave depot.new)) fault }
+        ensures begun { IsBegun (pass name.now (D.gave depot.old) (D.gave depot.new)) }
         ensures failed { IsErrOf result StreamFault.Failed → Rose (D.faults depot.old name.now) (D.faults depot.new name.now) }
         ensures steady { result ≢ Err StreamFault.Failed → D.faults depot.new ≡ D.faults depot.old }
         ensures later { (other : List ℕ) → D.faults depot.old other ≤ D.faults depot.new other }
@@ -157,6 +158,10 @@ impl BlockReader {
         ensures refused { (fault : StreamFault) → result ≡ Err fault → (before : List Read) → (head : Head) → (blocks : List Block) →
             HasRead (pass (name_of self.old) before (D.gave depot.old)) self.old head blocks →
             IsFaultOf (pass (name_of self.old) before (D.gave depot.new)) fault }
+        ensures stands { (before : List Read) → ReaderStandsAt (pass (name_of self.old) before (D.gave depot.old)) self.old →
+            ReaderStandsAt (pass (name_of self.old) before (D.gave depot.new)) self.new }
+        ensures begun { (before : List Read) → ReaderStandsAt (pass (name_of self.old) before (D.gave depot.old)) self.old →
+            IsBegun (pass (name_of self.old) before (D.gave depot.new)) }
         ensures valid { result ≡ Ok true → (head : Head) → IsReaderOf self.old head → IsValidBlock head (lent_block self.new) }
         ensures ascends { result ≡ Ok true → IsTrue (follows (last_link self.old) (lent_block self.new).link)
             × (last_link self.new ≡ Some (lent_block self.new).link) }
@@ -164,13 +169,14 @@ impl BlockReader {
         ensures holds { result ≡ Ok true → IsTrue (holds_block self.new) }
         ensures fewer { result ≡ Ok true → blocks_left self.new < blocks_left self.old }
         ensures ended { result ≡ Ok false → (blocks_left self.old ≡ 0) × IsTrue (is_over self.new) }
-        ensures over { IsTrue (is_over self.old) → (result ≡ Ok false) × (D.faults depot.new ≡ D.faults depot.old) }
+        ensures over { IsTrue (is_over self.old) → (result ≡ Ok false) × (D.faults depot.new ≡ D.faults depot.old)
+            × (D.gave depot.new ≡ D.gave depot.old) }
         ensures room { result ≢ Err StreamFault.Memory }
         ensures failed { IsErrOf result StreamFault.Failed → (noted_fault self.old ≡ Some StreamFault.Failed)
             ⊎ Rose (D.faults depot.old (name_of self.old)) (D.faults depot.new (name_of self.old)) }
         ensures keeps_fault { (fault : StreamFault) → result ≡ Err fault → noted_fault self.new ≡ Some fault }
         ensures again { (fault : StreamFault) → noted_fault self.old ≡ Some fault →
-            (result ≡ Err fault) × (D.faults depot.new ≡ D.faults depot.old) }
+            (result ≡ Err fault) × (D.faults depot.new ≡ D.faults depot.old) × (D.gave depot.new ≡ D.gave depot.old) }
         ensures steady { result ≢ Err StreamFault.Failed → D.faults depot.new ≡ D.faults depot.old }
         ensures later { (other : List ℕ) → D.faults depot.old other ≤ D.faults depot.new other }
         ensures added { Adds (D.content depot.old) (D.gave depot.old) (D.gave depot.new) }

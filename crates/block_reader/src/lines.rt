@@ -11,7 +11,7 @@ use cert_text::reader::Reader;
 use std::alloc::Global;
 use te_ports::Depot;
 
-// How many bytes of a file stand ready at most: more than reading of any part of it looks at.
+// How many bytes of a file stand ready at most: as many as reading of any part of it looks at, and no more.
 const ROOM: usize = 1_310_720;
 
 // How many bytes reading of the first line looks at.
@@ -23,12 +23,12 @@ pub(crate) struct Lines {
     window: Window,
     line: u64,
     ghost few: { line + length (ready window) ≤ 1 + fetched_of window },
-    ghost room: { 1310720 ≤ room_of window },
+    ghost room: { room_of window ≡ 1310720 },
 }
 
 impl Lines {
     ghost use Rattle.block_reader.specs.Standing.{StandsAt, StandsIn};
-    ghost use Rattle.block_reader.specs.Answers.{IsBehind, IsWell, HasEnough, IsClosedBy, PassesFront, IsDrained};
+    ghost use Rattle.block_reader.specs.Answers.{IsBehind, IsOpeningFault, IsWell, HasEnough, IsClosedBy, PassesFront, IsDrained};
     ghost use Rattle.te_ports.specs.Record.{Read, pass};
     ghost use Rattle.te_ports.specs.Shown.{shown_by};
     ghost use Rattle.block_reader.specs.Depots.{ReadsNamed, ReadsTo};
@@ -46,7 +46,8 @@ impl Lines {
         ensures behind { IfOk result (λ lines. IsBehind (pass name.now (D.gave depot.old) (D.gave depot.new)) lines []) }
         ensures line { IfOk result (λ lines. lines.line ≡ 1) }
         ensures well { IfOk result IsWell }
-        ensures refused { (fault : StreamFault) → result ≡ Err fault → (fault ≡ StreamFault.Failed) ⊎ (fault ≡ StreamFault.Memory) }
+        ensures refused { (fault : StreamFault) → result ≡ Err fault →
+            IsOpeningFault (pass name.now (D.gave depot.old) (D.gave depot.new)) fault }
         ensures reads { ReadsNamed (shown_by D.content D.gave D.faults depot.old) (shown_by D.content D.gave D.faults depot.new)
             name.now result }
     {
@@ -56,7 +57,7 @@ impl Lines {
 
     /// The first bytes of a file. `Failed` where a read failed.
     pub(crate) fn at_start(window: Window) -> Result<Lines, StreamFault>
-        requires { 1310720 ≤ room_of window }
+        requires { room_of window ≡ 1310720 }
         ensures window { IfOk result (λ lines. lines.window ≡ window) }
         ensures line { IfOk result (λ lines. lines.line ≡ 1) }
         ensures well { IfOk result IsWell }

@@ -102,6 +102,7 @@ impl Window {
             Rose (D.faults depot.old name.now) (D.faults depot.new name.now)) }
         ensures steady { IfOk result (λ w. state_of w ≢ State.Failed → D.faults depot.new ≡ D.faults depot.old) }
         ensures memory { OnErr result (D.faults depot.new ≡ D.faults depot.old) }
+        ensures unread { OnErr result (D.gave depot.new ≡ D.gave depot.old) }
         ensures later { (other : List ℕ) → D.faults depot.old other ≤ D.faults depot.new other }
         ensures added { Adds (D.content depot.old) (D.gave depot.old) (D.gave depot.new) }
         ensures content { D.content depot.new ≡ D.content depot.old }

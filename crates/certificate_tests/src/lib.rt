@@ -10,6 +10,8 @@ mod cases;
 #[cfg(test)]
 mod cert_text_tests;
 #[cfg(test)]
+mod number_tables_tests;
+#[cfg(test)]
 mod ratio_certificate_tests;
 #[cfg(test)]
 mod ratio_checker_tests;

@@ -325,7 +325,10 @@ impl Case for Interrupted {
             interrupted: self.0,
             seeks: &seeks,
         };
-        let file = OpenFile::new(String::new(alloc), file);
+        let Some(name) = FileName::new("file") else {
+            return false;
+        };
+        let file = OpenFile::new(name, file);
         let mut depot = RealDepot::over(OneFile {
             file,
             log: Log::new(),

@@ -15,3 +15,5 @@ mod scheme_tests;
 mod shortest_path_tests;
 #[cfg(test)]
 mod thirds;
+#[cfg(test)]
+mod valiant_mix_tests;

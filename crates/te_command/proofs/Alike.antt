@@ -1,5 +1,5 @@
 -- What `check` says of a file and of the one that `convert` makes of it.
-use Rattle.std.proofs.Common.{◌≡◌, ℕ, List, Option, Some, inl, inr, refl, ◌∙◌, subst, arith}
+use Rattle.std.proofs.Common.{◌≡◌, ℕ, List, [], Option, Some, inl, inr, refl, ◌∙◌, subst, arith}
 use Rattle.te_model.specs.declared.certificate.Certificate.{Certificate}
 use Rattle.te_model.specs.Text.{Spells, text as text_of}
 use Rattle.te_model.specs.Upgrade.{box_of, upgraded_certificate}
@@ -37,22 +37,22 @@ of_made : (content : List ℕ → Option (List ℕ)) (made bytes text line : Lis
     Spells bytes c → text ≡ text_of (upgraded_certificate c) → IsVerdict (upgraded_certificate c) status line → Means (reading_of (check made)) (told_files content) status line
 of_made content made bytes text line c status at spells is verdict =
     let spelled = spells_upgraded c bytes text spells is in
-    inr (upgraded_certificate c, (text, at, fits_file text (upgraded_certificate c) spelled, spelled), verdict)
+    inr (upgraded_certificate c, [], (text, at, fits_file text (upgraded_certificate c) spelled, spelled), (verdict, tt))
 
 pub no_alike : (content : List ℕ → Option (List ℕ)) (file made text line : List ℕ) → content made ≡ Some text →
     Means (reading_of (convert file)) (told_files content) 0 text → Means (reading_of (check file)) (told_files content) 1 line →
     Means (reading_of (check made)) (told_files content) 1 line
-no_alike content file made text line at (inl (three, refused)) means = absurd (omega (arith, three))
-no_alike content file made text line at converted (inl (three, refused)) = absurd (omega (arith, three))
-no_alike content file made text line at (inr (c, (bytes, told_as, few, spells), (zero, is))) (inr (d, (all, told_is, short, spelled), verdict)) =
+no_alike content file made text line at (inl (three, now, refused, ended)) means = absurd (omega (arith, three))
+no_alike content file made text line at converted (inl (three, now, refused, ended)) = absurd (omega (arith, three))
+no_alike content file made text line at (inr (c, now, (bytes, told_as, few, spells), ((zero, is), ended))) (inr (d, then, (all, told_is, short, spelled), (verdict, over))) =
     of_made content made bytes text line c 1 at spells is
     (no_kept c line (subst (λ x. IsVerdict x 1 line) (one_certificate (content file) bytes all c d told_as told_is spells spelled) verdict))
 
 pub yes_alike : (content : List ℕ → Option (List ℕ)) (file made text line : List ℕ) → content made ≡ Some text →
     Means (reading_of (convert file)) (told_files content) 0 text → Means (reading_of (check file)) (told_files content) 0 line →
     (boxed : List ℕ) × SayYesAlike line boxed × Means (reading_of (check made)) (told_files content) 0 boxed
-yes_alike content file made text line at (inl (three, refused)) means = absurd (omega (arith, three))
-yes_alike content file made text line at converted (inl (three, refused)) = absurd (omega (arith, three))
-yes_alike content file made text line at (inr (c, (bytes, told_as, few, spells), (zero, is))) (inr (d, (all, told_is, short, spelled), verdict)) =
+yes_alike content file made text line at (inl (three, now, refused, ended)) means = absurd (omega (arith, three))
+yes_alike content file made text line at converted (inl (three, now, refused, ended)) = absurd (omega (arith, three))
+yes_alike content file made text line at (inr (c, now, (bytes, told_as, few, spells), ((zero, is), ended))) (inr (d, then, (all, told_is, short, spelled), (verdict, over))) =
     let kept = yes_kept c line (subst (λ x. IsVerdict x 0 line) (one_certificate (content file) bytes all c d told_as told_is spells spelled) verdict) in
     (kept.0, kept.1, of_made content made bytes text kept.0 c 0 at spells is kept.2)

@@ -1,20 +1,25 @@
 -- What `run` promises of an answer and of a refusal.
-use Rattle.std.proofs.Common.{◌≡◌, ◌≢◌, ℕ, List, inl, map, string_bytes, Option, Some, ap, ◌∙◌, subst, arith}
+use Rattle.std.proofs.Common.{◌≡◌, ◌≢◌, ℕ, List, [], inl, map, string_bytes, Option, Some, ap, ◌∙◌, subst, arith}
 use Rattle.std.specs.declared.string.String.{String}
 use Rattle.std.specs.declared.alloc.Global.{Global}
 use Rattle.te_ports.specs.Ports.{Rose}
+use Rattle.te_ports.specs.Record.{Adds}
 use Rattle.te_command.specs.declared.answer.Answer.{Answer}
 use Rattle.te_command.specs.declared.answer.Answer.TheVariants.{Done, No, NoPath}
-use Rattle.te_command.specs.Files.{Files, Span, given_files, told_files, known_files}
+use Rattle.te_command.specs.Files.{Files, Span, given_passes, known_passes, told_passes, given_files, told_files, known_files}
 use Rattle.te_command.specs.Reading.{Means, MeansStatus, IsTold, ReadFailed}
 use Rattle.te_command.specs.Commands.{Command, command_of, reading_of}
 use Rattle.te_command.specs.Form.{MayAnswer}
 use Rattle.te_command.specs.Outcome.{status_of, answer_text, Delivers}
 use Rattle.te_command.specs.Run.{OfCommand, OfToldCommand, Change, Says, SaysSome, Answered, WritesMeant, SaysMeant, WritesProof, WritesPartMeant, HasForm, IsOrFails, GivesOrMemory}
-use Rattle.te_command.proofs.Telling.{Agrees, given_is_known, means_along, failed_along, means_told, failed_told}
+use Rattle.te_command.proofs.Telling.{means_known, failed_known, means_told, failed_told}
 use Rattle.te_command.proofs.Ending.{proved, formed, status_once, status_of_text}
 use Rattle.te_command.proofs.Table.{sound, regular}
 use Rattle.te_command.proofs.Delivering.{answered, refused, has_form, exact, complete}
+
+-- what the reads of a call gave of told files are pieces of them
+abbrev pub Agrees : (List ℕ → Option (List ℕ)) → Span → Type 0
+Agrees content gave = Adds content gave.before gave.now
 
 -- the command that was read from the words
 pub record IsAsked (asked : Command) (words : List (List ℕ)) : Type 0 where
@@ -23,7 +28,7 @@ pub record IsAsked (asked : Command) (words : List (List ℕ)) : Type 0 where
   pub same : map string_bytes read ≡ words
 
 -- what holds of it holds of the command of the words
-of_asked : (P : Command → Type 0) (asked : Command) (words : List (List ℕ)) → IsAsked asked words → P asked → OfCommand words P
+pub of_asked : (P : Command → Type 0) (asked : Command) (words : List (List ℕ)) → IsAsked asked words → P asked → OfCommand words P
 of_asked P asked words is holds command named = subst P (asked_is (command_of words) asked command (is.is ∙ ap command_of is.same) named) holds
   where
     asked_is : (o : Option Command) (x y : Command) → Some x ≡ o → o ≡ Some y → x ≡ y
@@ -31,12 +36,12 @@ of_asked P asked words is holds command named = subst P (asked_is (command_of wo
 
 known_means : (asked : Command) (content : List ℕ → Option (List ℕ)) (gave : Span) (s : ℕ) (text : List ℕ) → Agrees content gave →
     Means (reading_of asked) (given_files gave) s text → Means (reading_of asked) (known_files gave content) s text
-known_means asked content gave s text agrees = means_along (reading_of asked) (given_files gave) (known_files gave content) s text (regular asked) (given_is_known content gave agrees)
+known_means asked content gave s text agrees means = means_known (reading_of asked) content gave.now gave.before s text (regular asked) agrees means
 
 told_means : (asked : Command) (content : List ℕ → Option (List ℕ)) (gave : Span) (s : ℕ) (text : List ℕ) → Agrees content gave →
     Means (reading_of asked) (given_files gave) s text → IsTold (reading_of asked) content → Means (reading_of asked) (told_files content) s text
 told_means asked content gave s text agrees means is =
-    means_told (reading_of asked) content gave s text is (known_means asked content gave s text agrees means)
+    means_told (reading_of asked) content gave.now gave.before [] s text is (known_means asked content gave s text agrees means)
 
 -- what is promised at each status, of the command of the words
 pub record AnsweredBy (words : List (List ℕ)) (files : Files) (result : ℕ) (out err : Change) : Type 0 where
@@ -67,7 +72,7 @@ answer_given asked words content gave answer result out err is agrees delivered 
     at_each_status words (known_files gave content) result out err (
     of_asked (λ k. Answered (reading_of k) (known_files gave content) result out err) asked words is
     (answered (reading_of asked) (known_files gave content) answer result out err delivered
-    (λ text. proved (MayAnswer asked) (reading_of asked) (known_files gave content) text (sound asked))
+    (λ text. proved (MayAnswer asked) (reading_of asked) (known_passes gave.now content) gave.before text (sound asked))
     (known_means asked content gave _ _ agrees means)))
 
 pub refusal_given : (asked : Command) (words : List (List ℕ)) (content : List ℕ → Option (List ℕ)) (gave : Span) (line : List ℕ)
@@ -84,7 +89,7 @@ pub answer_told : (asked : Command) (words : List (List ℕ)) (content : List �
 answer_told asked words content gave answer result out err is agrees delivered means =
     of_asked (λ k. IsTold (reading_of k) content → Answered (reading_of k) (told_files content) result out err) asked words is
     (λ tells. answered (reading_of asked) (told_files content) answer result out err delivered
-    (λ text. proved (MayAnswer asked) (reading_of asked) (told_files content) text (sound asked))
+    (λ text. proved (MayAnswer asked) (reading_of asked) (told_passes content) [] text (sound asked))
     (told_means asked content gave _ _ agrees means tells))
 
 pub refusal_told : (asked : Command) (words : List (List ℕ)) (content : List ℕ → Option (List ℕ)) (gave : Span) (line : List ℕ)
@@ -106,14 +111,14 @@ pub answer_form : (asked : Command) (words : List (List ℕ)) (gave : Span) (ans
     Means (reading_of asked) (given_files gave) (status_of answer) (answer_text answer) → OfCommand words (λ command. HasForm command result out err)
 answer_form asked words gave answer result out err is delivered means =
     of_asked (λ k. HasForm k result out err) asked words is
-    (has_form asked answer result out err delivered (formed (MayAnswer asked) (reading_of asked) (given_files gave) _ _ (sound asked) (no_refusal answer) means))
+    (has_form asked answer result out err delivered (formed (MayAnswer asked) (reading_of asked) (given_passes gave.now) gave.before _ _ (sound asked) (no_refusal answer) means))
 
 -- the status that is meant
 one_status : (asked : Command) (content : List ℕ → Option (List ℕ)) (s status : ℕ) (text : List ℕ) → Means (reading_of asked) (told_files content) s text →
     MeansStatus (reading_of asked) (told_files content) status → s ≡ status
 one_status asked content s status text means is =
-    status_once (MayAnswer asked) (reading_of asked) content s status (regular asked) (sound asked)
-    (status_of_text (MayAnswer asked) (reading_of asked) (told_files content) s text (sound asked) means) is
+    status_once (MayAnswer asked) (reading_of asked) content [] [] s status (regular asked) (sound asked)
+    (status_of_text (MayAnswer asked) (reading_of asked) (told_passes content) [] s text (sound asked) means) is
 
 pub answer_exact : (asked : Command) (words : List (List ℕ)) (content : List ℕ → Option (List ℕ)) (gave : Span) (answer : Answer) (result : ℕ)
     (out err : Change) → IsAsked asked words → Agrees content gave → Delivers result (status_of answer) (answer_text answer) out err →
@@ -169,7 +174,7 @@ pub failed_given : (asked : Command) (words : List (List ℕ)) (content : List �
     OfCommand words (λ command. ReadFailed (reading_of command) (known_files gave content) Fails)
 failed_given asked words content gave Fails is agrees failed =
     of_asked (λ k. ReadFailed (reading_of k) (known_files gave content) Fails) asked words is
-    (failed_along (reading_of asked) (given_files gave) (known_files gave content) Fails (given_is_known content gave agrees) failed)
+    (failed_known (reading_of asked) content gave.now gave.before Fails agrees failed)
 
 pub failed_complete : (asked : Command) (words : List (List ℕ)) (content : List ℕ → Option (List ℕ)) (gave : Span) (Fails : List ℕ → Type 0)
     (out : Change) → IsAsked asked words → Agrees content gave → ReadFailed (reading_of asked) (given_files gave) Fails →
@@ -180,5 +185,5 @@ failed_complete asked words content gave Fails out is agrees failed =
     of_asked (λ k. IsTold (reading_of k) content → (status : ℕ) → MeansStatus (reading_of k) (told_files content) status →
     ¬ ReadFailed (reading_of k) (told_files content) Fails → ¬ Rose out.before out.now →
     GivesOrMemory 4 out status (Means (reading_of k) (told_files content) status)) asked words is
-    (λ tells status meant unread steady. absurd (unread (failed_told (reading_of asked) content gave Fails tells
-    (failed_along (reading_of asked) (given_files gave) (known_files gave content) Fails (given_is_known content gave agrees) failed))))
+    (λ tells status meant unread steady. absurd (unread (failed_told (reading_of asked) content gave.now gave.before [] Fails tells
+    (failed_known (reading_of asked) content gave.now gave.before Fails agrees failed))))

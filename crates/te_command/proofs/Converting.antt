@@ -1,5 +1,5 @@
 -- What `convert` writes: a file of the second format, which is converted to itself.
-use Rattle.std.proofs.Common.{◌≡◌, ℕ, List, inr, refl, sym, ap, ◌∙◌, arith}
+use Rattle.std.proofs.Common.{◌≡◌, ℕ, List, [], inr, refl, sym, ap, ◌∙◌, arith}
 use Rattle.te_model.specs.declared.certificate.Certificate.{Certificate}
 use Rattle.te_model.specs.declared.demand.DemandSet.{DemandSet}
 use Rattle.te_model.specs.declared.demand.DemandSet.TheVariants.{All, Margin, Box}
@@ -38,7 +38,7 @@ is_converted c bytes file spells is =
       certificate = upgraded_certificate c;
       spelled = spelled;
       format = refl;
-      answer = λ name. inr (upgraded_certificate c, (file, refl, fits, spelled), (refl, is ∙ ap text_of (sym (upgraded_once c))));
+      answer = λ name. inr (upgraded_certificate c, [], (file, refl, fits, spelled), ((refl, is ∙ ap text_of (sym (upgraded_once c))), tt));
     }
 
 pub conversion_sound : (bytes : List ℕ) (c : Certificate) → Spells bytes c → IsSound (λ s file. (s ≡ 0) × IsConverted file) (conversion_of c)

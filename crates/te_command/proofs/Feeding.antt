@@ -2,7 +2,7 @@
 use Rattle.std.proofs.Common.{◌≡◌, ℕ, ◌+◌, List, [], ◌∷◌, ◌++◌, ◌≤◌, ◌⊎◌, Option, Some, None, Result, Ok, Err, inl, inr, refl, sym, ap, ◌∙◌, subst, arith, rules, tests}
 use Rattle.std.specs.Bool.{IsTrue}
 use Rattle.te_ports.specs.Ports.{Rose}
-use Rattle.te_ports.specs.Record.{Read as FileRead, Pass, pass, IsRead, IsReadPastAllowed}
+use Rattle.te_ports.specs.Record.{Read as FileRead, Pass, pass, IsBegun}
 use Rattle.te_model.specs.declared.certificate.Block.{Block}
 use Rattle.te_model.specs.declared.certificate.Head.{Head}
 use Rattle.te_model.specs.Validity.{IsValidBlock, follows}
@@ -18,8 +18,7 @@ use Rattle.te_command.specs.CertificateFile.{certificates, shape_reason, rule_re
 use Rattle.te_ports.specs.Shown.{Shown}
 use Rattle.te_command.specs.Outcome.{KeepsDepot, ReadsFile}
 use Rattle.te_command.specs.Blocks.{IsFed, IsFedWhole, ReadsOn, IsAnswerTo, FeedsFile, link_after}
-use Rattle.te_command.specs.Files.{span, Among}
-use Rattle.te_command.proofs.Following.{both, begins_itself}
+use Rattle.te_command.proofs.Following.{both}
 
 follows_after : (before : Option ℕ) (link : ℕ) → IsTrue (follows before link) → link_after before ≤ link
 follows_after None link is = omega arith
@@ -134,48 +133,65 @@ fed_file file old new feed on whole =
       whole.1,
       whole.2,
       record {
-        reads = (text.0, (old.gave, new.gave, begins_itself old.gave, text.1.read, begins_itself new.gave), text.1.within, text.2);
+        reads = (text.0, text.1.read, text.1.within, text.2);
+        begun = (text.0, inr text.1.read);
+        part = tt;
         failed = tt;
         steady = λ other. on.steady (ok_read feed);
         may = on.may;
       },
     )
 
--- the reads of a call are among them
-all_of : (file : List ℕ) (old new : Shown) (P : Pass → Type 0) → P (pass file old.gave new.gave) → Among (span old.gave new.gave) file P
-all_of file old new P holds = (old.gave, new.gave, begins_itself old.gave, holds, begins_itself new.gave)
+-- a pass at a fault was begun
+begun_of : (p : Pass) (fault : StreamFault) → IsFaultOf p fault → IsBegun p
+begun_of p faults.Failed at = (at.bytes, inl at.given)
+begun_of p faults.TooLong at = (at.bytes, inl at.given)
+begun_of p (faults.Shape k) at = (at.0, inr at.1.read)
+begun_of p (faults.Rule rule) at = (at.0, inr at.1.read)
+begun_of p faults.Memory at = at
+
+-- memory was short for the line
+short : {A : Type 0} (file : List ℕ) (old new : Shown) (fault : StreamFault) → ReadsOn {A = A} file old new (Err fault) →
+    (◌≡◌ {A = Result A StreamFault} (Err fault) (Err faults.Failed) → ⊥) → ReadsFile certificates file old new (Err Memory)
+short file old new fault on other =
+    let begun = begun_of (pass file old.gave new.gave) fault (on.refused fault refl) in
+    record { reads = tt; begun = begun; part = tt; failed = tt; steady = λ unread. on.steady other; may = on.may }
 
 -- the file is refused for the fault, which the line says, or it is not read
 pub refuses : {A : Type 0} (file : List ℕ) (old new : Shown) (fault : StreamFault) (answer : Fault) → ReadsOn {A = A} file old new (Err fault) →
     IsAnswerTo file fault answer → ReadsFile certificates file old new (Err answer)
-refuses file old new faults.Failed answer on is = subst (λ a. ReadsFile certificates file old new (Err a)) (sym is)
-    (record { reads = tt; failed = on.failed refl; steady = λ other. absurd (other refl); may = on.may })
+refuses file old new faults.Failed answer on is =
+    let at = on.refused faults.Failed refl in
+    subst (λ a. ReadsFile certificates file old new (Err a)) (sym is)
+    (record { reads = tt; begun = (at.bytes, inl at.given); part = at; failed = on.failed refl; steady = λ other. absurd (other refl); may = on.may })
 refuses file old new faults.Memory answer on is = subst (λ a. ReadsFile certificates file old new (Err a)) (sym is)
-    (record { reads = tt; failed = tt; steady = λ other. on.steady (λ e. cc); may = on.may })
+    (record { reads = tt; begun = on.refused faults.Memory refl; part = tt; failed = tt; steady = λ other. on.steady (λ e. cc); may = on.may })
 refuses file old new faults.TooLong (Refused line) on is =
-    record { reads = inl (all_of file old new (λ p. IsReadPastAllowed p certificates.limit) (on.refused faults.TooLong refl), is); failed = tt; steady = λ other. on.steady (λ e. cc); may = on.may }
+    let at = on.refused faults.TooLong refl in
+    record { reads = inl (at, is); begun = (at.bytes, inl at.given); part = tt; failed = tt; steady = λ other. on.steady (λ e. cc); may = on.may }
 refuses file old new faults.TooLong Read on is = absurd is
-refuses file old new faults.TooLong Memory on is =
-    record { reads = tt; failed = tt; steady = λ other. on.steady (λ e. cc); may = on.may }
+refuses file old new faults.TooLong Memory on is = short file old new faults.TooLong on (λ e. cc)
 refuses file old new (faults.Shape k) (Refused line) on is =
     let at = on.refused (faults.Shape k) refl in
     record {
-      reads = inr (at.0, shape_reason k, all_of file old new (λ p. IsRead p at.0) at.1.read, at.1.within, inl (k, at.2, refl), is);
+      reads = inr (at.0, shape_reason k, at.1.read, at.1.within, inl (k, at.2, refl), is);
+      begun = (at.0, inr at.1.read);
+      part = tt;
       failed = tt;
       steady = λ other. on.steady (λ e. cc);
       may = on.may;
     }
 refuses file old new (faults.Shape k) Read on is = absurd is
-refuses file old new (faults.Shape k) Memory on is =
-    record { reads = tt; failed = tt; steady = λ other. on.steady (λ e. cc); may = on.may }
+refuses file old new (faults.Shape k) Memory on is = short file old new (faults.Shape k) on (λ e. cc)
 refuses file old new (faults.Rule rule) (Refused line) on is =
     let at = on.refused (faults.Rule rule) refl in
     record {
-      reads = inr (at.0, rule_reason rule, all_of file old new (λ p. IsRead p at.0) at.1.read, at.1.within, inr (rule, at.2, refl), is);
+      reads = inr (at.0, rule_reason rule, at.1.read, at.1.within, inr (rule, at.2, refl), is);
+      begun = (at.0, inr at.1.read);
+      part = tt;
       failed = tt;
       steady = λ other. on.steady (λ e. cc);
       may = on.may;
     }
 refuses file old new (faults.Rule rule) Read on is = absurd is
-refuses file old new (faults.Rule rule) Memory on is =
-    record { reads = tt; failed = tt; steady = λ other. on.steady (λ e. cc); may = on.may }
+refuses file old new (faults.Rule rule) Memory on is = short file old new (faults.Rule rule) on (λ e. cc)

@@ -1,5 +1,7 @@
 pub mod Following
 pub mod Telling
+pub mod Asking
+pub mod Meaning
 pub mod Plans
 pub mod Verdict
 pub mod Feeding
@@ -11,6 +13,7 @@ pub mod Table
 pub mod Delivering
 pub mod Answering
 pub mod Running
+pub mod Arguments
 pub mod Refusing
 mod Generating
 mod Texts

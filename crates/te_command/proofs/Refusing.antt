@@ -1,28 +1,33 @@
 -- A file that is told and gives a value is not refused.
-use Rattle.std.proofs.Common.{◌≡◌, ℕ, List, Option, Some, inl, inr, sym, ap, ◌∙◌}
+use Rattle.std.proofs.Common.{◌≡◌, ℕ, List, Option, Some, inl, inr, refl, sym, ap, ◌∙◌, subst}
 use Rattle.te_ports.specs.Limit.{IsLimit}
-use Rattle.te_command.specs.Files.{Span, given_files, told_files}
-use Rattle.te_command.specs.Reading.{Kind, Reading, answers, reads, RefusedIn, Means, RefusesUntold}
-use Rattle.te_command.proofs.Telling.{Agrees, given_is_known}
+use Rattle.te_ports.specs.Record.{Read, Adds, Pass, pass}
+use Rattle.te_ports.proofs.Giving.{read_is, past_allowed}
+use Rattle.te_command.specs.Files.{given_passes, told_passes}
+use Rattle.te_command.specs.Reading.{Kind, Reading, answers, reads, RefusedIn, MeansAfter, RefusesUntoldAfter}
+use Rattle.te_command.proofs.Telling.{adds_parts, read_begins, means_begins}
 use Rattle.te_command.proofs.Ending.{AtEnd, AreRegular, IsSound, not_both}
 
--- a refusal of what is known of a told file is one of what is told
-refused_told : (A : Type 0) (kind : Kind A) (file : List ℕ) (content : List ℕ → Option (List ℕ)) (gave : Span) (line all : List ℕ) →
-    IsLimit kind.limit → Agrees content gave → content file ≡ Some all → RefusedIn kind (given_files gave) file line → RefusedIn kind (told_files content) file line
-refused_told A kind file content gave line all limited agrees at (inl (past, says)) =
-    inl ((all, at, ((given_is_known content gave agrees).longer file kind.limit limited past).1 all at), says)
-refused_told A kind file content gave line all limited agrees at (inr (bytes, words, read, few, refused, says)) =
-    let same : bytes ≡ all = ((given_is_known content gave agrees).whole file bytes read).1 all at in
-    inr (bytes, words, at ∙ ap Some (sym same), few, refused, says)
+-- a refusal of what reads gave of a told file is one of what is told
+refused_told : (A : Type 0) (kind : Kind A) (p : Pass) (content : List ℕ → Option (List ℕ)) (last : List Read) (line all : List ℕ) →
+    IsLimit kind.limit → Adds content p.before p.now → content p.name ≡ Some all → RefusedIn kind (given_passes last) p line → RefusedIn kind (told_passes content) p line
+refused_told A kind p content last line all limited adds at (inl (past, says)) =
+    inl ((all, at, past_allowed content p all kind.limit limited at adds past), says)
+refused_told A kind p content last line all limited adds at (inr (bytes, words, is_read, few, refused, says)) =
+    inr (bytes, words, at ∙ ap Some (sym (read_is content p all bytes at adds is_read)), few, refused, says)
 
-pub refuses_untold : (Form : ℕ → List ℕ → Type 0) (r : Reading) (content : List ℕ → Option (List ℕ)) (gave : Span) (text : List ℕ) →
-    AreRegular r → AtEnd r (IsSound Form) → Agrees content gave → Means r (given_files gave) 3 text → RefusesUntold r (given_files gave) content text
-refuses_untold Form (answers a) content gave text regular sound agrees means = absurd (sound.accepted text means)
-refuses_untold Form (reads A kind file next) content gave text regular sound agrees (inl (three, refused)) =
+pub refuses_untold : (Form : ℕ → List ℕ → Type 0) (r : Reading) (content : List ℕ → Option (List ℕ)) (last before : List Read) (text : List ℕ) →
+    AreRegular r → AtEnd r (IsSound Form) → Adds content before last → MeansAfter r (given_passes last) before 3 text →
+    RefusesUntoldAfter r (given_passes last) before content text
+refuses_untold Form (answers a) content last before text regular sound adds means = absurd (sound.accepted text means.0)
+refuses_untold Form (reads A kind file next) content last before text regular sound adds (inl (three, now, refused, ended)) =
+    let p = pass file before now in
     inl (
-      refused,
+      (now, refused, ended),
       λ bytes is few value gives.
-          not_both A kind file content value text regular.0 (bytes, is, few, gives) (refused_told A kind file content gave text bytes regular.0.limited agrees is refused),
+          not_both A kind p p content value text regular.0 refl (bytes, is, few, gives)
+          (refused_told A kind p content last text bytes regular.0.limited (subst (Adds content before) (sym ended) adds) is refused),
     )
-refuses_untold Form (reads A kind file next) content gave text regular sound agrees (inr (value, gives, later)) =
-    inr (value, gives, refuses_untold Form (next value) content gave text (regular.1 value) (sound gives.0 value gives.3) agrees later)
+refuses_untold Form (reads A kind file next) content last before text regular sound adds (inr (value, now, gives, later)) =
+    let parts = adds_parts content before now last (read_begins (pass file before now) gives.0 gives.1) (means_begins (next value) last now 3 text later) adds in
+    inr (value, now, gives, refuses_untold Form (next value) content last now text (regular.1 value) (sound gives.0 value gives.3) parts.1 later)

@@ -1,63 +1,19 @@
 -- All that `run` promises, at each of its ends.
 use Rattle.std.proofs.Common.{◌≡◌, ◌≢◌, ◌≤◌, ◌↔◌, ℕ, List, Option, Some, None, Ok, Err, inl, inr, refl, sym, ap, ◌∙◌, subst, arith}
-use Rattle.te_ports.specs.Ports.{Rose}
-use Rattle.te_ports.specs.Record.{Adds}
 use Rattle.te_ports.specs.Shown.{Shown}
 use Rattle.te_command.specs.declared.answer.Answer.{Answer}
 use Rattle.te_command.specs.declared.answer.Fault.{Fault}
 use Rattle.te_command.specs.declared.answer.Fault.TheVariants.{Refused, Read, Memory}
-use Rattle.te_command.specs.Files.{Files, span, told_files, known_files}
-use Rattle.te_command.specs.Reading.{Reading, Means, MeansStatus, ReadFailed}
+use Rattle.te_command.specs.Files.{Files, span, known_files}
+use Rattle.te_command.specs.Reading.{Reading}
+use Rattle.te_command.specs.Order.{ReadsAlong}
 use Rattle.te_command.specs.Commands.{Command, command_of, reading_of}
 use Rattle.te_command.specs.Outcome.{KeepsDepot, Delivers, Follows, status_of, answer_text, status_of_fault, fault_text}
-use Rattle.te_command.specs.Run.{OfCommand, OfToldCommand, Change, Says, Answered, WritesMeant, SaysMeant, WritesProof, WritesPartMeant, HasForm, IsOrFails, GivesOrMemory, Written, Steady, Later, message}
-use Rattle.te_command.proofs.Telling.{Agrees}
+use Rattle.te_command.specs.Run.{Change, Says, Answered, SaysMeant, ReadsInOrder, message}
+use Rattle.te_command.specs.Clauses.{FailsToRead, AnswersTold, IsExact, IsComplete, RunOf}
 use Rattle.te_command.proofs.Delivering.{untouched, other_status, form_written}
 use Rattle.te_command.proofs.Following.{no_change}
-use Rattle.te_command.proofs.Answering.{IsAsked, answer_given, refusal_given, answer_told, refusal_told, answer_form, answer_exact, refusal_exact, answer_complete, refusal_complete, failed_given, failed_complete}
-
--- a read failed of a file that is reached
-abbrev FailsToRead : List (List ℕ) → Shown → Shown → Type 0
-FailsToRead words old new =
-    OfCommand words (λ command. ReadFailed (reading_of command) (known_files (span old.gave new.gave) old.content) (λ file. Rose (old.faults file) (new.faults file)))
-
--- what the told files mean is answered, as far as the status goes, and with its text
-abbrev IsExact : List (List ℕ) → Shown → ℕ → Type 0
-IsExact words old result =
-    OfToldCommand words old.content
-    (λ command. (status : ℕ) → MeansStatus (reading_of command) (told_files old.content) status → IsOrFails result status)
-
-abbrev IsComplete : List (List ℕ) → Shown → Shown → ℕ → Change → Type 0
-IsComplete words old new result out =
-    OfToldCommand words old.content (λ command. (status : ℕ) → MeansStatus (reading_of command) (told_files old.content) status →
-    ¬ ReadFailed (reading_of command) (told_files old.content) (λ file. Rose (old.faults file) (new.faults file)) → ¬ Rose out.before out.now →
-    GivesOrMemory result out status (Means (reading_of command) (told_files old.content) status))
-
-abbrev AnswersTold : List (List ℕ) → Shown → ℕ → Change → Change → Type 0
-AnswersTold words old result out err = OfToldCommand words old.content (λ command. Answered (reading_of command) (told_files old.content) result out err)
-
--- the clauses of `run`, by their names
-abbrev pub RunOf : List (List ℕ) → Shown → Shown → ℕ → Change → Change → Type 0
-RunOf words old new result out err = record {
-  usage : (result ≡ 2) ↔ (command_of words ≡ None);
-  yes : result ≡ 0 → WritesMeant words (known_files (span old.gave new.gave) old.content) 0 out;
-  no : result ≡ 1 → WritesMeant words (known_files (span old.gave new.gave) old.content) 1 out;
-  refused : result ≡ 3 → SaysMeant words (known_files (span old.gave new.gave) old.content) 3 err;
-  no_path : result ≡ 7 → SaysMeant words (known_files (span old.gave new.gave) old.content) 7 err;
-  proves : result ≡ 0 → WritesProof words (known_files (span old.gave new.gave) old.content) out;
-  part : result ≡ 5 → WritesPartMeant words (known_files (span old.gave new.gave) old.content) out;
-  told : AnswersTold words old result out err;
-  form : OfCommand words (λ command. HasForm command result out err);
-  read : result ≡ 4 → FailsToRead words old new;
-  write : result ≡ 5 → Rose out.before out.now;
-  exact : IsExact words old result;
-  complete : IsComplete words old new result out;
-  written : Written result out err;
-  content : new.content ≡ old.content;
-  added : Adds old.content old.gave new.gave;
-  steady : Steady result old.faults new.faults out;
-  later : Later old.faults new.faults out err;
-}
+use Rattle.te_command.proofs.Answering.{Agrees, IsAsked, of_asked, answer_given, refusal_given, answer_told, refusal_told, answer_form, answer_exact, refusal_exact, answer_complete, refusal_complete, failed_given, failed_complete}
 
 -- the command of the words is the one that was asked for
 asked_is : (asked : Command) (words : List (List ℕ)) → IsAsked asked words → command_of words ≡ Some asked
@@ -69,7 +25,15 @@ none_or_some o command p q = cc
 was_asked : (asked : Command) (words : List (List ℕ)) → IsAsked asked words → command_of words ≡ None → ⊥
 was_asked asked words is none = none_or_some (command_of words) asked none (asked_is asked words is)
 
--- so the status is not that of faulty words
+-- so its files were read in their order
+in_order : (asked : Command) (words : List (List ℕ)) (old new : Shown) → IsAsked asked words → ReadsAlong (reading_of asked) old.gave new.gave →
+    ReadsInOrder words (span old.gave new.gave)
+in_order asked words old new is along = record {
+  unread = λ none. absurd (was_asked asked words is none);
+  along = of_asked (λ command. ReadsAlong (reading_of command) old.gave new.gave) asked words is along;
+}
+
+-- and the status is not that of faulty words
 no_usage : (asked : Command) (words : List (List ℕ)) (result : ℕ) → IsAsked asked words → result ≢ 2 → (result ≡ 2) ↔ (command_of words ≡ None)
 no_usage asked words result is other = (λ two. absurd (other two), λ none. absurd (was_asked asked words is none))
 
@@ -89,6 +53,7 @@ answer_run asked words old new answer result out err is agrees d follows =
       part = given.part;
       told = answer_told asked words old.content (span old.gave new.gave) answer result out err is agrees d follows.means;
       form = answer_form asked words (span old.gave new.gave) answer result out err is d follows.means;
+      order = in_order asked words old new is follows.order;
       read = λ four. absurd (other_status result 4 d.form (omega arith) (λ e. omega (arith, e)) (λ e. omega (arith, e)) four);
       write = d.write;
       exact = answer_exact asked words old.content (span old.gave new.gave) answer result out err is agrees d follows.means;
@@ -116,10 +81,10 @@ not_answered r files result out err many three five seven = record {
 said_run : (words : List (List ℕ)) (old new : Shown) (result : ℕ) (text : Option (List ℕ)) (faults : ℕ) (err : Change) →
     2 ≤ result → result ≤ 6 → result ≢ 5 → (result ≡ 2) ↔ (command_of words ≡ None) →
     (result ≡ 3 → SaysMeant words (known_files (span old.gave new.gave) old.content) 3 err) → AnswersTold words old result (untouched text faults) err →
-    (result ≡ 4 → FailsToRead words old new) → IsExact words old result → IsComplete words old new result (untouched text faults) →
+    ReadsInOrder words (span old.gave new.gave) → (result ≡ 4 → FailsToRead words old new) → IsExact words old result → IsComplete words old new result (untouched text faults) →
     (result ≢ 3 → Says err (message result)) → KeepsDepot old new → (result ≢ 4 → new.faults ≡ old.faults) → err.before ≤ err.now →
     RunOf words old new result (untouched text faults) err
-said_run words old new result text faults err many few five usage refused told read exact complete said may steady later = record {
+said_run words old new result text faults err many few five usage refused told order read exact complete said may steady later = record {
   usage = usage;
   yes = λ is. absurd (omega (arith, is, many));
   no = λ is. absurd (omega (arith, is, many));
@@ -129,6 +94,7 @@ said_run words old new result text faults err many few five usage refused told r
   part = λ is. absurd (five is);
   told = told;
   form = λ command named. record { written = λ small. absurd (omega (arith, small, many)); named = λ is. absurd (omega (arith, is, few)) };
+  order = order;
   read = read;
   write = λ is. absurd (five is);
   exact = exact;
@@ -150,7 +116,8 @@ pub usage_run : (words : List (List ℕ)) (s : Shown) (text : Option (List ℕ))
     Says err (message 2) → err.before ≤ err.now → RunOf words s s 2 (untouched text faults) err
 usage_run words s text faults err none says later =
     said_run words s s 2 text faults err (omega arith) (omega arith) (λ is. omega (arith, is)) (λ is. none, λ is. refl) (λ is. absurd (omega (arith, is)))
-    (λ command named. absurd (none_or_some (command_of words) command none named)) (λ is. absurd (omega (arith, is)))
+    (λ command named. absurd (none_or_some (command_of words) command none named))
+    (record { unread = λ is. refl; along = λ command named. absurd (none_or_some (command_of words) command none named) }) (λ is. absurd (omega (arith, is)))
     (λ command named. absurd (none_or_some (command_of words) command none named)) (λ command named. absurd (none_or_some (command_of words) command none named))
     (λ other. says) (no_change s) (λ other. refl) later
 
@@ -161,7 +128,7 @@ by_fault : (asked : Command) (words : List (List ℕ)) (old new : Shown) (fault 
 by_fault asked words old new (Refused line) text faults err is agrees follows says later =
     said_run words old new 3 text faults err (omega arith) (omega arith) (λ e. omega (arith, e)) (no_usage asked words 3 is (λ e. omega (arith, e)))
     (λ three. refusal_given asked words old.content (span old.gave new.gave) _ err is agrees says follows.means)
-    (refusal_told asked words old.content (span old.gave new.gave) _ _ err is agrees says follows.means) (λ e. absurd (omega (arith, e)))
+    (refusal_told asked words old.content (span old.gave new.gave) _ _ err is agrees says follows.means) (in_order asked words old new is follows.order) (λ e. absurd (omega (arith, e)))
     (refusal_exact asked words old.content (span old.gave new.gave) _ is agrees follows.means)
     (refusal_complete asked words old.content (span old.gave new.gave) _ _ _ is agrees follows.means)
     (λ other. absurd (other refl)) follows.may (λ other. follows.steady (λ e. cc)) later
@@ -169,7 +136,7 @@ by_fault asked words old new Read text faults err is agrees follows says later =
     said_run words old new 4 text faults err (omega arith) (omega arith) (λ e. omega (arith, e)) (no_usage asked words 4 is (λ e. omega (arith, e)))
     (λ e. absurd (omega (arith, e)))
     (λ command named tells. not_answered (reading_of command) _ 4 _ _ (omega arith) (λ e. omega (arith, e)) (λ e. omega (arith, e)) (λ e. omega (arith, e)))
-    (λ four. failed_given asked words old.content (span old.gave new.gave) _ is agrees follows.failed)
+    (in_order asked words old new is follows.order) (λ four. failed_given asked words old.content (span old.gave new.gave) _ is agrees follows.failed)
     (λ command named tells status meant. inr (inl refl))
     (failed_complete asked words old.content (span old.gave new.gave) _ _ is agrees follows.failed)
     (λ other. says) follows.may (λ other. absurd (other refl)) later
@@ -177,7 +144,7 @@ by_fault asked words old new Memory text faults err is agrees follows says later
     said_run words old new 6 text faults err (omega arith) (omega arith) (λ e. omega (arith, e)) (no_usage asked words 6 is (λ e. omega (arith, e)))
     (λ e. absurd (omega (arith, e)))
     (λ command named tells. not_answered (reading_of command) _ 6 _ _ (omega arith) (λ e. omega (arith, e)) (λ e. omega (arith, e)) (λ e. omega (arith, e)))
-    (λ e. absurd (omega (arith, e)))
+    (in_order asked words old new is follows.order) (λ e. absurd (omega (arith, e)))
     (λ command named tells status meant. inr (inr (inr refl)))
     (λ command named tells status meant unread steady. inr refl)
     (λ other. says) follows.may (λ other. follows.steady (λ e. cc)) later

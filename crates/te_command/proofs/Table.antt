@@ -1,5 +1,5 @@
 -- What holds of each command: its files are read in one way, and what its answers are.
-use Rattle.std.proofs.Common.{◌≡◌, ◌≤◌, ◌⊎◌, ℕ, List, length, Option, Some, None, inl, inr, refl, sym, ap, ◌∙◌, arith}
+use Rattle.std.proofs.Common.{◌≡◌, ◌≤◌, ◌⊎◌, ℕ, List, [], length, Option, Some, None, inl, inr, refl, sym, ap, ◌∙◌, arith}
 use Rattle.te_model.specs.declared.certificate.Certificate.{Certificate}
 use Rattle.te_model.specs.declared.network.Network.{Network}
 use Rattle.te_model.specs.Inequalities.{LinkFailure, first_failure}
@@ -124,7 +124,7 @@ published_answered plan n series text published =
       certificate = is.certificate;
       spelled = is.spelled;
       proof = record { holds = is.holds; ratio = is.ratio };
-      answer = λ file. inr (is.certificate, (text, refl, is.fits, is.spelled), inl (refl, record { holds = is.no_failure; line_is = refl }));
+      answer = λ file. inr (is.certificate, [], (text, refl, is.fits, is.spelled), (inl (refl, record { holds = is.no_failure; line_is = refl }), tt));
     }
 
 published_proves : (plan : Experiment) (n : Network) (series : Series) (text : List ℕ) → IsPublication plan n series 0 text → IsProvedFile plan n series text

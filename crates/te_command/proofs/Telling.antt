@@ -1,103 +1,119 @@
 -- What reads gave of told files is what is told.
-use Rattle.std.proofs.Common.{◌≡◌, ℕ, ◌+◌, ◌<◌, ◌≤◌, List, [], ◌∷◌, ◌++◌, length, take, drop, Option, Some, Ok, inl, inr, refl, sym, ap, ◌∙◌, subst, arith, length-take, append_assoc}
+use Rattle.std.proofs.Common.{◌≡◌, ℕ, ◌+◌, ◌<◌, ◌≤◌, List, [], ◌∷◌, ◌++◌, length, take, drop, Option, Some, Ok, inl, inr, refl, sym, ap, ◌∙◌, subst, arith, length-take, append-nil, append_assoc}
 use Rattle.std.proofs.Math.Seq.{take-append_seam, drop-append_seam}
 use Rattle.std.proofs.lemmas.Grind.{common_steps}
 use Rattle.std.proofs.lemmas.List.{take-append-drop, append_cancel_left}
 use Rattle.std.proofs.lemmas.List.Elements.{All-same, All-take, All-drop}
-use Rattle.te_ports.specs.Record.{Read, read, IsPiece, IsOfTold, Adds, Pass, pass, nothing, more, IsRead}
+use Rattle.te_ports.specs.Ports.{Told}
+use Rattle.te_ports.specs.Record.{Read, read, IsPiece, IsOfTold, Adds, Pass, pass, Follow, nothing, more, IsRead, IsReadPastAllowed}
 use Rattle.te_ports.specs.Limit.{IsLimit}
 use Rattle.te_ports.proofs.Giving.{adds_none, adds_one, adds_on, follow_adds, read_is, past_allowed}
-use Rattle.te_command.specs.Files.{Files, Span, span, Begins, given_files, told_files, known_files}
-use Rattle.te_command.specs.Reading.{Reading, answers, reads, Means, IsTold, ReadFailed}
+use Rattle.te_command.specs.Files.{given_passes, told_passes, known_passes}
+use Rattle.te_command.specs.Reading.{Reading, answers, reads, MeansAfter, IsTold, ReadFailedAfter}
 use Rattle.te_command.proofs.Ending.{AreRegular, some_once}
-use Rattle.te_command.proofs.Following.{begins_itself, begins_on, begins_of, means_wider}
 
--- what the reads of a call gave of told files are pieces of them
-abbrev pub Agrees : (List ℕ → Option (List ℕ)) → Span → Type 0
-Agrees content gave = Adds content gave.before gave.now
+-- one record goes on as the other
+abbrev pub Begins : List Read → List Read → Type 0
+Begins old new = (more : List Read) × (new ≡ old ++ more)
 
--- no less is known of files
-pub record Covers (f g : Files) : Type 0 where
-  pub whole : (file bytes : List ℕ) → f.whole file bytes → g.whole file bytes
-  pub longer : (file : List ℕ) (limit : List ℕ → ℕ) → IsLimit limit → f.longer file limit → g.longer file limit
+pub begins_itself : (old new : List Read) → old ≡ new → Begins old new
+begins_itself old new same = ([], sym same ∙ sym (append-nil old))
 
--- so are what some of them gave
-more_within : (all a m b : List Read) → all ≡ a ++ (m ++ b) → m ≡ take (length m) (drop (length a) all)
-more_within all a m b is =
-    sym (ap (λ made. take (length m) (drop (length a) made)) is ∙ ap (take (length m)) (drop-append_seam a (m ++ b)) ∙ take-append_seam m b)
+pub begins_on : (old mid new : List Read) → Begins old mid → Begins mid new → Begins old new
+begins_on old mid new first next = (first.0 ++ next.0, next.1 ∙ ap (λ made. made ++ next.0) first.1 ∙ append_assoc old first.0 next.0)
 
-adds_within : (content : List ℕ → Option (List ℕ)) (before from upto now : List Read) → Begins before from → Begins from upto → Begins upto now →
-    Adds content before now → Adds content from upto
-adds_within content before from upto now (a, first) (m, next) (b, last) adds =
-    let whole : adds.more ≡ a ++ (m ++ b) =
-    append_cancel_left before adds.more (a ++ (m ++ b))
-    (sym adds.is ∙ last ∙ ap (λ made. made ++ b) (next ∙ ap (λ made. made ++ m) first)
-    ∙ ap (λ made. made ++ b) (append_assoc before a m) ∙ append_assoc before (a ++ m) b ∙ ap (λ made. before ++ made) (append_assoc a m b)) in
-    record {
-      more = m;
-      is = next;
-      pieces = All-same (IsOfTold content) m (take (length m) (drop (length a) adds.more)) (more_within adds.more a m b whole)
-          (All-take (IsOfTold content) (length m) (drop (length a) adds.more) (All-drop (IsOfTold content) (length a) adds.more adds.pieces));
-    }
+pub read_begins : (p : Pass) (bytes : List ℕ) → IsRead p bytes → Begins p.before p.now
+read_begins p bytes is_read = begins_on p.before is_read.reads p.now (follow_adds p.name p.before is_read.reads bytes is_read.given) (_, is_read.ends)
 
-read_begins : (p : Pass) (bytes : List ℕ) → IsRead p bytes → Begins p.before p.now
-read_begins p bytes read =
-    let first = follow_adds p.name p.before read.reads bytes read.given in
-    begins_on p.before read.reads p.now first (_, read.ends)
+-- what was read from the last of some reads on, and up to it
+last_more : (a m all : List Read) → all ≡ a ++ m → m ≡ drop (length a) all
+last_more a m all is = sym (ap (drop (length a)) is ∙ drop-append_seam a m)
+
+first_more : (a m all : List Read) → all ≡ a ++ m → a ≡ take (length a) all
+first_more a m all is = sym (ap (take (length a)) is ∙ take-append_seam a m)
+
+pub adds_parts : (content : List ℕ → Option (List ℕ)) (old mid new : List Read) → Begins old mid → Begins mid new → Adds content old new →
+    Adds content old mid × Adds content mid new
+adds_parts content old mid new (a, first) (m, next) adds =
+    let whole : adds.more ≡ a ++ m =
+    append_cancel_left old adds.more (a ++ m) (sym adds.is ∙ next ∙ ap (λ made. made ++ m) first ∙ append_assoc old a m) in (
+      record { more = a; is = first; pieces = All-same (IsOfTold content) a (take (length a) adds.more) (first_more a m adds.more whole) (All-take (IsOfTold content) (length a) adds.more adds.pieces) },
+      record { more = m; is = next; pieces = All-same (IsOfTold content) m (drop (length a) adds.more) (last_more a m adds.more whole) (All-drop (IsOfTold content) (length a) adds.more adds.pieces) },
+    )
+
+adds_up_to : (content : List ℕ → Option (List ℕ)) (old new last : List Read) → new ≡ last → Adds content old last → Adds content old new
+adds_up_to content old new last same adds = subst (Adds content old) (sym same) adds
+
+-- the last read is not before the first
+pub means_begins : (r : Reading) (last before : List Read) (s : ℕ) (text : List ℕ) → MeansAfter r (given_passes last) before s text → Begins before last
+means_begins (answers a) last before s text means = begins_itself before last means.1
+means_begins (reads A kind file next) last before s text (inl (three, now, inl (past, line), ended)) =
+    begins_on before now last (follow_adds file before now past.bytes past.given) (begins_itself now last ended)
+means_begins (reads A kind file next) last before s text (inl (three, now, inr (bytes, words, is_read, few, refused, line), ended)) =
+    begins_on before now last (read_begins (pass file before now) bytes is_read) (begins_itself now last ended)
+means_begins (reads A kind file next) last before s text (inr (value, now, (bytes, is_read, few, gives), later)) =
+    begins_on before now last (read_begins (pass file before now) bytes is_read) (means_begins (next value) last now s text later)
+
+failed_begins : (r : Reading) (last before : List Read) (Fails : List ℕ → Type 0) → ReadFailedAfter r (given_passes last) before Fails → Begins before last
+failed_begins (answers a) last before Fails failed = absurd failed
+failed_begins (reads A kind file next) last before Fails (inl (fails, now, part, ended)) =
+    begins_on before now last (follow_adds file before now part.bytes part.given) (begins_itself now last ended)
+failed_begins (reads A kind file next) last before Fails (inr (value, now, (bytes, is_read, few, gives), later)) =
+    begins_on before now last (read_begins (pass file before now) bytes is_read) (failed_begins (next value) last now Fails later)
 
 -- what reads gave of a told file is what is told
-pub given_is_known : (content : List ℕ → Option (List ℕ)) (gave : Span) → Agrees content gave → Covers (given_files gave) (known_files gave content)
-given_is_known content gave agrees = record {
-  whole = λ file bytes among. (
-    among,
-    λ all at.
-        read_is content (pass file among.0 among.1) all bytes at
-        (adds_within content gave.before among.0 among.1 gave.now among.2 (read_begins (pass file among.0 among.1) bytes among.3) among.4 agrees) among.3,
-  );
-  longer = λ file limit is among. (
-    among,
-    λ all at.
-        past_allowed content (pass file among.0 among.1) all limit is at
-        (adds_within content gave.before among.0 among.1 gave.now among.2 (follow_adds file among.0 among.1 among.3.bytes among.3.given) among.4 agrees) among.3,
-  );
-}
+read_told : (content : List ℕ → Option (List ℕ)) (p : Pass) (bytes : List ℕ) → Adds content p.before p.now → IsRead p bytes →
+    Told (content p.name) (λ all. bytes ≡ all)
+read_told content p bytes adds is_read all at = read_is content p all bytes at adds is_read
 
-pub means_along : (r : Reading) (f g : Files) (s : ℕ) (text : List ℕ) → AreRegular r → Covers f g → Means r f s text → Means r g s text
-means_along (answers a) f g s text regular covers means = means
-means_along (reads A kind file next) f g s text regular covers (inl (three, inl (past, line))) = inl (three, inl (covers.longer file kind.limit regular.0.limited past, line))
-means_along (reads A kind file next) f g s text regular covers (inl (three, inr (bytes, words, read, few, refused, line))) =
-    inl (three, inr (bytes, words, covers.whole file bytes read, few, refused, line))
-means_along (reads A kind file next) f g s text regular covers (inr (value, (bytes, read, few, gives), later)) =
-    inr (value, (bytes, covers.whole file bytes read, few, gives), means_along (next value) f g s text (regular.1 value) covers later)
+past_told : (content : List ℕ → Option (List ℕ)) (p : Pass) (limit : List ℕ → ℕ) → IsLimit limit → Adds content p.before p.now →
+    IsReadPastAllowed p limit → Told (content p.name) (λ all. limit all < length all)
+past_told content p limit limited adds past all at = past_allowed content p all limit limited at adds past
 
-pub failed_along : (r : Reading) (f g : Files) (Fails : List ℕ → Type 0) → Covers f g → ReadFailed r f Fails → ReadFailed r g Fails
-failed_along (answers a) f g Fails covers failed = failed
-failed_along (reads A kind file next) f g Fails covers (inl here) = inl here
-failed_along (reads A kind file next) f g Fails covers (inr (value, (bytes, read, few, gives), later)) =
-    inr (value, (bytes, covers.whole file bytes read, few, gives), failed_along (next value) f g Fails covers later)
+pub means_known : (r : Reading) (content : List ℕ → Option (List ℕ)) (last before : List Read) (s : ℕ) (text : List ℕ) → AreRegular r →
+    Adds content before last → MeansAfter r (given_passes last) before s text → MeansAfter r (known_passes last content) before s text
+means_known (answers a) content last before s text regular adds means = means
+means_known (reads A kind file next) content last before s text regular adds (inl (three, now, inl (past, line), ended)) =
+    inl (three, now, inl ((past, past_told content (pass file before now) kind.limit regular.0.limited (adds_up_to content before now last ended adds) past), line), ended)
+means_known (reads A kind file next) content last before s text regular adds (inl (three, now, inr (bytes, words, is_read, few, refused, line), ended)) =
+    let told = read_told content (pass file before now) bytes (adds_up_to content before now last ended adds) is_read in
+    inl (three, now, inr (bytes, words, (is_read, told), few, refused, line), ended)
+means_known (reads A kind file next) content last before s text regular adds (inr (value, now, (bytes, is_read, few, gives), later)) =
+    let parts = adds_parts content before now last (read_begins (pass file before now) bytes is_read) (means_begins (next value) last now s text later) adds in
+    let told = read_told content (pass file before now) bytes parts.0 is_read in
+    inr (value, now, (bytes, (is_read, told), few, gives), means_known (next value) content last now s text (regular.1 value) parts.1 later)
+
+pub failed_known : (r : Reading) (content : List ℕ → Option (List ℕ)) (last before : List Read) (Fails : List ℕ → Type 0) →
+    Adds content before last → ReadFailedAfter r (given_passes last) before Fails → ReadFailedAfter r (known_passes last content) before Fails
+failed_known (answers a) content last before Fails adds failed = failed
+failed_known (reads A kind file next) content last before Fails adds (inl here) = inl here
+failed_known (reads A kind file next) content last before Fails adds (inr (value, now, (bytes, is_read, few, gives), later)) =
+    let parts = adds_parts content before now last (read_begins (pass file before now) bytes is_read) (failed_begins (next value) last now Fails later) adds in
+    let told = read_told content (pass file before now) bytes parts.0 is_read in
+    inr (value, now, (bytes, (is_read, told), few, gives), failed_known (next value) content last now Fails parts.1 later)
 
 -- what is known of files that are told is what is told
-pub means_told : (r : Reading) (content : List ℕ → Option (List ℕ)) (gave : Span) (s : ℕ) (text : List ℕ) →
-    IsTold r content → Means r (known_files gave content) s text → Means r (told_files content) s text
-means_told (answers a) content gave s text is means = means
-means_told (reads A kind file next) content gave s text (all, at, rest) (inl (three, inl ((past, long), line))) =
-    inl (three, inl ((all, at, long all at), line))
-means_told (reads A kind file next) content gave s text (all, at, rest) (inl (three, inr (bytes, words, (read, is), few, refused, line))) =
+pub means_told : (r : Reading) (content : List ℕ → Option (List ℕ)) (last before start : List Read) (s : ℕ) (text : List ℕ) →
+    IsTold r content → MeansAfter r (known_passes last content) before s text → MeansAfter r (told_passes content) start s text
+means_told (answers a) content last before start s text is means = (means.0, tt)
+means_told (reads A kind file next) content last before start s text (all, at, rest) (inl (three, now, inl ((past, long), line), ended)) =
+    inl (three, start, inl ((all, at, long all at), line), tt)
+means_told (reads A kind file next) content last before start s text (all, at, rest) (inl (three, now, inr (bytes, words, (read, is), few, refused, line), ended)) =
     let same : bytes ≡ all = is all at in
-    inl (three, inr (bytes, words, at ∙ ap Some (sym same), few, refused, line))
-means_told (reads A kind file next) content gave s text (all, at, rest) (inr (value, (bytes, (read, is), few, gives), later)) =
+    inl (three, start, inr (bytes, words, at ∙ ap Some (sym same), few, refused, line), tt)
+means_told (reads A kind file next) content last before start s text (all, at, rest) (inr (value, now, (bytes, (read, is), few, gives), later)) =
     let same : bytes ≡ all = is all at in
     let on = rest (subst (λ b. length b ≤ kind.limit b) same few) value (subst (λ b. kind.gives b (Ok value)) same gives) in
-    inr (value, (bytes, at ∙ ap Some (sym same), few, gives), means_told (next value) content gave s text on later)
+    inr (value, start, (bytes, at ∙ ap Some (sym same), few, gives), means_told (next value) content last now start s text on later)
 
-pub failed_told : (r : Reading) (content : List ℕ → Option (List ℕ)) (gave : Span) (Fails : List ℕ → Type 0) →
-    IsTold r content → ReadFailed r (known_files gave content) Fails → ReadFailed r (told_files content) Fails
-failed_told (answers a) content gave Fails is failed = failed
-failed_told (reads A kind file next) content gave Fails is (inl here) = inl here
-failed_told (reads A kind file next) content gave Fails (all, at, rest) (inr (value, (bytes, (read, is), few, gives), later)) =
+pub failed_told : (r : Reading) (content : List ℕ → Option (List ℕ)) (last before start : List Read) (Fails : List ℕ → Type 0) →
+    IsTold r content → ReadFailedAfter r (known_passes last content) before Fails → ReadFailedAfter r (told_passes content) start Fails
+failed_told (answers a) content last before start Fails is failed = failed
+failed_told (reads A kind file next) content last before start Fails is (inl (fails, now, part, ended)) = inl (fails, start, tt, tt)
+failed_told (reads A kind file next) content last before start Fails (all, at, rest) (inr (value, now, (bytes, (read, is), few, gives), later)) =
     let same : bytes ≡ all = is all at in
     let on = rest (subst (λ b. length b ≤ kind.limit b) same few) value (subst (λ b. kind.gives b (Ok value)) same gives) in
-    inr (value, (bytes, at ∙ ap Some (sym same), few, gives), failed_told (next value) content gave Fails on later)
+    inr (value, start, (bytes, at ∙ ap Some (sym same), few, gives), failed_told (next value) content last now start Fails on later)
 
 -- a read of a told file at once, and one of its end
 front_told : (content : List ℕ → Option (List ℕ)) (file bytes : List ℕ) (n : ℕ) → content file ≡ Some bytes → 0 < n → n ≤ length bytes →
@@ -119,19 +135,34 @@ end_told content file bytes at = λ told is.
 abbrev first_read : List Read → List ℕ → List ℕ → List Read
 first_read before file bytes = before ++ read file 0 bytes ∷ []
 
-abbrev both_reads : List Read → List ℕ → List ℕ → List Read
-both_reads before file bytes = first_read before file bytes ++ read file (length bytes) [] ∷ []
+abbrev front_reads : List Read → List ℕ → List ℕ → List Read
+front_reads before file [] = before
+front_reads before file (b ∷ bytes) = first_read before file (b ∷ bytes)
 
-both_added : (content : List ℕ → Option (List ℕ)) (before : List Read) (file bytes : List ℕ) → content file ≡ Some bytes →
-    Adds content before (both_reads before file bytes)
-both_added content before file bytes at =
-    adds_on content before (first_read before file bytes) (both_reads before file bytes)
-    (adds_one content before (first_read before file bytes) (read file 0 bytes) refl (all_told content file bytes at))
-    (adds_one content (first_read before file bytes) (both_reads before file bytes) (read file (length bytes) []) refl (end_told content file bytes at))
+abbrev whole_reads : List Read → List ℕ → List ℕ → List Read
+whole_reads before file bytes = front_reads before file bytes ++ read file (length bytes) [] ∷ []
 
-both_read : (before : List Read) (file bytes : List ℕ) → IsRead (pass file before (both_reads before file bytes)) bytes
-both_read before file bytes =
-    record { reads = first_read before file bytes; given = more before (first_read before file bytes) [] bytes bytes (nothing before [] refl refl) refl refl; ends = refl }
+front_added : (content : List ℕ → Option (List ℕ)) (before : List Read) (file bytes : List ℕ) → content file ≡ Some bytes →
+    Adds content before (front_reads before file bytes)
+front_added content before file [] at = adds_none content before before refl
+front_added content before file (b ∷ bytes) at =
+    adds_one content before (first_read before file (b ∷ bytes)) (read file 0 (b ∷ bytes)) refl (all_told content file (b ∷ bytes) at)
+
+whole_added : (content : List ℕ → Option (List ℕ)) (before : List Read) (file bytes : List ℕ) → content file ≡ Some bytes →
+    Adds content before (whole_reads before file bytes)
+whole_added content before file bytes at =
+    adds_on content before (front_reads before file bytes) (whole_reads before file bytes) (front_added content before file bytes at)
+    (adds_one content (front_reads before file bytes) (whole_reads before file bytes) (read file (length bytes) []) refl (end_told content file bytes at))
+
+first_given : (before : List Read) (file bytes : List ℕ) → 1 ≤ length bytes → Follow file before (first_read before file bytes) bytes
+first_given before file bytes some = more before (first_read before file bytes) [] bytes bytes (nothing before [] refl refl) some refl refl
+
+front_given : (before : List Read) (file bytes : List ℕ) → Follow file before (front_reads before file bytes) bytes
+front_given before file [] = nothing before [] refl refl
+front_given before file (b ∷ bytes) = first_given before file (b ∷ bytes) (omega arith)
+
+whole_read : (before : List Read) (file bytes : List ℕ) → IsRead (pass file before (whole_reads before file bytes)) bytes
+whole_read before file bytes = record { reads = front_reads before file bytes; given = front_given before file bytes; ends = refl }
 
 -- the first bytes of a file that is longer than its limit have the limit of the whole
 front_limit : (limit : List ℕ → ℕ) (bytes : List ℕ) → IsLimit limit → limit bytes < length bytes →
@@ -144,10 +175,10 @@ front_limit limit bytes is many =
     sym (is.settled (take (limit bytes + 1) bytes) (drop (limit bytes + 1) bytes) (omega (arith, length-take (limit bytes + 1) bytes, below))) ∙ ap limit whole
 
 -- what told files mean is what some reads of them give
-pub told_read : (r : Reading) (content : List ℕ → Option (List ℕ)) (s : ℕ) (text : List ℕ) (before : List Read) → AreRegular r → Means r (told_files content) s text →
-    (now : List Read) × Adds content before now × Means r (given_files (span before now)) s text
-told_read (answers a) content s text before regular means = (before, adds_none content before before refl, means)
-told_read (reads A kind file next) content s text before regular (inl (three, inl ((all, at, many), line))) =
+pub told_read : (r : Reading) (content : List ℕ → Option (List ℕ)) (s : ℕ) (text : List ℕ) (before start : List Read) → AreRegular r →
+    MeansAfter r (told_passes content) start s text → (now : List Read) × Adds content before now × MeansAfter r (given_passes now) before s text
+told_read (answers a) content s text before start regular means = (before, adds_none content before before refl, (means.0, refl))
+told_read (reads A kind file next) content s text before start regular (inl (three, then, inl ((all, at, many), line), ended)) =
     let front = take (kind.limit all + 1) all in
     let now = first_read before file front in
     let size : length front ≡ kind.limit all + 1 = omega (arith, many, length-take (kind.limit all + 1) all) in (
@@ -155,37 +186,25 @@ told_read (reads A kind file next) content s text before regular (inl (three, in
       adds_one content before now (read file 0 front) refl (front_told content file all (kind.limit all + 1) at (omega arith) (omega (arith, many))),
       inl (
         three,
+        now,
         inl (
-          (
-            before,
-            now,
-            begins_itself before,
-            record {
-              bytes = front;
-              given = more before now [] front front (nothing before [] refl refl) refl refl;
-              past = size ∙ ap (λ k. k + 1) (sym (front_limit kind.limit all regular.0.limited many));
-            },
-            begins_itself now,
-          ),
+          record {
+            bytes = front;
+            given = first_given before file front (omega (arith, size));
+            past = size ∙ ap (λ k. k + 1) (sym (front_limit kind.limit all regular.0.limited many));
+          },
           line,
         ),
+        refl,
       ),
     )
-told_read (reads A kind file next) content s text before regular (inl (three, inr (bytes, words, at, few, refused, line))) = (
-  both_reads before file bytes,
-  both_added content before file bytes at,
-  inl (three, inr (bytes, words, (before, both_reads before file bytes, begins_itself before, both_read before file bytes, begins_itself _), few, refused, line)),
-)
-told_read (reads A kind file next) content s text before regular (inr (value, (bytes, at, few, gives), later)) =
-    let then = both_reads before file bytes in
-    let added = both_added content before file bytes at in
-    let (now, more_added, means) = told_read (next value) content s text then (regular.1 value) later in
-    let on = begins_of content then now more_added in (
+told_read (reads A kind file next) content s text before start regular (inl (three, then, inr (bytes, words, at, few, refused, line), ended)) =
+    let now = whole_reads before file bytes in
+    (now, whole_added content before file bytes at, inl (three, now, inr (bytes, words, whole_read before file bytes, few, refused, line), refl))
+told_read (reads A kind file next) content s text before start regular (inr (value, then, (bytes, at, few, gives), later)) =
+    let mid = whole_reads before file bytes in
+    let (now, added, means) = told_read (next value) content s text mid then (regular.1 value) later in (
       now,
-      adds_on content before then now added more_added,
-      inr (
-        value,
-        (bytes, (before, then, begins_itself before, both_read before file bytes, on), few, gives),
-        means_wider (next value) (span then now) (span before now) s text (begins_of content before then added, begins_itself now) means,
-      ),
+      adds_on content before mid now (whole_added content before file bytes at) added,
+      inr (value, mid, (bytes, whole_read before file bytes, few, gives), means),
     )

@@ -1,5 +1,6 @@
 pub mod Files
 pub mod Reading
+pub mod Order
 pub mod CertificateFile
 pub mod InputFile
 pub mod Limits
@@ -17,6 +18,7 @@ pub mod Commands
 pub mod Form
 pub mod Converted
 pub mod Run
+pub mod Clauses
 pub mod Asked
 pub mod Outcome
 pub mod Blocks

@@ -2,7 +2,7 @@
 use Rattle.std.specs.Prelude.{◌≡◌, ◌≢◌, ◌≤◌, ◌⊎◌, ℕ, ◌↔◌, List, Bool, IsTrue, string_bytes, Option, Some, None, Result, Ok, Err}
 use Rattle.std.specs.Io.KnownBytes.{append_known}
 use Rattle.te_ports.specs.Ports.{Rose, AppendsPart}
-use Rattle.te_ports.specs.Record.{Adds}
+use Rattle.te_ports.specs.Record.{Read as FileRead, Adds, Pass, pass, IsBegun, IsReadInPart}
 use Rattle.te_ports.specs.Shown.{Shown}
 use Rattle.te_model.specs.declared.certificate.Certificate.{Certificate}
 use Rattle.te_model.specs.declared.network.Network.{Network}
@@ -18,8 +18,9 @@ use Rattle.te_command.specs.declared.answer.Fault.TheVariants.{Refused, Read, Me
 use Rattle.te_command.specs.declared.inputs.Inputs.{Inputs}
 use Rattle.te_command.specs.declared.refusal.BytesFault.{BytesFault}
 use Rattle.te_command.specs.declared.refusal.BytesFault.TheVariants as bytes_fault
-use Rattle.te_command.specs.Files.{Files, span, given_files}
+use Rattle.te_command.specs.Files.{Passes, span, given_passes, given_files}
 use Rattle.te_command.specs.Reading.{Kind, Answers, Reading, answers, refused_line, GivesIn, RefusedIn, Means, ReadFailed}
+use Rattle.te_command.specs.Order.{ReadsAlong}
 use Rattle.te_command.specs.TopologyFile.{topologies}
 use Rattle.te_command.specs.MatrixFile.{matrices}
 use Rattle.failure.specs.Series.{no_failures}
@@ -111,14 +112,16 @@ ReadsBytesOf kind file bytes (Err (Refused line)) =
 ReadsBytesOf kind file bytes (Err Read) = ⊥
 ReadsBytesOf kind file bytes (Err Memory) = Unit {0}
 
--- the file gives the value, or is refused, which the line says
-abbrev pub ReadsValueOrRefusal : {A : Type 0} → Kind A → Files → List ℕ → Result A Fault → Type 0
-ReadsValueOrRefusal kind files file (Ok value) = GivesIn kind files file value
-ReadsValueOrRefusal kind files file (Err fault) = OnRefused fault (RefusedIn kind files file)
+-- the file of the pass gives the value, or is refused, which the line says
+abbrev pub ReadsValueOrRefusal : {A : Type 0} → Kind A → Passes → Pass → Result A Fault → Type 0
+ReadsValueOrRefusal kind passes p (Ok value) = GivesIn kind passes p value
+ReadsValueOrRefusal kind passes p (Err fault) = OnRefused fault (RefusedIn kind passes p)
 
--- the contract of a reader of a file
+-- the contract of a reader of a file: its reads are a pass over the file, which was begun
 pub record ReadsFile {A : Type 0} (kind : Kind A) (file : List ℕ) (old new : Shown) (result : Result A Fault) : Type 0 where
-  pub reads : ReadsValueOrRefusal kind (given_files (span old.gave new.gave)) file result
+  pub reads : ReadsValueOrRefusal kind (given_passes new.gave) (pass file old.gave new.gave) result
+  pub begun : IsBegun (pass file old.gave new.gave)
+  pub part : OnRead result (IsReadInPart (pass file old.gave new.gave) kind.limit)
   pub failed : OnRead result (Rose (old.faults file) (new.faults file))
   pub steady : result ≢ Err Read → new.faults ≡ old.faults
   pub may : KeepsDepot old new
@@ -134,10 +137,11 @@ abbrev pub Meant : (ℕ → List ℕ → Type 0) → Result Answer Fault → Typ
 Meant Answer (Ok answer) = Answer (status_of answer) (answer_text answer)
 Meant Answer (Err fault) = OnRefused fault (Answer 3)
 
--- the contract of a command
+-- the contract of a command: whatever it answers, it read its files in their order
 pub record Follows (reading : Reading) (old new : Shown) (result : Result Answer Fault) : Type 0 where
   pub means : Meant (Means reading (given_files (span old.gave new.gave))) result
   pub failed : OnRead result (ReadFailed reading (given_files (span old.gave new.gave)) (λ file. Rose (old.faults file) (new.faults file)))
+  pub order : ReadsAlong reading old.gave new.gave
   pub steady : result ≢ Err Read → new.faults ≡ old.faults
   pub may : KeepsDepot old new
 
@@ -145,11 +149,13 @@ pub record Follows (reading : Reading) (old new : Shown) (result : Result Answer
 abbrev pub no_answer : Answers
 no_answer = record { status = λ status. ⊥; text = λ status text. ⊥; proves = λ text. ⊥ }
 
--- the files of a plan gave this plan, its network and its series
+-- the files of a plan gave this plan, its network and its series, one after another
 pub record GivesPlan (file : List ℕ) (old new : Shown) (plan : Experiment) (network : Network) (series : Series) : Type 0 where
-  pub plan_given : GivesIn plans (given_files (span old.gave new.gave)) file plan
-  pub network_given : GivesIn topologies (given_files (span old.gave new.gave)) plan.topology network
-  pub series_given : GivesIn (matrices network) (given_files (span old.gave new.gave)) plan.matrices series
+  pub after_plan : List FileRead
+  pub after_topology : List FileRead
+  pub plan_given : GivesIn plans (given_passes new.gave) (pass file old.gave after_plan) plan
+  pub network_given : GivesIn topologies (given_passes new.gave) (pass plan.topology after_plan after_topology) network
+  pub series_given : GivesIn (matrices network) (given_passes new.gave) (pass plan.matrices after_topology new.gave) series
   pub steady : new.faults ≡ old.faults
   pub may : KeepsDepot old new
 
@@ -158,9 +164,7 @@ abbrev pub ReadsInputs : List ℕ → Shown → Shown → Result Inputs Fault �
 ReadsInputs file old new (Ok inputs) = GivesPlan file old new inputs.plan inputs.network inputs.series
 ReadsInputs file old new (Err fault) = Follows (with_plan file (λ plan network series. answers no_answer)) old new (Err fault)
 
--- the failures are read from the file that is named, and are none where none is
+-- the failures are read from the file that is named, and are none where none is, of which nothing is read
 pub record ReadsFailures (network : Network) (series : Series) (named : Option (List ℕ)) (old new : Shown) (result : Result Failures Fault) : Type 0 where
-  pub unnamed : named ≡ None → result ≡ Ok no_failures
+  pub unnamed : named ≡ None → (result ≡ Ok no_failures) × (new ≡ old)
   pub reads : (file : List ℕ) → named ≡ Some file → ReadsFile (failure_files network series) file old new result
-  pub steady : result ≢ Err Read → new.faults ≡ old.faults
-  pub may : KeepsDepot old new

@@ -1,11 +1,12 @@
 -- What the program does with the words of the command line: what it writes, and what a call may change.
-use Rattle.std.specs.Prelude.{◌≡◌, ◌≢◌, ◌≤◌, ◌⊎◌, ◌==◌, if◌then◌else◌, ℕ, List, [], ◌∷◌, ◌++◌, map, codes, string_bytes, Vec, Option, Some}
+use Rattle.std.specs.Prelude.{◌≡◌, ◌≢◌, ◌≤◌, ◌⊎◌, ◌==◌, if◌then◌else◌, ℕ, List, [], ◌∷◌, ◌++◌, map, codes, string_bytes, Vec, Option, Some, None}
 use Rattle.std.specs.declared.string.String.{String}
 use Rattle.std.specs.declared.alloc.Global.{Global}
 use Rattle.std.specs.Io.KnownBytes.{append_known}
 use Rattle.te_ports.specs.Ports.{Rose, AppendsPart}
-use Rattle.te_command.specs.Files.{Files}
+use Rattle.te_command.specs.Files.{Files, Span}
 use Rattle.te_command.specs.Reading.{Reading, Means, Proves, IsTold}
+use Rattle.te_command.specs.Order.{ReadsAlong}
 use Rattle.te_command.specs.Commands.{Command, command_of, reading_of}
 use Rattle.te_command.specs.Form.{MayAnswer}
 
@@ -80,6 +81,11 @@ WritesProof words files out = OfCommand words (λ command. Writes (Proves (readi
 abbrev pub WritesPartMeant : List (List ℕ) → Files → Change → Type 0
 WritesPartMeant words files out =
     OfCommand words (λ command. WritesPart (λ text. Means (reading_of command) files 0 text ⊎ Means (reading_of command) files 1 text) out)
+
+-- the reads of a call are those of the command of the words, in their order, and there are none where the words are no form of one
+pub record ReadsInOrder (words : List (List ℕ)) (made : Span) : Type 0 where
+  pub unread : command_of words ≡ None → made.now ≡ made.before
+  pub along : OfCommand words (λ command. ReadsAlong (reading_of command) made.before made.now)
 
 -- the command may answer so
 pub record HasForm (command : Command) (result : ℕ) (out err : Change) : Type 0 where

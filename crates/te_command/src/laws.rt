@@ -1,9 +1,10 @@
 //! Laws of what commands mean. A law of the definitions is the contract of a function that does nothing.
-ghost use Rattle.std.specs.Prelude.{◌≡◌, ◌⊎◌, ℕ, List, Option};
+ghost use Rattle.std.specs.Prelude.{◌≡◌, ◌⊎◌, ℕ, List, ◌∷◌, ◌++◌, Option};
 ghost use Rattle.te_ports.specs.Ports.{Rose};
 ghost use Rattle.te_ports.specs.Record.{Read, Adds};
 ghost use Rattle.te_command.specs.Files.{Span, span, given_files, told_files, known_files};
 ghost use Rattle.te_command.specs.Reading.{IsTold, Means, MeansStatus, Proves, ReadFailed, RefusesUntold};
+ghost use Rattle.te_command.specs.Order.{ReadsAlong, AsksNext};
 ghost use Rattle.te_command.specs.Commands.{Command, check, check_network, reading_of};
 ghost use Rattle.te_command.specs.Form.{IsOfCertificate};
 ghost use Rattle.te_command.specs.Run.{OfToldCommand};
@@ -69,4 +70,30 @@ pub fn failed_reads_are_of_named_files()
     ensures { (certificate : List ℕ) → (topology : List ℕ) → (made : Span) → (before : List ℕ → ℕ) → (now : List ℕ → ℕ) →
         ReadFailed (reading_of (check_network certificate topology)) (given_files made) (λ file. Rose (before file) (now file)) →
         Rose (before certificate) (now certificate) ⊎ Rose (before topology) (now topology) }
+{}
+
+/// Each read of a command is the one that is next by what the reads before it gave, of which there is one: two calls whose reads were the
+/// same so far read the same next, whatever was read before the calls and from whichever depots.
+pub fn next_read_is_one()
+    ensures next { (command : Command) → (before : List Read) → (front : List Read) → (rest : List Read) → (one : Read) →
+        ReadsAlong (reading_of command) before (before ++ front ++ one ∷ rest) →
+        AsksNext (reading_of command) before (before ++ front) one.name one.at }
+    ensures one { (command : Command) → (before : List Read) → (now : List Read) → (name : List ℕ) → (other : List ℕ) → (at : ℕ) → (place : ℕ) →
+        AsksNext (reading_of command) before now name at → AsksNext (reading_of command) before now other place →
+        (name ≡ other) × (at ≡ place) }
+    ensures alike { (command : Command) → (before : List Read) → (start : List Read) → (front : List Read) → (rest : List Read) → (last : List Read) →
+        (one : Read) → (other : Read) → ReadsAlong (reading_of command) before (before ++ front ++ one ∷ rest) →
+        ReadsAlong (reading_of command) start (start ++ front ++ other ∷ last) → (one.name ≡ other.name) × (one.at ≡ other.at) }
+{}
+
+/// What the reads of a call mean does not depend on the reads before it: what is proved of one depot holds of each other one that gave the
+/// same, be the one in memory and the other that of the system. They mean one status, and those of a command of a certificate one text.
+pub fn reads_mean_one_answer()
+    ensures after_others { (command : Command) → (before : List Read) → (other : List Read) → (reads : List Read) → (status : ℕ) → (text : List ℕ) →
+        Means (reading_of command) (given_files (span before (before ++ reads))) status text →
+        Means (reading_of command) (given_files (span other (other ++ reads))) status text }
+    ensures one { (command : Command) → (made : Span) → (s : ℕ) → (t : ℕ) → (a : List ℕ) → (b : List ℕ) →
+        Means (reading_of command) (given_files made) s a → Means (reading_of command) (given_files made) t b → s ≡ t }
+    ensures one_text { (command : Command) → (made : Span) → (s : ℕ) → (t : ℕ) → (a : List ℕ) → (b : List ℕ) → IsOfCertificate command →
+        Means (reading_of command) (given_files made) s a → Means (reading_of command) (given_files made) t b → a ≡ b }
 {}

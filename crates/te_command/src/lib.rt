@@ -1,4 +1,4 @@
-//! The commands of the program, from the words of the command line to the status.
+//! The commands of the program, from the arguments to the status.
 #![tactic(auto)]
 
 mod answer;
@@ -11,8 +11,10 @@ mod kind;
 pub mod laws;
 mod reasons;
 mod refusal;
+mod serving;
 mod top;
 mod words;
 mod writing;
 
+pub use serving::serve;
 pub use top::run;

@@ -5,7 +5,7 @@ ghost use Rattle.te_ports.specs.Record.{Adds};
 ghost use Rattle.te_command.specs.Files.{span, known_files, told_files};
 ghost use Rattle.te_command.specs.Reading.{Means, MeansStatus, ReadFailed};
 ghost use Rattle.te_command.specs.Commands.{command_of, reading_of};
-ghost use Rattle.te_command.specs.Run.{texts, change, OfCommand, OfToldCommand, Answered, WritesMeant, SaysMeant, WritesProof, WritesPartMeant, HasForm, IsOrFails, GivesOrMemory, Written, Steady, Later};
+ghost use Rattle.te_command.specs.Run.{texts, change, OfCommand, OfToldCommand, Answered, WritesMeant, SaysMeant, WritesProof, WritesPartMeant, HasForm, ReadsInOrder, IsOrFails, GivesOrMemory, Written, Steady, Later};
 
 use crate::ask::Ask;
 use crate::words::command_of;
@@ -63,6 +63,10 @@ pub fn run<D: Depot, O: Sink, E: Sink>(
     // that is converted is one of the second format.
     ensures form { OfCommand (texts words.now) (λ command.
         HasForm command result (change O.written O.faults out.old out.new) (change E.written E.faults err.old err.new)) }
+
+    // Whatever the status, the reads of the call are passes over the files of the command, in their order, and no others: each came to the
+    // end of its file, whose bytes gave the value with which the command goes on, but for the last. Of other words nothing is read.
+    ensures order { ReadsInOrder (texts words.now) (span (D.gave depot.old) (D.gave depot.new)) }
 
     // 4 only by a failed read of a file that is reached by what reads gave of those before it, and 5 only by a failed write.
     ensures read { result ≡ 4 → OfCommand (texts words.now) (λ command.

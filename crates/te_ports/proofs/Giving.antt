@@ -1,5 +1,5 @@
 -- What the reads of a pass give, one after another, and what it is of a told file.
-use Rattle.std.proofs.Common.{◌≡◌, ℕ, ◌+◌, ◌<◌, ◌≤◌, List, [], ◌∷◌, ◌++◌, length, take, drop, Option, Some, refl, sym, ap, ◌∙◌, subst, arith, length-append, length-take, append-nil, append_assoc}
+use Rattle.std.proofs.Common.{◌≡◌, ℕ, ◌+◌, ◌<◌, ◌≤◌, inl, inr, List, [], ◌∷◌, ◌++◌, length, take, drop, Option, Some, refl, sym, ap, ◌∙◌, subst, arith, length-append, length-take, append-nil, append_assoc}
 use Rattle.std.specs.Prelude.{All}
 use Rattle.std.specs.List.{concat}
 use Rattle.std.proofs.lemmas.Grind.{common_steps}
@@ -8,7 +8,7 @@ use Rattle.std.proofs.lemmas.List.{take-append-drop, append_cancel_left}
 use Rattle.std.proofs.lemmas.List.Elements.{All-pop, All-nil, All-append, All-cons}
 use Rattle.std.proofs.lemmas.List.Folds.{concat-append}
 use Rattle.te_ports.specs.Ports.{Told}
-use Rattle.te_ports.specs.Record.{Read, read, IsOfTold, Adds, Pass, pass, Follow, nothing, more, HasGiven, IsRead, IsReadPast, IsReadPastAllowed, reads_from}
+use Rattle.te_ports.specs.Record.{Read, read, IsOfTold, Adds, Pass, pass, Follow, nothing, more, HasGiven, IsRead, IsBegun, AtMostOneRead, IsReadPast, IsReadPastAllowed, reads_from}
 use Rattle.te_ports.specs.Limit.{IsLimit}
 
 -- records that end alike
@@ -70,10 +70,18 @@ given_end name bytes [] now before old new given next is none =
     subst (IsRead (pass name before new)) (sym (nothing_more bytes [] now is none)) (record { reads = old; given = given; ends = next })
 given_end name bytes (b ∷ piece) now before old new given next is none = absurd (omega arith)
 
+-- behind what was given, one read of the next place or none
+pub begun_on : (name bytes : List ℕ) (before old new : List Read) → HasGiven (pass name before old) bytes → AtMostOneRead old new name (length bytes) →
+    IsBegun (pass name before new)
+begun_on name bytes before old new given (inl same) = (bytes, inl (subst (λ reads. Follow name before reads bytes) (sym same) given))
+begun_on name bytes before old new given (inr ([], is)) = (bytes, inr (record { reads = old; given = given; ends = is }))
+begun_on name bytes before old new given (inr (b ∷ piece, is)) =
+    (bytes ++ b ∷ piece, inl (more old new bytes (bytes ++ b ∷ piece) (b ∷ piece) given (omega arith) is refl))
+
 -- what follows is more
 pub follow_adds : (name : List ℕ) (before now : List Read) (bytes : List ℕ) → Follow name before now bytes → (reads : List Read) × (now ≡ before ++ reads)
 follow_adds name before _ _ (nothing now bytes is none) = ([], is ∙ sym (append-nil before))
-follow_adds name before _ _ (more then now front bytes piece given next is) =
+follow_adds name before _ _ (more then now front bytes piece given some next is) =
     let first = follow_adds name before then front given in
     (first.0 ++ read name (length front) piece ∷ [], next ∙ ap (λ reads. reads ++ read name (length front) piece ∷ []) first.1 ∙ append_assoc before first.0 _)
 
@@ -97,7 +105,7 @@ front_of_more : (content : List ℕ → Option (List ℕ)) (name told : List ℕ
     now ≡ before ++ reads → All (IsOfTold content) reads → Follow name before now bytes → take (length bytes) told ≡ bytes
 front_of_more content name told before _ reads _ at is pieces (nothing now bytes same none) =
     subst (λ b. take (length b) told ≡ b) (sym none) (grind (arith, common_steps))
-front_of_more content name told before _ reads _ at is pieces (more then now front bytes piece given next made) =
+front_of_more content name told before _ reads _ at is pieces (more then now front bytes piece given some next made) =
     let first = follow_adds name before then front given in
     let last = last_piece content before then now reads first.0 (read name (length front) piece) is first.1 next pieces in
     subst (λ b. take (length b) told ≡ b) (sym made)
@@ -152,11 +160,11 @@ not_before name before now bytes given r is =
 
 pub follow_once : (name : List ℕ) (before now : List Read) (a b : List ℕ) → Follow name before now a → Follow name before now b → a ≡ b
 follow_once name before _ _ _ (nothing now a same none) (nothing _ b is empty) = none ∙ sym empty
-follow_once name before _ _ _ (nothing now a same none) (more then _ front b piece given next made) =
+follow_once name before _ _ _ (nothing now a same none) (more then _ front b piece given some next made) =
     absurd (not_before name before then front given _ (sym same ∙ next))
-follow_once name before _ _ _ (more then now front a piece given next made) (nothing _ b is empty) =
+follow_once name before _ _ _ (more then now front a piece given some next made) (nothing _ b is empty) =
     absurd (not_before name before then front given _ (sym is ∙ next))
-follow_once name before _ _ _ (more then now front a piece given next made) (more then' _ front' b piece' given' next' made') =
+follow_once name before _ _ _ (more then now front a piece given some next made) (more then' _ front' b piece' given' some' next' made') =
     let last = same_last then then' (read name (length front) piece) (read name (length front') piece') (sym next ∙ next') in
     let fronts = follow_once name before then front front' given (subst (λ reads. Follow name before reads front') (sym last.0) given') in
     made ∙ ap (λ f. f ++ piece) fronts ∙ ap (λ (r : Read). front' ++ r.bytes) last.1 ∙ sym made'
@@ -165,6 +173,18 @@ pub read_once_only : (p : Pass) (a b : List ℕ) → IsRead p a → IsRead p b �
 read_once_only p a b first next =
     let last = same_last first.reads next.reads (read p.name (length a) []) (read p.name (length b) []) (sym first.ends ∙ next.ends) in
     follow_once p.name p.before first.reads a b first.given (subst (λ reads. Follow p.name p.before reads b) (sym last.0) next.given)
+
+-- nor did a pass that came to the end of its file only give bytes of it
+never_ends : (name : List ℕ) (before now then : List Read) (a : List ℕ) (at : ℕ) → Follow name before now a → (b : List ℕ) → Follow name before then b →
+    now ≡ then ++ read name at [] ∷ [] → ⊥
+never_ends name before _ then _ at (nothing now a same none) b given is = not_before name before then b given _ (sym same ∙ is)
+never_ends name before _ then _ at (more mid now front a piece given some next made) b given' is =
+    let last = same_last mid then (read name (length front) piece) (read name at []) (sym next ∙ is) in
+    let none : length piece ≡ 0 = ap (λ (r : Read). length r.bytes) last.1 in
+    omega (arith, some, none)
+
+pub not_both : (p : Pass) (a b : List ℕ) → HasGiven p a → IsRead p b → ⊥
+not_both p a b given is_read = never_ends p.name p.before p.now is_read.reads a (length b) given b is_read.given is_read.ends
 
 -- the reads as a list
 reads_from_more : (name : List ℕ) (at : ℕ) (pieces : List (List ℕ)) (piece : List ℕ) →
@@ -179,9 +199,9 @@ concat_one : (piece : List ℕ) → concat (piece ∷ []) ≡ piece
 concat_one piece = append-nil piece
 
 pub follow_pieces : (name : List ℕ) (before now : List Read) (bytes : List ℕ) → Follow name before now bytes →
-    (pieces : List (List ℕ)) × (now ≡ before ++ reads_from name 0 pieces) × (bytes ≡ concat pieces)
-follow_pieces name before _ _ (nothing now bytes is none) = ([], is ∙ sym (append-nil before), none)
-follow_pieces name before _ _ (more then now front bytes piece given next made) =
+    (pieces : List (List ℕ)) × (now ≡ before ++ reads_from name 0 pieces) × (bytes ≡ concat pieces) × All (λ piece. 1 ≤ length piece) pieces
+follow_pieces name before _ _ (nothing now bytes is none) = ([], is ∙ sym (append-nil before), none, All-nil (λ piece. 1 ≤ length piece))
+follow_pieces name before _ _ (more then now front bytes piece given some next made) =
     let first = follow_pieces name before then front given in
     let step : reads_from name 0 first.0 ++ read name (length front) piece ∷ [] ≡ reads_from name 0 (first.0 ++ piece ∷ []) =
     ap (λ k. reads_from name 0 first.0 ++ read name k piece ∷ []) (omega (arith, ap length first.2)) ∙ sym (reads_from_more name 0 first.0 piece) in (
@@ -189,10 +209,12 @@ follow_pieces name before _ _ (more then now front bytes piece given next made) 
       next ∙ ap (λ reads. reads ++ read name (length front) piece ∷ []) first.1 ∙ append_assoc before (reads_from name 0 first.0) _
           ∙ ap (λ reads. before ++ reads) step,
       made ∙ ap (λ f. f ++ piece) first.2 ∙ ap (λ p. concat first.0 ++ p) (sym (concat_one piece)) ∙ sym (concat-append first.0 (piece ∷ [])),
+      All-append (λ piece. 1 ≤ length piece) first.0 (piece ∷ []) first.3
+          (All-cons (λ piece. 1 ≤ length piece) piece [] some (All-nil (λ piece. 1 ≤ length piece))),
     )
 
-pub read_pieces : (p : Pass) (bytes : List ℕ) → IsRead p bytes →
-    (pieces : List (List ℕ)) × (p.now ≡ p.before ++ reads_from p.name 0 (pieces ++ [] ∷ [])) × (bytes ≡ concat pieces)
+pub read_pieces : (p : Pass) (bytes : List ℕ) → IsRead p bytes → (pieces : List (List ℕ)) ×
+    (p.now ≡ p.before ++ reads_from p.name 0 (pieces ++ [] ∷ [])) × (bytes ≡ concat pieces) × All (λ piece. 1 ≤ length piece) pieces
 read_pieces p bytes is_read =
     let first = follow_pieces p.name p.before is_read.reads bytes is_read.given in
     let step : reads_from p.name 0 first.0 ++ read p.name (length bytes) [] ∷ [] ≡ reads_from p.name 0 (first.0 ++ [] ∷ []) =
@@ -201,4 +223,5 @@ read_pieces p bytes is_read =
       is_read.ends ∙ ap (λ reads. reads ++ read p.name (length bytes) [] ∷ []) first.1 ∙ append_assoc p.before (reads_from p.name 0 first.0) _
           ∙ ap (λ reads. p.before ++ reads) step,
       first.2,
+      first.3,
     )

@@ -6,9 +6,9 @@ use Rattle.std.specs.declared.result.Result.{Result}
 use Rattle.std.specs.Io.KnownBytes.{Keeps, WriteAppends}
 use Rattle.te_ports.specs.declared.system.SystemFault.{SystemFault}
 use Rattle.te_ports.specs.declared.system.SystemFault.TheVariants.{Interrupted}
-use Rattle.te_ports.specs.Calls.{Made, writes, read_into, bytes_read, read_by, reads_of, taken_by, taken_of}
+use Rattle.te_ports.specs.Calls.{SystemCall, writes, read_into, bytes_read, read_by, reads_of, taken_by, taken_of}
 use Rattle.te_ports.specs.Record.{read}
-use Rattle.te_ports.specs.Trying.{IsTried, once, again, read_call, write_call}
+use Rattle.te_ports.specs.Trying.{IsCalled, IsTried, once, again, NotesRead, NotesWrite}
 use Rattle.te_ports.proofs.Recording.{reads_more, taken_more, read_by_read, read_by_none}
 
 -- a write after one that took nothing
@@ -21,50 +21,59 @@ appends_after_keeping (Some xs) (Some ys) new answer bytes keeps appends =
     subst (λ front. WriteAppends (Some front) new answer bytes) keeps appends
 
 -- only the last of the calls is a read
-pub reads_tried : {S : Type 0} (calls : S → List Made) (name : List ℕ) (at : ℕ) (old new : S × List ℕ) (answer : Result ℕ SystemFault) →
-    IsTried (read_call calls name at) old answer new →
+reads_called : {S : Type 0} (calls : S → List SystemCall) (name : List ℕ) (at count : ℕ) (old new : S × List ℕ) (answer : Result ℕ SystemFault) →
+    IsCalled (NotesRead calls name at) count old answer new →
     reads_of (calls new.0) ≡ reads_of (calls old.0) ++ read_by (read_into name at answer new.1)
-reads_tried calls name at _ _ _ (once old new answer is) = reads_more (calls old.0) (calls new.0) (read_into name at answer new.1) is
-reads_tried calls name at _ _ _ (again old between new last tried is) =
+reads_called calls name at _ _ _ _ (once count old new answer one is) = reads_more (calls old.0) (calls new.0) (read_into name at answer new.1) is
+reads_called calls name at _ _ _ _ (again count fewer old between new last more called is) =
     reads_more (calls between.0) (calls new.0) (read_into name at last new.1) is
     ∙ ap (λ front. front ++ read_by (read_into name at last new.1))
-    (reads_tried calls name at old between (Err Interrupted) tried ∙ append-nil (reads_of (calls old.0)))
+    (reads_called calls name at fewer old between (Err Interrupted) called ∙ append-nil (reads_of (calls old.0)))
+
+pub reads_tried : {S : Type 0} (calls : S → List SystemCall) (name : List ℕ) (at : ℕ) (old new : S × List ℕ) (answer : Result ℕ SystemFault) →
+    IsTried (NotesRead calls name at) old answer new →
+    reads_of (calls new.0) ≡ reads_of (calls old.0) ++ read_by (read_into name at answer new.1)
+reads_tried calls name at old new answer tried = reads_called calls name at tried.count old new answer tried.calls
 
 -- and takes bytes
-pub taken_tried : {S : Type 0} (calls : S → List Made) (bytes : List ℕ) (old new : S) (answer : Result ℕ SystemFault) →
-    IsTried (write_call calls bytes) old answer new → taken_of (calls new) ≡ taken_of (calls old) ++ taken_by (writes bytes answer)
-taken_tried calls bytes _ _ _ (once old new answer is) = taken_more (calls old) (calls new) (writes bytes answer) is
-taken_tried calls bytes _ _ _ (again old between new last tried is) =
+taken_called : {S : Type 0} (calls : S → List SystemCall) (bytes : List ℕ) (count : ℕ) (old new : S) (answer : Result ℕ SystemFault) →
+    IsCalled (NotesWrite calls bytes) count old answer new → taken_of (calls new) ≡ taken_of (calls old) ++ taken_by (writes bytes answer)
+taken_called calls bytes _ _ _ _ (once count old new answer one is) = taken_more (calls old) (calls new) (writes bytes answer) is
+taken_called calls bytes _ _ _ _ (again count fewer old between new last more called is) =
     taken_more (calls between) (calls new) (writes bytes last) is
     ∙ ap (λ front. front ++ taken_by (writes bytes last))
-    (taken_tried calls bytes old between (Err Interrupted) tried ∙ append-nil (taken_of (calls old)))
+    (taken_called calls bytes fewer old between (Err Interrupted) called ∙ append-nil (taken_of (calls old)))
+
+pub taken_tried : {S : Type 0} (calls : S → List SystemCall) (bytes : List ℕ) (old new : S) (answer : Result ℕ SystemFault) →
+    IsTried (NotesWrite calls bytes) old answer new → taken_of (calls new) ≡ taken_of (calls old) ++ taken_by (writes bytes answer)
+taken_tried calls bytes old new answer tried = taken_called calls bytes tried.count old new answer tried.calls
 
 -- so a read that was tried gave this, or nothing
-pub tried_read : {S : Type 0} (calls : S → List Made) (name : List ℕ) (at n : ℕ) (old new : S) (before buf : List ℕ) →
-    IsTried (read_call calls name at) (old, before) (Ok n) (new, buf) → 0 < length buf →
+pub tried_read : {S : Type 0} (calls : S → List SystemCall) (name : List ℕ) (at n : ℕ) (old new : S) (before buf : List ℕ) →
+    IsTried (NotesRead calls name at) (old, before) (Ok n) (new, buf) → 0 < length buf →
     reads_of (calls new) ≡ reads_of (calls old) ++ read name at (take n buf) ∷ []
 tried_read calls name at n old new before buf tried some =
     reads_tried calls name at (old, before) (new, buf) (Ok n) tried
     ∙ ap (λ last. reads_of (calls old) ++ last) (read_by_read name at (length buf) (take n buf) some)
 
-pub tried_no_room : {S : Type 0} (calls : S → List Made) (name : List ℕ) (at : ℕ) (old new : S) (before buf : List ℕ) (answer : Result ℕ SystemFault) →
-    IsTried (read_call calls name at) (old, before) answer (new, buf) → length buf ≡ 0 → reads_of (calls new) ≡ reads_of (calls old)
+pub tried_no_room : {S : Type 0} (calls : S → List SystemCall) (name : List ℕ) (at : ℕ) (old new : S) (before buf : List ℕ) (answer : Result ℕ SystemFault) →
+    IsTried (NotesRead calls name at) (old, before) answer (new, buf) → length buf ≡ 0 → reads_of (calls new) ≡ reads_of (calls old)
 tried_no_room calls name at old new before buf answer tried none =
     reads_tried calls name at (old, before) (new, buf) answer tried
     ∙ ap (λ last. reads_of (calls old) ++ last) (read_by_none name at (length buf) (bytes_read answer buf) none) ∙ append-nil (reads_of (calls old))
 
-pub tried_unread : {S : Type 0} (calls : S → List Made) (name : List ℕ) (at : ℕ) (old new : S) (before buf : List ℕ) (fault : SystemFault) →
-    IsTried (read_call calls name at) (old, before) (Err fault) (new, buf) → reads_of (calls new) ≡ reads_of (calls old)
+pub tried_unread : {S : Type 0} (calls : S → List SystemCall) (name : List ℕ) (at : ℕ) (old new : S) (before buf : List ℕ) (fault : SystemFault) →
+    IsTried (NotesRead calls name at) (old, before) (Err fault) (new, buf) → reads_of (calls new) ≡ reads_of (calls old)
 tried_unread calls name at old new before buf fault tried =
     reads_tried calls name at (old, before) (new, buf) (Err fault) tried ∙ append-nil (reads_of (calls old))
 
-pub tried_taken : {S : Type 0} (calls : S → List Made) (bytes : List ℕ) (n : ℕ) (old new : S) → IsTried (write_call calls bytes) old (Ok n) new →
+pub tried_taken : {S : Type 0} (calls : S → List SystemCall) (bytes : List ℕ) (n : ℕ) (old new : S) → IsTried (NotesWrite calls bytes) old (Ok n) new →
     taken_of (calls new) ≡ taken_of (calls old) ++ take n bytes
 tried_taken calls bytes n old new tried = taken_tried calls bytes old new (Ok n) tried
 
 -- a write that failed took nothing
-pub tried_none : {S : Type 0} (calls : S → List Made) (bytes : List ℕ) (answer : Result ℕ SystemFault) (old new : S) →
-    IsTried (write_call calls bytes) old answer new → MatchResult answer (λ n. n ≡ 0) (λ _. Unit {0}) → taken_of (calls new) ≡ taken_of (calls old)
+pub tried_none : {S : Type 0} (calls : S → List SystemCall) (bytes : List ℕ) (answer : Result ℕ SystemFault) (old new : S) →
+    IsTried (NotesWrite calls bytes) old answer new → MatchResult answer (λ n. n ≡ 0) (λ _. Unit {0}) → taken_of (calls new) ≡ taken_of (calls old)
 tried_none calls bytes (Ok n) old new tried none =
     tried_taken calls bytes n old new tried ∙ ap (λ k. taken_of (calls old) ++ take k bytes) none ∙ append-nil (taken_of (calls old))
 tried_none calls bytes (Err fault) old new tried none = taken_tried calls bytes old new (Err fault) tried ∙ append-nil (taken_of (calls old))

@@ -10,3 +10,4 @@ pub mod SureSink
 pub mod RecordDepot
 pub mod Trying
 pub mod SystemFaults
+pub mod OpenFiles

@@ -1,5 +1,5 @@
 -- What reads gave: a list of the reads, in their order.
-use Rattle.std.specs.Prelude.{◌≡◌, ℕ, ◌+◌, ◌≤◌, List, [], ◌∷◌, ◌++◌, take, drop, length, All}
+use Rattle.std.specs.Prelude.{◌≡◌, ◌⊎◌, ℕ, ◌+◌, ◌≤◌, List, [], ◌∷◌, ◌++◌, take, drop, length, All}
 use Rattle.std.specs.declared.option.Option.{Option}
 use Rattle.te_ports.specs.Ports.{Told}
 
@@ -36,11 +36,11 @@ pub record Pass : Type 0 where
 abbrev pub pass : List ℕ → List Read → List Read → Pass
 pass name before now = record { name = name; before = before; now = now }
 
--- these reads followed, and no other: of this file, the first from its start and each one from where that before it ended. Together
--- they gave the bytes
+-- these reads followed, and no other: of this file, the first from its start and each one from where that before it ended. Each gave
+-- a byte or more, and together they gave the bytes
 pub data Follow (name : List ℕ) (before : List Read) : List Read → List ℕ → Type 0 where
   nothing : (now : List Read) (bytes : List ℕ) → now ≡ before → bytes ≡ [] → Follow name before now bytes
-  more : (then now : List Read) (front bytes piece : List ℕ) → Follow name before then front →
+  more : (then now : List Read) (front bytes piece : List ℕ) → Follow name before then front → 1 ≤ length piece →
       now ≡ then ++ read name (length front) piece ∷ [] → bytes ≡ front ++ piece → Follow name before now bytes
 
 -- the reads of a pass gave these bytes of its file, one after another from the start on
@@ -53,6 +53,17 @@ pub record IsRead (p : Pass) (bytes : List ℕ) : Type 0 where
   pub given : HasGiven (pass p.name p.before reads) bytes
   pub ends : p.now ≡ reads ++ read p.name (length bytes) [] ∷ []
 
+-- a pass was begun, and perhaps came to the end of its file
+abbrev pub IsBegun : Pass → Type 0
+IsBegun p = (bytes : List ℕ) × (HasGiven p bytes ⊎ IsRead p bytes)
+
+-- a pass was begun and did not come to the end of its file: its reads gave no more bytes than are allowed for a file that begins
+-- with them
+pub record IsReadInPart (p : Pass) (allowed : List ℕ → ℕ) : Type 0 where
+  pub bytes : List ℕ
+  pub given : HasGiven p bytes
+  pub within : length bytes ≤ allowed bytes
+
 -- the reads of a pass gave one byte more of its file than is allowed for a file that begins with them
 pub record IsReadPastAllowed (p : Pass) (allowed : List ℕ → ℕ) : Type 0 where
   pub bytes : List ℕ
@@ -62,6 +73,10 @@ pub record IsReadPastAllowed (p : Pass) (allowed : List ℕ → ℕ) : Type 0 wh
 -- one byte more than the limit allows
 abbrev pub IsReadPast : Pass → ℕ → Type 0
 IsReadPast p limit = IsReadPastAllowed p (λ _. limit)
+
+-- at most one read followed, of the file of this name at this place
+abbrev pub AtMostOneRead : List Read → List Read → List ℕ → ℕ → Type 0
+AtMostOneRead old new name at = (new ≡ old) ⊎ ((bytes : List ℕ) × (new ≡ old ++ read name at bytes ∷ []))
 
 -- reads of a file that gave these pieces, each from where the one before it ended, the first from this place
 abbrev pub reads_from : List ℕ → ℕ → List (List ℕ) → List Read

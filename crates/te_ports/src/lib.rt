@@ -7,6 +7,7 @@
 #![tactic(auto)]
 
 mod disk;
+mod file_name;
 mod laws;
 mod limit;
 mod log;
@@ -23,6 +24,7 @@ mod system;
 mod writing;
 
 pub use disk::{Disk, OpenFile, SystemDisk, read_call};
+pub use file_name::FileName;
 pub use laws::{reads_agree_with_what_is_told, reads_are_in_order};
 pub use limit::Limit;
 pub use log::{Call, Log};

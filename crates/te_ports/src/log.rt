@@ -1,7 +1,7 @@
 //! The calls of a port, which only clauses read.
 ghost use Rattle.std.specs.Prelude.{◌≡◌, List, [], ◌∷◌, ◌++◌};
 ghost use Rattle.std.specs.Borrow.{ftrue};
-ghost use Rattle.te_ports.specs.Calls.{Made, made};
+ghost use Rattle.te_ports.specs.Calls.{SystemCall, system_call};
 
 use crate::SystemFault;
 use std::marker::Model;
@@ -29,7 +29,7 @@ pub enum Call<'a> {
 /// it has to be read in the port's own body.
 #[derive(Drop)]
 pub struct Log {
-    pub ghost calls: { List Made },
+    pub ghost calls: { List SystemCall },
 }
 
 impl Model for Log {
@@ -46,7 +46,7 @@ impl Log {
 
     /// These calls, and then this one.
     pub fn then(&self, _call: &Call<'_>) -> Log
-        ensures { result.calls ≡ self.now.calls ++ made _call.now ∷ [] }
+        ensures { result.calls ≡ self.now.calls ++ system_call _call.now ∷ [] }
     {
         Log {}
     }

@@ -1,7 +1,7 @@
 //! A depot in memory whose reads can be made to fail.
 ghost use Rattle.std.specs.Prelude.{◌≡◌, ◌≢◌, ◌≤◌, ◌<◌, ◌+◌, ◌-◌, ◌^◌, ◌↔◌, ◌⊎◌, min, Contains, [], ◌∷◌, ◌++◌, ℕ, List, length, take, drop, IfOk, OnOk, OnErr, IsErr, Some, None};
 ghost use Rattle.te_ports.specs.Ports.{Rose, Told};
-ghost use Rattle.te_ports.specs.Calls.{made, reads};
+ghost use Rattle.te_ports.specs.Calls.{system_call, reads};
 ghost use Rattle.te_ports.specs.Record.{read};
 
 use crate::{Call, Depot, Failed, Log};
@@ -96,7 +96,7 @@ pub(crate) fn copy_piece(bytes: &[u8], at: u64, piece: usize, buf: &mut [u8]) ->
 // A read that put so many bytes into a buffer.
 pub(crate) fn read_of<'a>(name: &'a str, at: u64, buf: &'a [u8], count: usize) -> Call<'a>
     requires { count ≤ length buf.now }
-    ensures { made result ≡ reads name.now at (length buf.now) (Ok (take count buf.now)) }
+    ensures { system_call result ≡ reads name.now at (length buf.now) (Ok (take count buf.now)) }
 {
     Call::Read {
         name,

@@ -2,7 +2,7 @@
 ghost use Rattle.std.specs.Prelude.{◌≡◌, ◌≢◌, ◌≤◌, ◌<◌, ◌^◌, [], ◌∷◌, ◌++◌, ℕ, List, length, IfOk, IsErrOf, Err};
 ghost use Rattle.te_ports.specs.Ports.{Rose, Told};
 ghost use Rattle.te_ports.specs.Limit.{IsLimit};
-ghost use Rattle.te_ports.specs.Record.{Adds, pass, IsRead, IsReadPast, IsReadPastAllowed, read};
+ghost use Rattle.te_ports.specs.Record.{Adds, AtMostOneRead, pass, IsBegun, IsRead, IsReadInPart, IsReadPast, IsReadPastAllowed, read};
 ghost use Rattle.te_ports.specs.declared.reading.LoadFault.TheVariants.{Memory as OutOfMemory};
 
 use crate::{Depot, Failed, Limit};
@@ -58,6 +58,9 @@ pub fn load_within<D: Depot, L: Limit>(
     ensures read { IfOk result (λ bytes. IsRead (pass name.now (D.gave depot.old) (D.gave depot.new)) bytes.items) }
     ensures past { IsErrOf result LoadFault.TooLong →
         IsReadPastAllowed (pass name.now (D.gave depot.old) (D.gave depot.new)) (L.allowed limit.now) }
+    ensures part { IsErrOf result LoadFault.Failed →
+        IsReadInPart (pass name.now (D.gave depot.old) (D.gave depot.new)) (L.allowed limit.now) }
+    ensures begun { IsBegun (pass name.now (D.gave depot.old) (D.gave depot.new)) }
     ensures added { Adds (D.content depot.old) (D.gave depot.old) (D.gave depot.new) }
     ensures told { IfOk result (λ bytes. Told (D.content depot.old name.now) (λ told. bytes.items ≡ told)) }
     ensures within { IfOk result (λ bytes. length bytes.items ≤ L.allowed limit.now bytes.items) }
@@ -95,6 +98,8 @@ fn append_piece<D: Depot>(
         × (D.gave depot.new ≡ D.gave depot.old ++ read name.now (length bytes.old.items) piece ∷ [])
         × (bytes.new.items ≡ bytes.old.items ++ piece) × (length piece ≡ n)) }
     ensures few { IfOk result (λ n. n ≤ length chunk.old) }
+    ensures unread { IsErrOf result LoadFault.Failed → D.gave depot.new ≡ D.gave depot.old }
+    ensures at_most_once { AtMostOneRead (D.gave depot.old) (D.gave depot.new) name.now (length bytes.old.items) }
     ensures added { Adds (D.content depot.old) (D.gave depot.old) (D.gave depot.new) }
     ensures failed { IsErrOf result LoadFault.Failed → Rose (D.faults depot.old name.now) (D.faults depot.new name.now) }
     ensures not_too_long { result ≢ Err LoadFault.TooLong }
@@ -120,6 +125,9 @@ pub fn load<D: Depot>(
     // The reads of the call are those of one pass over the file, and the bytes are what they gave, told or not.
     ensures read { IfOk result (λ bytes. IsRead (pass name.now (D.gave depot.old) (D.gave depot.new)) bytes.items) }
     ensures past { IsErrOf result LoadFault.TooLong → IsReadPast (pass name.now (D.gave depot.old) (D.gave depot.new)) limit }
+    ensures part { IsErrOf result LoadFault.Failed →
+        IsReadInPart (pass name.now (D.gave depot.old) (D.gave depot.new)) (λ _. limit) }
+    ensures begun { IsBegun (pass name.now (D.gave depot.old) (D.gave depot.new)) }
     ensures added { Adds (D.content depot.old) (D.gave depot.old) (D.gave depot.new) }
     ensures told { IfOk result (λ bytes. Told (D.content depot.old name.now) (λ told. bytes.items ≡ told)) }
     ensures within { IfOk result (λ bytes. length bytes.items ≤ limit) }

@@ -5,7 +5,7 @@ ghost use Rattle.std.specs.Io.{ReadsAtMost};
 ghost use Rattle.te_ports.specs.Ports.{Rose};
 ghost use Rattle.te_ports.specs.Calls.{reads_of};
 ghost use Rattle.te_ports.specs.Record.{read};
-ghost use Rattle.te_ports.specs.Trying.{IsTried, IsReadAnswer, read_call};
+ghost use Rattle.te_ports.specs.Trying.{IsTried, IsReadAnswer, NotesRead};
 ghost use Rattle.te_ports.specs.declared.system.SystemFault.{SystemFault as Fault};
 
 use crate::disk::{Disk, SystemDisk};
@@ -22,7 +22,7 @@ pub struct RealDepot<D: Disk + Drop> {
     faults: u64,
 }
 
-impl<R: Files + AllocGlobal + Drop> RealDepot<SystemDisk<R>> {
+impl<R: Files + Drop> RealDepot<SystemDisk<R>> {
     /// The files that the runtime reaches.
     pub fn new(files: R) -> Self
         ensures no_fault { result.faults ≡ 0 }
@@ -42,7 +42,7 @@ impl<D: Disk + Drop> RealDepot<D> {
     }
 }
 
-// Asks until no signal interrupts, and answers what the system answered last.
+// Asks until no signal interrupts, a hundred times at most, and answers what the system answered last.
 fn read_again<D: Disk>(
     disk: &mut D,
     name: &str,
@@ -50,7 +50,7 @@ fn read_again<D: Disk>(
     buf: &mut [u8],
 ) -> Result<usize, SystemFault>
     ensures bound { ReadsAtMost result buf.new }
-    ensures tried { IsTried (read_call D.calls name.now at) (disk.old, buf.old) result (disk.new, buf.new) }
+    ensures tried { IsTried (NotesRead D.calls name.now at) (disk.old, buf.old) result (disk.new, buf.new) }
 {
     let mut answer = disk.read_once(name, at, buf);
     'tries: for _ in 1..TRIES {
@@ -81,9 +81,10 @@ impl<D: Disk + Drop> Depot for RealDepot<D> {
         ensures failed { OnErr result (Rose self.old.faults self.new.faults) }
         ensures later { self.old.faults ≤ self.new.faults }
 
-        // The calls are on record, and what the system answered last is the answer.
+        // The calls are on record, as many as it takes until none is interrupted and a hundred at most, and what the system answered
+        // last is the answer.
         ensures answered { (answer : Result ℕ Fault) ×
-            IsTried (read_call D.calls name.now at) (self.old.disk, buf.old) answer (self.new.disk, buf.new) ×
+            IsTried (NotesRead D.calls name.now at) (self.old.disk, buf.old) answer (self.new.disk, buf.new) ×
             IsReadAnswer answer result }
     {
         match read_again(&mut self.disk, name, at, buf) {

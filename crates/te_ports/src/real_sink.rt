@@ -5,9 +5,9 @@ ghost use Rattle.std.specs.declared.result.Result.{Result};
 ghost use Rattle.te_ports.specs.declared.system.SystemFault.{SystemFault as Fault};
 ghost use Rattle.std.specs.Io.{WritesAtMost};
 ghost use Rattle.std.specs.Io.KnownBytes.{Appends, Keeps, WriteAppends};
-ghost use Rattle.te_ports.specs.Calls.{Made, writes, taken_of};
+ghost use Rattle.te_ports.specs.Calls.{SystemCall, writes, taken_of};
 ghost use Rattle.te_ports.specs.Ports.{Rose};
-ghost use Rattle.te_ports.specs.Trying.{IsTried, IsWriteAnswer, write_call};
+ghost use Rattle.te_ports.specs.Trying.{IsTried, IsWriteAnswer, NotesWrite};
 
 use crate::system::TRIES;
 use crate::{Call, Failed, Log, Sink, SystemFault};
@@ -19,7 +19,7 @@ pub trait Stream {
     ghost contents: { Self → Option (List ℕ) };
 
     /// The calls of the system, and what it answered.
-    ghost calls: { Self → List Made };
+    ghost calls: { Self → List SystemCall };
 
     /// Asks the system once.
     fn write_once(&mut self, bytes: &[u8]) -> Result<usize, SystemFault>
@@ -105,11 +105,11 @@ impl<W: Stream + Drop> RealSink<W> {
     }
 }
 
-// Asks until no signal interrupts, and answers what the system answered last.
+// Asks until no signal interrupts, a hundred times at most, and answers what the system answered last.
 fn write_again<W: Stream>(stream: &mut W, bytes: &[u8]) -> Result<usize, SystemFault>
     ensures bound { WritesAtMost result bytes.now }
     ensures bytes { WriteAppends (W.contents stream.old) (W.contents stream.new) result bytes.now }
-    ensures tried { IsTried (write_call W.calls bytes.now) stream.old result stream.new }
+    ensures tried { IsTried (NotesWrite W.calls bytes.now) stream.old result stream.new }
 {
     let mut answer = stream.write_once(bytes);
     'tries: for _ in 1..TRIES {
@@ -141,7 +141,7 @@ impl<W: Stream + Drop> Sink for RealSink<W> {
         // The calls are on record, what the system answered last is the answer, and where the stream tells its bytes, it has the
         // first n more.
         ensures answered { (answer : Result ℕ Fault) ×
-            IsTried (write_call W.calls bytes.now) self.old.inner answer self.new.inner ×
+            IsTried (NotesWrite W.calls bytes.now) self.old.inner answer self.new.inner ×
             IsWriteAnswer bytes.now answer result }
         ensures takes { IfOk result (λ n.
             Appends (W.contents self.old.inner) (W.contents self.new.inner) (take n bytes.now)) }

@@ -7,7 +7,7 @@ use Rattle.cert_text.specs.Grammar.{read_pair}
 use Rattle.cert_text.proofs.Loop.{listed_more, listed_all}
 use Rattle.block_reader.specs.Answers.{Gives}
 use Rattle.block_reader.specs.declared.stream_fault.StreamFault.TheVariants.{Memory}
-use Rattle.block_reader.proofs.Answering.{many_gives, many_stop, none_gives}
+use Rattle.block_reader.proofs.Answering.{behind_begun, many_gives, many_stop, none_gives}
 use Rattle.block_reader.proofs.PartLaws.{pair_part}
 use Rattle.block_reader.proofs.Reading.{reads_then, reads_as, reads_err, reads_start, reads_short}
 use Rattle.block_reader.proofs.opening.pairs.Goals as goal
@@ -61,3 +61,10 @@ returns-in_err-push-clause-reads g c =
     rw (p.1, p.2)
     (reads_then _ _ _ _ tt (Err Memory) c.loop.invariant.3
     (reads_then _ _ _ _ c.in_ok-item.item (Err Memory) c.in_ok-item.ensures.reads (reads_short _ c.args.name.now Memory refl)))
+
+pub returns-in_err-push-clause-answers : goal.returns-in_err-push-clause-answers
+returns-in_err-push-clause-answers g c = λ before.
+    let p = err_from_is_err_and c.from_residual-in_err-push.result c.from_residual-in_err-push.ensures.1 in
+    rw (p.1, p.2) (λ passed b.
+    let one = c.loop.invariant.2 before passed b in
+    behind_begun _ c.read_part.new.lines _ ((c.in_ok-item.ensures.answers before _ one.1).1))

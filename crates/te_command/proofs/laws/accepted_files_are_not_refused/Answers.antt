@@ -6,4 +6,4 @@ use Rattle.te_command.proofs.laws.accepted_files_are_not_refused.Goals as goal
 
 pub returns : goal.returns
 returns c = λ command content made adds text means.
-    refuses_untold (MayAnswer command) (reading_of command) content made text (regular command) (sound command) adds means
+    refuses_untold (MayAnswer command) (reading_of command) content made.now made.before text (regular command) (sound command) adds means

@@ -1,6 +1,6 @@
 use Rattle.std.proofs.Common.{◌≤◌, ◌∙◌, ap, refl, sym, subst, arith, length, length-append, length-take}
 use Rattle.te_ports.specs.Record.{nothing, more}
-use Rattle.te_ports.proofs.Giving.{adds_none, adds_then, given_end, nothing_more, read_is, past_allowed, allowed_rises}
+use Rattle.te_ports.proofs.Giving.{adds_none, adds_then, begun_on, given_end, nothing_more, read_is, past_allowed, allowed_rises}
 use Rattle.te_ports.proofs.reading.load_within.Goals as goal
 
 pub chunks-init : goal.chunks-init
@@ -39,7 +39,7 @@ chunks-preserved g c =
       c.in_ok-count.ensures.content ∙ c.chunks.invariant.0,
       c.in_ok-count.ensures.steady (λ e. cc e) ∙ c.chunks.invariant.1,
       adds_then _ _ _ _ _ c.chunks.invariant.0 c.chunks.invariant.2 c.in_ok-count.ensures.added,
-      more _ _ _ _ piece.0 c.chunks.invariant.3 piece.1 piece.2,
+      more _ _ _ _ piece.0 c.chunks.invariant.3 (omega (arith, piece.3, c.if-count-eq0.false)) piece.1 piece.2,
       now,
       omega (
         arith,
@@ -64,3 +64,9 @@ returns-in_err-count-clause-added g c = adds_then _ _ _ _ _ c.chunks.invariant.0
 
 pub returns-then-count-eq0-clause-added : goal.returns-then-count-eq0-clause-added
 returns-then-count-eq0-clause-added g c = adds_then _ _ _ _ _ c.chunks.invariant.0 c.chunks.invariant.2 c.in_ok-count.ensures.added
+
+pub returns-in_err-count-clause-begun : goal.returns-in_err-count-clause-begun
+returns-in_err-count-clause-begun g c = begun_on _ _ _ _ _ c.chunks.invariant.3 c.in_err-count.ensures.at_most_once
+
+pub returns-then-count-eq0-clause-begun : goal.returns-then-count-eq0-clause-begun
+returns-then-count-eq0-clause-begun g c = begun_on _ _ _ _ _ c.chunks.invariant.3 c.in_ok-count.ensures.at_most_once

@@ -1,5 +1,6 @@
 use Rattle.std.proofs.Common.{Ok, Err}
 use Rattle.std.proofs.lemmas.Result.{err_from_is_err_and}
+use Rattle.block_reader.proofs.Answering.{behind_begun}
 use Rattle.block_reader.proofs.PartLaws.{block_count_part}
 use Rattle.block_reader.proofs.Reading.{reads_then, reads_as, reads_err, reads_short}
 use Rattle.block_reader.proofs.Starting.{count_of_head}
@@ -21,7 +22,7 @@ returns-in_err-left-clause-reads g c =
 pub returns-in_err-name-clause-counts : goal.returns-in_err-name-clause-counts
 returns-in_err-name-clause-counts g c = λ before.
     let p = err_from_is_err_and c.from_residual-in_err-name.result c.from_residual-in_err-name.ensures.1 in
-    rw (p.1, p.2) (λ passed behind. tt)
+    rw (p.1, p.2) (λ passed b. behind_begun _ c.read_part.new.lines _ ((c.in_ok-left.ensures.answers before passed b).1))
 
 pub returns-in_err-name-clause-reads : goal.returns-in_err-name-clause-reads
 returns-in_err-name-clause-reads g c =
@@ -31,7 +32,7 @@ returns-in_err-name-clause-reads g c =
 pub returns-in_err-room-clause-counts : goal.returns-in_err-room-clause-counts
 returns-in_err-room-clause-counts g c = λ before.
     let p = err_from_is_err_and c.from_residual-in_err-room.result c.from_residual-in_err-room.ensures.1 in
-    rw (p.1, p.2) (λ passed behind. tt)
+    rw (p.1, p.2) (λ passed b. behind_begun _ c.read_part.new.lines _ ((c.in_ok-left.ensures.answers before passed b).1))
 
 pub returns-in_err-room-clause-reads : goal.returns-in_err-room-clause-reads
 returns-in_err-room-clause-reads g c =

@@ -7,6 +7,7 @@ use Rattle.block_reader.specs.declared.stream_fault.StreamFault.TheVariants.{Fai
 use Rattle.block_reader.specs.Blocks.{IsFaultOf}
 use Rattle.block_reader.proofs.Handing.{valid_head, head_earliest}
 use Rattle.block_reader.proofs.Advancing.{Judges, fault_is}
+use Rattle.block_reader.proofs.Begun.{fault_begun, read_begun}
 use Rattle.block_reader.proofs.Reading.{ok_sound, at_least}
 use Rattle.block_reader.proofs.block_reader.BlockReader.open.Goals as goal
 
@@ -81,3 +82,12 @@ returns-in-None-clause-added g c = c.in_ok-reader.ensures.reads.added
 
 pub returns-in-None-clause-content : goal.returns-in-None-clause-content
 returns-in-None-clause-content g c = c.in_ok-reader.ensures.reads.content
+
+pub returns-in_err-reader-clause-begun : goal.returns-in_err-reader-clause-begun
+returns-in_err-reader-clause-begun g c = fault_begun _ c.in_err-reader.field-0.0 (c.in_err-reader.ensures.refused c.in_err-reader.field-0.0 refl)
+
+pub returns-in-None-clause-begun : goal.returns-in-None-clause-begun
+returns-in-None-clause-begun g c = read_begun _ _ _ [] (returns-in-None-clause-head g c)
+
+pub returns-in-Some-clause-begun : goal.returns-in-Some-clause-begun
+returns-in-Some-clause-begun g c = fault_begun _ c.judge_rest.result (returns-in-Some-clause-refused g c c.judge_rest.result refl)

@@ -1,0 +1,5 @@
+use Rattle.number_tables.proofs.DueLines.{one_small_fault}
+use Rattle.number_tables.proofs.laws.small_files_have_one_fault.Goals as goal
+
+pub returns : goal.returns
+returns c = one_small_fault

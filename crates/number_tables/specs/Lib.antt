@@ -1,0 +1,5 @@
+pub mod Table
+pub mod Outcome
+pub mod Reading
+pub mod Leaving
+pub mod Due

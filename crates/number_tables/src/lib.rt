@@ -1,0 +1,15 @@
+//! Tables of words and numbers, the common form of small files: reading and printing.
+#![tactic(auto)]
+
+mod fault;
+pub mod laws;
+mod line;
+mod reader;
+pub mod spelling;
+mod word;
+mod writer;
+
+pub use fault::TableFault;
+pub use line::NumLine;
+pub use reader::table;
+pub use writer::print_table;

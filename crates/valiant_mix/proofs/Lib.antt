@@ -1,0 +1,3 @@
+pub mod Legs
+pub mod DetoursMade
+pub mod Splits

@@ -1,0 +1,3 @@
+pub mod Valiant
+pub mod Ways
+pub mod Laws
