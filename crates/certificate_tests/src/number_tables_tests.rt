@@ -1,7 +1,7 @@
 //! Small files of words and numbers: what is taken as a table, and at which line other bytes leave the tables.
 use crate::cases::{Case, all_hold};
 use number_tables::spelling::read_and_print;
-use number_tables::{TableFault, table};
+use number_tables::{TableFault, TableLines, pass_over_table, table};
 use std::alloc::Global;
 
 // The first line of these tables.
@@ -79,6 +79,32 @@ fn faulty_line(alloc: Global, bytes: &[u8]) -> Option<u64> {
     }
 }
 
+// The same, where no more than one line is kept.
+fn line_that_stops(alloc: Global, bytes: &[u8]) -> Option<u64> {
+    match pass_over_table(alloc, FIRST, bytes) {
+        Ok(()) => Some(0),
+        Err(TableFault::Shape(line)) => Some(line),
+        Err(TableFault::Memory) => None,
+    }
+}
+
+// How many lines of the table are handed out one after the other.
+fn count_lines(alloc: Global, bytes: &[u8]) -> Result<usize, TableFault> {
+    let mut lines = TableLines::new(FIRST, bytes)?;
+    for count in 0..bytes.len() {
+        if lines.next_line(alloc)?.is_none() {
+            return Ok(count);
+        }
+    }
+    Ok(bytes.len())
+}
+
+// Whether as many lines are handed out as stand between the first line and the end.
+fn has_its_lines(alloc: Global, bytes: &[u8]) -> bool {
+    let ends = bytes.iter().filter(|b| **b == b'\n').count();
+    matches!(count_lines(alloc, bytes), Ok(count) if count + 2 == ends)
+}
+
 // Whether the table is printed as it was read.
 fn is_printed_again(alloc: Global, bytes: &[u8]) -> bool {
     match read_and_print(alloc, FIRST, bytes) {
@@ -93,8 +119,10 @@ impl<'a> Case for Body<'a> {
             return false;
         };
         let bytes = file.as_bytes();
-        let is_taken = faulty_line(alloc, bytes) == Some(self.1.unwrap_or(0));
-        is_taken && (self.1.is_some() || is_printed_again(alloc, bytes))
+        let due = Some(self.1.unwrap_or(0));
+        let is_taken = faulty_line(alloc, bytes) == due && line_that_stops(alloc, bytes) == due;
+        is_taken
+            && (self.1.is_some() || is_printed_again(alloc, bytes) && has_its_lines(alloc, bytes))
     }
 }
 

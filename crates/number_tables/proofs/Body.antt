@@ -15,7 +15,7 @@ use Rattle.number_tables.specs.Leaving.{LeavesAfter, body_lines, ReadsLines}
 use Rattle.number_tables.specs.Reading.{begins_with_end, read_line}
 use Rattle.number_tables.specs.Table.{IsLine, AreLines, line_text, file_of}
 use Rattle.number_tables.proofs.Faults.{not_ok}
-use Rattle.number_tables.proofs.Lines.{first_same}
+use Rattle.number_tables.proofs.FilesOfLines.{first_same}
 use Rattle.number_tables.proofs.Texts.{line_again, line_takes, next_line, line_fault, not_the_end}
 
 -- ---- the lines of a table, and some of them
@@ -83,7 +83,7 @@ fewer_left now l q e =
 
 -- ---- where it ends
 
-after_end : (bytes : List ℕ) → begins_with_end bytes ≡ true → bytes ≡ codes "end\n" ++ drop 4 bytes
+pub after_end : (bytes : List ℕ) → begins_with_end bytes ≡ true → bytes ≡ codes "end\n" ++ drop 4 bytes
 after_end bytes is =
     sym (take-append-drop 4 bytes) ∙ ap (λ (y : List ℕ). y ++ drop 4 bytes) ((bytes_eq-Decides (take 4 bytes) (codes "end\n")).0 is)
 

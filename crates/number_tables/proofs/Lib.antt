@@ -1,4 +1,4 @@
-pub mod Lines
+pub mod FilesOfLines
 pub mod Faults
 pub mod Texts
 pub mod Steps
@@ -6,3 +6,4 @@ pub mod Body
 pub mod Whole
 pub mod Printing
 pub mod DueLines
+pub mod PassingLines

@@ -18,7 +18,7 @@ use Rattle.number_tables.specs.Leaving.{LeavesAfter, body_lines, ReadsLines}
 use Rattle.number_tables.specs.Outcome.{fault_of, GivesLinesOrMemory, IsFaultOrMemory}
 use Rattle.number_tables.specs.Table.{AreLines, line_text, file_of, table_lines, table_text}
 use Rattle.number_tables.proofs.Faults.{not_ok, PassesOn, byte_on, word_on}
-use Rattle.number_tables.proofs.Lines.{first_same, AreOneLine, file_cons, lines_after, none_left, leaves_at, one_leaving}
+use Rattle.number_tables.proofs.FilesOfLines.{first_same, AreOneLine, file_cons, lines_after, none_left, leaves_at, one_leaving}
 use Rattle.number_tables.proofs.Texts.{line_is_one, not_the_end, one_line_text}
 
 -- ---- the first line
@@ -34,7 +34,7 @@ first_line_on first p k e = from (read_word first p) (word_on first p p.line ref
     from (Ok q) on h = end_of q _ (byte_on 10 q p.line on) h
     from (Err j) on h = let same : j ≡ k = cc in sym same ∙ on
 
-first_line_again : (first : List ℕ) (k : ℕ) (r : List ℕ) → (read_word first (place k (first ++ 10 ∷ r)) >>= read_line_end) ≡ Ok (place (k + 1) r)
+pub first_line_again : (first : List ℕ) (k : ℕ) (r : List ℕ) → (read_word first (place k (first ++ 10 ∷ r)) >>= read_line_end) ≡ Ok (place (k + 1) r)
 first_line_again first k r = rw (word_again first k (10 ∷ r)) refl
 
 -- another first line
@@ -62,11 +62,11 @@ first_end_stops A first p mid (stops.Shape k) w s = leaves_first first p k (ap (
 
 -- ---- the lines after it
 
-record TookFirst (first : List ℕ) (p q : Place) : Type 0 where
-  parts : p.rest ≡ first ++ 10 ∷ q.rest
-  line : q.line ≡ p.line + 1
+pub record TookFirst (first : List ℕ) (p q : Place) : Type 0 where
+  pub parts : p.rest ≡ first ++ 10 ∷ q.rest
+  pub line : q.line ≡ p.line + 1
 
-took_first : (first : List ℕ) (p mid q : Place) → read_word first p ≡ Ok mid → read_line_end mid ≡ Ok q → TookFirst first p q
+pub took_first : (first : List ℕ) (p mid q : Place) → read_word first p ≡ Ok mid → read_line_end mid ≡ Ok q → TookFirst first p q
 took_first first p mid q w l =
     let parts : p.rest ≡ first ++ 10 ∷ q.rest = word_takes first p mid w ∙ ap (λ (y : List ℕ). first ++ y) (line_end_takes mid q l) in
     let again = ap (λ (y : List ℕ). read_word first (place p.line y) >>= read_line_end) parts ∙ first_line_again first p.line q.rest in
@@ -134,7 +134,7 @@ pub record AnswersTable {A : Type 0} (first bytes : List ℕ) (result : Result (
   pub shape : (k : ℕ) → result ≡ Err (faults.Shape k) → LeavesAt AreLines (table_text first) bytes k
   pub misshaped : (k : ℕ) → LeavesAt AreLines (table_text first) bytes k → IsFaultOrMemory result (faults.Shape k)
 
-leaves_tables : (first bytes : List ℕ) (k : ℕ) → line_ends first ≡ 0 → (front : List (List ℕ)) × (k ≡ 1 + length front) × LeavesAfter AreLines (table_lines first) bytes front → LeavesAt AreLines (table_text first) bytes k
+pub leaves_tables : (first bytes : List ℕ) (k : ℕ) → line_ends first ≡ 0 → (front : List (List ℕ)) × (k ≡ 1 + length front) × LeavesAfter AreLines (table_lines first) bytes front → LeavesAt AreLines (table_text first) bytes k
 leaves_tables first bytes k one found =
     subst (λ (n : ℕ). LeavesAt AreLines (table_text first) bytes n) (sym found.1)
     (leaves_at AreLines (table_lines first) (λ ls al. (one, body_one_line ls al)) bytes found.0 found.2)

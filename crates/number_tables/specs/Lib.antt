@@ -3,3 +3,4 @@ pub mod Outcome
 pub mod Reading
 pub mod Leaving
 pub mod Due
+pub mod Passing

@@ -4,6 +4,7 @@
 mod fault;
 pub mod laws;
 mod line;
+mod lines;
 mod reader;
 pub mod spelling;
 mod word;
@@ -11,5 +12,6 @@ mod writer;
 
 pub use fault::TableFault;
 pub use line::NumLine;
+pub use lines::{TableLines, pass_over_table};
 pub use reader::table;
 pub use writer::print_table;

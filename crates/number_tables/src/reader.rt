@@ -46,7 +46,7 @@ fn begins_with_digit(bytes: &[u8]) -> bool
 }
 
 // Whether the last line stands next.
-fn is_end_next(bytes: &[u8]) -> bool
+pub(crate) fn is_end_next(bytes: &[u8]) -> bool
     ensures { result ≡ begins_with_end bytes.now }
 {
     bytes.starts_with(b"end\n")
@@ -103,7 +103,7 @@ fn word_line<'a>(r: &mut Reader<Bytes<'a>>, alloc: Global) -> Result<NumLine, St
 
 // A line of a table.
 #[tactic(auto, unfolding(crate::specs::Reading::read_line))]
-fn line<'a>(r: &mut Reader<Bytes<'a>>, alloc: Global) -> Result<NumLine, Stop>
+pub(crate) fn line<'a>(r: &mut Reader<Bytes<'a>>, alloc: Global) -> Result<NumLine, Stop>
     ensures takes { Takes r.old r.new (Reads result) read_line }
 {
     if begins_with_digit(r.source().left()) {

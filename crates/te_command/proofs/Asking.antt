@@ -164,7 +164,8 @@ asked_next (reads A kind file next) before now mid rest x (inr (value, then, (by
     let (k, up) = along_begins (next value) then now along in
     go (λ from. asked_next (next value) then now mid rest x along from is) k up (fronts then mid k (x ∷ rest) (sym up ∙ is))
   where
-    go : (Begins then mid → AsksNext (next value) then mid x.name x.at) → (k : List Read) → now ≡ then ++ k → ((d : List Read) × (mid ≡ then ++ d)) ⊎ ((d : List Read) × (then ≡ mid ++ d)) →
+    go : (Begins then mid → AsksNext (next value) then mid x.name x.at) → (k : List Read) → now ≡ then ++ k →
+        ((d : List Read) × (mid ≡ then ++ d)) ⊎ ((d : List Read) × (then ≡ mid ++ d)) →
         AsksNext (reads A kind file next) before mid x.name x.at
     go later k up (inl (d, from)) = inr (value, then, (bytes, is_read, few, gives), later (d, from))
     go later k up (inr ([], from)) = inr (value, then, (bytes, is_read, few, gives), later (begins_itself then mid (from ∙ append-nil mid)))

@@ -37,8 +37,18 @@ pub adds_parts : (content : List ℕ → Option (List ℕ)) (old mid new : List 
 adds_parts content old mid new (a, first) (m, next) adds =
     let whole : adds.more ≡ a ++ m =
     append_cancel_left old adds.more (a ++ m) (sym adds.is ∙ next ∙ ap (λ made. made ++ m) first ∙ append_assoc old a m) in (
-      record { more = a; is = first; pieces = All-same (IsOfTold content) a (take (length a) adds.more) (first_more a m adds.more whole) (All-take (IsOfTold content) (length a) adds.more adds.pieces) },
-      record { more = m; is = next; pieces = All-same (IsOfTold content) m (drop (length a) adds.more) (last_more a m adds.more whole) (All-drop (IsOfTold content) (length a) adds.more adds.pieces) },
+      record {
+        more = a;
+        is = first;
+        pieces = All-same (IsOfTold content) a (take (length a) adds.more) (first_more a m adds.more whole)
+            (All-take (IsOfTold content) (length a) adds.more adds.pieces);
+      },
+      record {
+        more = m;
+        is = next;
+        pieces = All-same (IsOfTold content) m (drop (length a) adds.more) (last_more a m adds.more whole)
+            (All-drop (IsOfTold content) (length a) adds.more adds.pieces);
+      },
     )
 
 adds_up_to : (content : List ℕ → Option (List ℕ)) (old new last : List Read) → new ≡ last → Adds content old last → Adds content old new

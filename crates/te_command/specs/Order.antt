@@ -4,8 +4,8 @@ use Rattle.te_ports.specs.Record.{Read, pass, HasGiven, IsBegun}
 use Rattle.te_command.specs.Files.{given_passes}
 use Rattle.te_command.specs.Reading.{Reading, answers, reads, GivesIn}
 
--- what was read between two times is passes over the files, in their order: each came to the end of its file and gave the value with
--- which the reading goes on, but for the last, which was begun
+-- what was read between two times is passes over the files in their order, and nothing else: each came to the end of its file and gave
+-- the value with which the reading goes on, but for the last, which was begun
 abbrev pub ReadsAlong : Reading → List Read → List Read → Type 0
 ReadsAlong (answers a) before now = now ≡ before
 ReadsAlong (reads A kind file next) before now =

@@ -1,0 +1,27 @@
+-- Tables that are read line by line.
+use Rattle.std.specs.Prelude.{◌≡◌, ℕ, ◌+◌, List, [], ◌∷◌, length, Option, Some, None, Result, Ok, Err}
+use Rattle.cert_text.specs.declared.fault.Stop.{Stop}
+use Rattle.cert_text.specs.declared.fault.Stop.TheVariants as stops
+use Rattle.cert_text.specs.Place.{Place}
+use Rattle.number_tables.specs.declared.fault.TableFault.{TableFault}
+use Rattle.number_tables.specs.declared.fault.TableFault.TheVariants as faults
+use Rattle.number_tables.specs.declared.line.NumLine.{NumLine}
+use Rattle.number_tables.specs.declared.lines.TableLines.{TableLines}
+use Rattle.number_tables.specs.Leaving.{LeavesAfter, body_lines}
+use Rattle.number_tables.specs.Table.{AreLines, file_of}
+
+-- the bytes from this place are a file of some lines, or leave all such files at the line of the fault
+abbrev pub PassesLines : {X : Type 0} → (List NumLine → List (List ℕ)) → Result X Stop → Place → Type 0
+PassesLines lines_of (Ok x) p = (ls : List NumLine) × AreLines ls × (p.rest ≡ file_of (lines_of ls))
+PassesLines lines_of (Err (stops.Shape k)) p = (front : List (List ℕ)) × (k ≡ p.line + length front) × LeavesAfter AreLines lines_of p.rest front
+PassesLines lines_of (Err stops.Memory) p = Unit {0}
+
+-- these lines and the end are what is left
+abbrev pub StandsBefore : TableLines → List NumLine → Type 0
+StandsBefore lines ls = lines.reader.source.bytes.now ≡ file_of (body_lines ls)
+
+-- the next of these lines, or that there is none, or want of memory
+abbrev pub GivesNext : Result (Option NumLine) TableFault → TableLines → List NumLine → Type 0
+GivesNext (Ok None) after ls = ls ≡ []
+GivesNext (Ok (Some l)) after ls = (more : List NumLine) × (ls ≡ l ∷ more) × StandsBefore after more
+GivesNext (Err fault) after ls = fault ≡ faults.Memory
