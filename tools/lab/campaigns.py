@@ -17,6 +17,7 @@ from .folders import write_files
 
 # How many cases one process takes at a time, how often a case is tried to make it smaller, and the bytes that are tried so at most.
 TOGETHER, TRIES, TRIED_BYTES = 20, 400, 2_000_000_000
+UNJUDGED = "not judged"
 
 
 class Record:
@@ -63,7 +64,11 @@ class Campaign:
         for name in os.listdir(folder):
             os.remove(os.path.join(folder, name))
         write_files(folder, files)
-        return self.kind.judge(files, folder, number)
+        try:
+            return self.kind.judge(files, folder, number)
+        # A million cases do not end at one of which the second reader makes nothing.
+        except Exception as error:
+            return UNJUDGED, [f"{type(error).__name__}: {error}"]
 
     def of_case(self, number):
         """The word of a case and what is wrong; one that differs is kept, and made smaller."""

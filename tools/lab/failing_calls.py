@@ -133,7 +133,7 @@ def faults_of_place(library, words, folder, own, failure, place):
     is_past = place > own.counts[failure.kind]
     judge = as_it_was if is_past else failure.judge
     faults = [] if judge(own.told, got.told) else [f"status {got.status}, {got.out[:60]!r}, {got.err!r}"]
-    if got.status is not None and bool(got.counts.get("failed")) == is_past:
+    if got.counts and bool(got.counts["failed"]) == is_past:
         faults.append("a call failed that was not to be made" if is_past else "no call failed")
     return [f"{failure.name}, call {place}: {fault}" for fault in faults]
 

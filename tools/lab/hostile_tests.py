@@ -104,8 +104,10 @@ def faults_of_silence():
     with tempfile.TemporaryDirectory() as work, program_that_answers(silent):
         for kind in (drawn_certificates, drawn_folders, answers):
             campaign = campaigns.Campaign(kind, 7, work, work)
-            found = [bool(campaign.judged(kind.case(7, number), number)[1]) for number in range(DRAWN)]
-            faults += [f"{kind.__name__}: nothing is wrong with {found.count(False)} of {DRAWN}"] * (not all(found) and kind is not drawn_folders or not any(found))
+            found = [campaign.judged(kind.case(7, number), number) for number in range(DRAWN)]
+            right = sum(not wrong for _, wrong in found)
+            faults += [f"{kind.__name__}: nothing is wrong with {right} of {DRAWN}"] * (right > 0)
+            faults += [f"{kind.__name__}: {wrong[0]}" for word, wrong in found if word == campaigns.UNJUDGED]
         found = large_certificates.judge(large_certificates.case(7, 1, most=9), work, 1)
         faults += [f"a large certificate: {found[0]}"] * (not found[1])
     return faults
