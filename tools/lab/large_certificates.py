@@ -15,7 +15,7 @@ from .drawn_certificates import NAME
 
 SEPARATOR, CASES_OF_CAMPAIGN = CERTIFICATE.separator, 200
 # What a call may take; how many are drawn of one network; and the nodes by format: a file grows with the third power of them.
-SECONDS, OF_ONE, NODES = 60, 8, {1: (36, 64), 2: (36, 112)}
+SECONDS, OF_ONE, NODES = 60, 8, {1: (41, 64), 2: (41, 125)}
 
 
 def writer():
