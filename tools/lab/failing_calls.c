@@ -2,7 +2,7 @@
  *
  * FAILING_CALLS in the environment has six numbers: which calls fail (-1: none), the first and the last of them that does, counted from 1, the
  * error that they leave (0: a write of no bytes), the most bytes that a read or a write may take (0: any number), and the descriptor to which the
- * counts go at the end: those of all calls by their kinds, and that of those that failed.
+ * counts go at the end: those of all calls by their kinds, that of those that failed, and how many requests for memory came before each `open`.
  */
 typedef unsigned long size;
 typedef long ssize;
@@ -15,7 +15,8 @@ extern int *__errno_location(void);
 enum kind { MEMORY, OPEN, SEEK, READ, OUT, ERR, FAILED, KINDS };
 
 static long chosen = -1, first, last, error, most, report = -1;
-static long counts[KINDS];
+enum { OPENS = 8 };
+static struct { long counts[KINDS], requests[OPENS]; } made;
 static int is_at_work;
 
 /* The C library's own function of this name. */
@@ -33,16 +34,16 @@ __attribute__((constructor)) static void begin(void) {
 __attribute__((destructor)) static void end(void) {
     ssize (*real)(int, const void *, size) = (ssize (*)(int, const void *, size))next("write");
     if (report >= 0)
-        real((int)report, counts, sizeof counts);
+        real((int)report, &made, sizeof made);
 }
 
 static int fails(enum kind kind) {
     if (!is_at_work)
         return 0;
-    long number = ++counts[kind];
+    long number = ++made.counts[kind];
     if (kind != chosen || number < first || number > last)
         return 0;
-    counts[FAILED]++;
+    made.counts[FAILED]++;
     *__errno_location() = (int)error;
     return 1;
 }
@@ -67,6 +68,8 @@ int open(const char *name, int flags, int mode) {
     static int (*real)(const char *, int, ...);
     if (!real)
         real = (int (*)(const char *, int, ...))next("open");
+    if (is_at_work && made.counts[OPEN] < OPENS)
+        made.requests[made.counts[OPEN]] = made.counts[MEMORY];
     return fails(OPEN) ? -1 : real(name, flags, mode);
 }
 

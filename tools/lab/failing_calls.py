@@ -12,7 +12,8 @@ from .program import PROGRAM, Answer
 SOURCE = os.path.join(os.path.dirname(os.path.abspath(__file__)), "failing_calls.c")
 # The calls that are counted, in the order of the library, and at the end those that failed.
 KINDS = ("memory", "open", "lseek", "read", "out", "err", "failed")
-NUMBERS = struct.Struct(f"{len(KINDS)}q")
+# Behind the counts stand how many requests for memory came before each of the first files that were opened.
+NUMBERS, OPENS = struct.Struct(f"{len(KINDS) + 8}q"), len(KINDS)
 NEVER, ALWAYS = -1, 2**62
 # What a call may take before it is ended. How often the program makes a call again that a signal interrupted.
 SECONDS, TRIES = 120, 100
@@ -40,6 +41,11 @@ def without_memory(own, got):
 
 def unread(_, got):
     return got == (4, b"", "fault: read\n")
+
+
+def unopened(own, got):
+    """Without memory to open a file it is one that could not be read."""
+    return without_memory(own, got) or unread(own, got)
 
 
 def cut_short(own, got):
@@ -92,11 +98,13 @@ def build(folder):
 
 
 class Counted(Answer):
-    """An answer, and how many calls of each kind were made; none where the program did not come to its end."""
+    """An answer, how many calls of each kind were made, none where the program did not come to its end, and the requests for memory by which
+    the system's library opened a file.
+    """
 
-    def __init__(self, out, err, status, counts):
+    def __init__(self, out, err, status, numbers=()):
         super().__init__(out, err, status)
-        self.counts = counts
+        self.counts, self.requests_to_open = dict(zip(KINDS, numbers)), set(numbers[OPENS:]) - {0}
 
     @property
     def told(self):
@@ -115,10 +123,10 @@ def answer(library, words, folder, numbers=(NEVER, 0, 0, 0, 0)):
             except subprocess.TimeoutExpired:
                 ran.kill()
                 ran.communicate()
-                return Counted(b"", "", None, {})
+                return Counted(b"", "", None)
         counts.seek(0)
         found = counts.read()
-    made = dict(zip(KINDS, NUMBERS.unpack(found))) if len(found) == NUMBERS.size else {}
+    made = NUMBERS.unpack(found) if len(found) == NUMBERS.size else ()
     return Counted(out, err.decode("utf-8", "replace"), ran.returncode, made)
 
 
@@ -131,7 +139,8 @@ def faults_of_place(library, words, folder, own, failure, place):
     """What is wrong where this call of the system fails, and those after it that have to."""
     got = answer(library, words, folder, failure.numbers(place))
     is_past = place > own.counts[failure.kind]
-    judge = as_it_was if is_past else failure.judge
+    is_to_open = failure.kind == "memory" and place in own.requests_to_open
+    judge = as_it_was if is_past else unopened if is_to_open else failure.judge
     faults = [] if judge(own.told, got.told) else [f"status {got.status}, {got.out[:60]!r}, {got.err!r}"]
     if got.counts and bool(got.counts["failed"]) == is_past:
         faults.append("a call failed that was not to be made" if is_past else "no call failed")
