@@ -7,6 +7,7 @@ import reference_check
 
 from . import polish, program
 from .calls import COLUMNS
+from .campaigns import SECONDS, faults_of_time
 from .changes import INPUT
 from .drawn_networks import NETWORK, PLAN, experiment
 from .drawn_folders import reading_in
@@ -14,8 +15,8 @@ from .folders import write_files
 from .polish import up
 
 SEPARATOR, CASES_OF_CAMPAIGN = INPUT.separator, 10_000
-# What a call may take, and the greatest links times pairs of which the polish is reckoned anew.
-SECONDS, POLISHED = 15, 60
+# The greatest product of links and pairs of which the polish is reckoned anew.
+POLISHED = 60
 # The nodes, links, steps and pairs of a network at most, and how often it is of such a size.
 SIZES = [((5, 12, 4, 6), 70), ((12, 40, 4, 12), 22), ((40, 160, 3, 20), 6), ((128, 1024, 2, 20), 2)]
 
@@ -45,8 +46,8 @@ def judge(files, folder, _):
 def twice(words, folder):
     """What a call answers, and what is wrong where the second one answers otherwise."""
     first, second = (program.answer(words, folder, SECONDS) for _ in range(2))
-    faults = [] if (first.status, first.out, first.err) == (second.status, second.out, second.err) else [f"{words[0]}: another answer the second time"]
-    return first, faults + ([f"{words[0]}: at work after {SECONDS} seconds"] if first.status is None else [])
+    is_other = (first.status, first.out, first.err) != (second.status, second.out, second.err)
+    return first, faults_of_time(words, first) + [f"{words[0]}: another answer the second time"] * is_other
 
 
 def report_of(folder, reading):

@@ -18,6 +18,14 @@ from .folders import write_files
 # How many cases one process takes at a time, how often a case is tried to make it smaller, and the bytes that are tried so at most.
 TOGETHER, TRIES, TRIED_BYTES = 20, 400, 2_000_000_000
 UNJUDGED = "not judged"
+# What a call may take of the processor, and of time on a machine that does much besides.
+PROCESSOR_SECONDS, SECONDS = 15, 600
+
+
+def faults_of_time(words, got):
+    """What is wrong with a call that takes long."""
+    is_late = got.status is None or got.seconds > PROCESSOR_SECONDS
+    return [f"{words[0]}: {got.seconds:.0f} seconds of the processor, or no end"] if is_late else []
 
 
 class Record:

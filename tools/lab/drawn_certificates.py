@@ -7,12 +7,13 @@ import random
 import reference_check
 
 from . import certificates, program
+from .campaigns import SECONDS
 from .changes import CERTIFICATE, changed_often, with_number
 from .polish import Made, up
 
 NAME, SEPARATOR, CASES_OF_CAMPAIGN = "c", CERTIFICATE.separator, 1_000_000
-# What a call may take; of how many certificates one is converted; how many of one network are drawn.
-SECONDS, CONVERTED, OF_ONE = 15, 8, 16
+# Of how many certificates one is converted; how many of one network are drawn.
+CONVERTED, OF_ONE = 8, 16
 NO_PAIRS = "nodes 2\na\nb\nlinks 1\n0 1 10 1\npairs 0\n"
 SAMPLES = [
     it.encode() for it in (

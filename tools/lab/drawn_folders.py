@@ -5,13 +5,14 @@ import os
 import random
 
 from . import program
+from .campaigns import SECONDS, faults_of_time
 from .cases import GOOD
 from .changes import INPUT, changed_often
 from .drawn_networks import PLAN, experiment
 from .more_cases import CASES
 from .reading import NotRegular, Reading, outcome
 
-SEPARATOR, CASES_OF_CAMPAIGN, SECONDS = INPUT.separator, 100_000, 15
+SEPARATOR, CASES_OF_CAMPAIGN = INPUT.separator, 100_000
 HEADER = b"scheme,step,offered,"
 
 
@@ -57,4 +58,5 @@ def judge(_, folder, number):
         wrong = (got.status, got.err) != (0, "") or not got.out.startswith(HEADER) or got.out.count(b"\n") != lines
     else:
         wrong = not (got.status == 0 and got.err == "" and got.out.endswith(b"\nend\n") or got.status == 7 and got.err.startswith("no path: "))
-    return label, [f"{words[0]}: want {line or 'an answer'!r}, status {status}, got {got.err!r}, status {got.status}"] * wrong
+    said = f"{words[0]}: want {line or 'an answer'!r}, status {status}, got {got.err!r}, status {got.status}"
+    return label, [said] * wrong + faults_of_time(words, got)

@@ -10,12 +10,13 @@ import random
 import reference_check
 
 from . import program
+from .campaigns import SECONDS, faults_of_time
 from .changes import CERTIFICATE, changed, with_number
 from .drawn_certificates import NAME
 
 SEPARATOR, CASES_OF_CAMPAIGN = CERTIFICATE.separator, 200
-# What a call may take; how many are drawn of one network; and the nodes by format: a file grows with the third power of them.
-SECONDS, OF_ONE, NODES = 60, 8, {1: (41, 64), 2: (41, 125)}
+# How many are drawn of one network, and the nodes by format: a file grows with the third power of them.
+OF_ONE, NODES = 8, {1: (41, 64), 2: (41, 125)}
 
 
 def writer():
@@ -45,7 +46,8 @@ def case(seed, number, most=None):
 
 
 def judge(files, folder, _):
-    got = program.answer(["check", NAME], folder, SECONDS)
+    words = ["check", NAME]
+    got = program.answer(words, folder, SECONDS)
     said, want = (got.out.decode("utf-8", "replace"), got.err, got.status), reference_check.check(NAME, files[NAME])
     label = {0: "yes", 1: "no"}.get(want[2], "rule" if "rule" in want[1] else "shape")
-    return label, [] if said == want else [f"check: want {want}, got {said}"]
+    return label, ([] if said == want else [f"check: want {want}, got {said}"]) + faults_of_time(words, got)
