@@ -115,7 +115,7 @@ def publication_of(folder, plan, reading):
     if (got.status, got.err) != (0, ""):
         return None, faults + [f"publish: status {got.status}, {got.err!r}"]
     write_files(folder, {"c": got.out})
-    want = reference_check.check("c", got.out)
+    want = reference_check.check_bytes("c", got.out)
     if want[2] != 0:
         return None, faults + [f"publish: the second checker says {want}"]
     certificate = reference_check.read(got.out)

@@ -158,7 +158,7 @@ def told(words, folder):
 def judge(files, folder, number):
     """What the second checker says of the case, and what is wrong with the program's answers."""
     data = files[NAME]
-    want, got = reference_check.check(NAME, data), told(["check", NAME], folder)
+    want, got = reference_check.check_bytes(NAME, data), told(["check", NAME], folder)
     faults = [] if got == want else [f"check: want {want}, got {got}"]
     if number % CONVERTED == 0:
         faults += faults_of_converted(data, want, told(["convert", NAME], folder))
@@ -177,5 +177,5 @@ def faults_of_converted(data, want, got):
         return ["convert: another text of the second format"]
     is_box = want[2] == 0 and " set margin " in want[0]
     answer = (want[0].partition(" set ")[0] + " set box\n", "", 0) if is_box else want
-    again = reference_check.check(NAME, text)
+    again = reference_check.check_bytes(NAME, text)
     return [] if again == answer else [f"convert: of its text {again} is said, and not {answer}"]

@@ -44,7 +44,7 @@ def faults_of_judges():
 def reason_of(kind, data):
     """The reason of the second readers for a file of a row of `limits`, or none."""
     if kind == "certificate":
-        return reference_check.check("c", data)[1].partition("refused: c: ")[2].rstrip("\n") or None
+        return reference_check.check_bytes("c", data)[1].partition("refused: c: ")[2].rstrip("\n") or None
     net = read_topology(limits.GOOD["t"].encode())[0]
     readers = {"topology": read_topology, "plan": read_plan, "matrices": lambda it: read_matrices(it, net), "failures": lambda it: read_failures(it, 1, 1)}
     faults = readers[kind](data)[1]
@@ -76,9 +76,9 @@ def faults_of_drawn():
     faults, statuses = [], []
     for number in range(0, 4 * drawn_certificates.OF_ONE, 2):
         head, ratio, rest = drawn_certificates.drawn(7, number // drawn_certificates.OF_ONE)
-        told = reference_check.check("c", f"{head}ratio {ratio}\n{rest}".encode())
+        told = reference_check.check_bytes("c", f"{head}ratio {ratio}\n{rest}".encode())
         faults += [f"network {number // drawn_certificates.OF_ONE}: {told}"] * (told[2] != 0)
-        statuses.append(reference_check.check("c", drawn_certificates.case(7, number)["c"])[2])
+        statuses.append(reference_check.check_bytes("c", drawn_certificates.case(7, number)["c"])[2])
     faults += [f"{statuses.count(it)} of {len(statuses)} have status {it}" for it in (0, 1, 3) if 5 * statuses.count(it) < len(statuses)]
     cases = [(kind.case(7, number), kind.case(7, number)) for kind in (drawn_certificates, drawn_folders, answers) for number in range(4)]
     return faults + ["another case the second time"] * any(first != second for first, second in cases)

@@ -48,6 +48,6 @@ def case(seed, number, most=None):
 def judge(files, folder, _):
     words = ["check", NAME]
     got = program.answer(words, folder, SECONDS)
-    said, want = (got.out.decode("utf-8", "replace"), got.err, got.status), reference_check.check(NAME, files[NAME])
+    said, want = (got.out.decode("utf-8", "replace"), got.err, got.status), reference_check.check_bytes(NAME, files[NAME])
     label = {0: "yes", 1: "no"}.get(want[2], "rule" if "rule" in want[1] else "shape")
     return label, ([] if said == want else [f"check: want {want}, got {said}"]) + faults_of_time(words, got)
