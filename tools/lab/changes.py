@@ -34,7 +34,7 @@ def with_other_byte(draw, data, alphabet):
     return data[:at] + draw.choice(alphabet.pieces) + data[at + 1 :]
 
 
-def cut(draw, data, _):
+def beginning(draw, data, _):
     return data[: draw.randrange(len(data) + 1)]
 
 
@@ -48,7 +48,7 @@ def with_lines(draw, data, _):
     return b"\n".join(draw.choice((rest, lines[:last] + lines[first:], rest[:at] + part + rest[at:])))
 
 
-def token_changed(draw, data, separator, change):
+def with_changed_token(draw, data, separator, change):
     """The data after a change of one token of one line."""
     start = data.rfind(b"\n", 0, draw.randrange(len(data) + 1)) + 1
     end = data.find(b"\n", start)
@@ -60,7 +60,7 @@ def token_changed(draw, data, separator, change):
 
 
 def with_token(draw, data, alphabet):
-    return token_changed(draw, data, alphabet.separator, lambda _: draw.choice(alphabet.tokens))
+    return with_changed_token(draw, data, alphabet.separator, lambda _: draw.choice(alphabet.tokens))
 
 
 def with_number(draw, data, alphabet):
@@ -71,21 +71,21 @@ def with_number(draw, data, alphabet):
             return draw.choice(alphabet.tokens)
         return b"%d" % max(0, int(token) + draw.choice((-1, 1, 2)))
 
-    return token_changed(draw, data, alphabet.separator, change)
+    return with_changed_token(draw, data, alphabet.separator, change)
 
 
-CHANGES = (with_piece, without_byte, with_other_byte, cut, with_lines, with_lines, with_token, with_number)
+CHANGES = (with_piece, without_byte, with_other_byte, beginning, with_lines, with_lines, with_token, with_number)
 
 
-def changed(draw, data, alphabet):
+def with_change(draw, data, alphabet):
     """The file after one small change."""
     return draw.choice(CHANGES)(draw, data, alphabet)
 
 
-def changed_often(draw, data, alphabet):
+def with_changes(draw, data, alphabet):
     """The file after one change, or a few."""
     for _ in range(draw.choice((1, 1, 1, 2, 3))):
-        data = changed(draw, data, alphabet)
+        data = with_change(draw, data, alphabet)
     return data
 
 

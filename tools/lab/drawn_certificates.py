@@ -8,7 +8,7 @@ import reference_check
 
 from . import certificates, program
 from .campaigns import SECONDS
-from .changes import CERTIFICATE, changed_often, with_number
+from .changes import CERTIFICATE, with_changes, with_number
 from .polish import Made, up
 
 NAME, SEPARATOR, CASES_OF_CAMPAIGN = "c", CERTIFICATE.separator, 1_000_000
@@ -67,12 +67,12 @@ def set_of(draw, format_number, pairs):
     bounds = sorted(draw.randint(1, draw.choice((3, 1000))) for _ in range(2))
     amounts = [draw.choice((0, 1, 10, draw.randint(0, 1000), 2**32)) for _ in range(pairs)]
     if format_number == 1:
-        return f"set margin {bounds[1]} {bounds[0]}\nbase{spelled(amounts)}\n"
+        return f"set margin {bounds[1]} {bounds[0]}\nbase{numbers_text(amounts)}\n"
     most = [it + draw.choice((0, 0, it, draw.randint(0, 1000))) for it in amounts]
-    return f"set box\nlower{spelled(amounts)}\nupper{spelled(most)}\n"
+    return f"set box\nlower{numbers_text(amounts)}\nupper{numbers_text(most)}\n"
 
 
-def spelled(numbers):
+def numbers_text(numbers):
     return "".join(f" {it}" for it in numbers)
 
 
@@ -84,7 +84,7 @@ def head_of(draw):
         for dst in range(nodes):
             paths = paths_of(draw, links, src, dst) if src != dst and draw.randrange(2) else []
             if paths:
-                rows = "".join(f"{weight} {len(path)}{spelled(path)}\n" for weight, path in zip(weights_of(draw, len(paths)), paths))
+                rows = "".join(f"{weight} {len(path)}{numbers_text(path)}\n" for weight, path in zip(weights_of(draw, len(paths)), paths))
                 routes.append(f"{src} {dst} {len(paths)}\n{rows}")
     names = "".join(f"n{node}\n" for node in range(nodes))
     rows = "".join(f"{tail} {head} {capacity} {cost}\n" for tail, head, capacity, cost in links)
@@ -96,7 +96,7 @@ def potentials(made, weights, source):
     """The distances from a node by the weights, and the greatest of them for nodes out of reach."""
     found = made.least_paths(source, weights)
     greatest = max(length for length, _ in found.values())
-    return spelled(found.get(node, (greatest, []))[0] for node in range(len(made.cert["names"])))
+    return numbers_text(found.get(node, (greatest, []))[0] for node in range(len(made.cert["names"])))
 
 
 def block_of(draw, made, link):
@@ -106,16 +106,16 @@ def block_of(draw, made, link):
     a, b = made.a_and_b(link, weights)
     shares = made.shares(link, weights)
     sources = sorted({pair[0] for pair, share in zip(made.pairs, shares) if share[0] or made.bounds})
-    text = f"{link} {a} {b} {len(sources)}\n{spelled(weights)[1:]}\n"
+    text = f"{link} {a} {b} {len(sources)}\n{numbers_text(weights)[1:]}\n"
     text += "".join(f"{source}{potentials(made, weights, source)}\n" for source in sources)
     if made.bounds:
         rises = [up(b * share, reference_check.SHARE_UNIT) - distance for share, distance, _ in shares]
-        text += f"plus{spelled(max(it, 0) for it in rises)}\nminus{spelled(max(-it, 0) for it in rises)}\n"
+        text += f"plus{numbers_text(max(it, 0) for it in rises)}\nminus{numbers_text(max(-it, 0) for it in rises)}\n"
     return text, made.need(link, weights)
 
 
 @functools.lru_cache(maxsize=4)
-def drawn(seed, number):
+def drawn_certificate(seed, number):
     """A certificate that holds: its text up to the ratio, the ratio, and what follows."""
     draw = random.Random(f"{seed} network {number}")
     head = head_of(draw)
@@ -140,17 +140,17 @@ def slightly_wrong(draw, head, ratio, rest):
 def case(seed, number):
     """The files of a case: a third hold, a third are slightly wrong, and a third are changed somewhere."""
     draw = random.Random(f"{seed} certificate {number}")
-    head, ratio, rest = drawn(seed, number // OF_ONE)
+    head, ratio, rest = drawn_certificate(seed, number // OF_ONE)
     whole = f"{head}ratio {ratio + draw.choice((0, 0, 1, 1000))}\n{rest}".encode()
     how = draw.randrange(3)
     if how == 0:
         return {NAME: whole}
     if how == 1:
         return {NAME: slightly_wrong(draw, head, ratio, rest)}
-    return {NAME: changed_often(draw, draw.choice([whole, whole, draw.choice(SAMPLES)]), CERTIFICATE)}
+    return {NAME: with_changes(draw, draw.choice([whole, whole, draw.choice(SAMPLES)]), CERTIFICATE)}
 
 
-def told(words, folder):
+def answer_of(words, folder):
     got = program.answer(words, folder, SECONDS)
     return got.out.decode("utf-8", "replace"), got.err, got.status
 
@@ -158,10 +158,10 @@ def told(words, folder):
 def judge(files, folder, number):
     """What the second checker says of the case, and what is wrong with the program's answers."""
     data = files[NAME]
-    want, got = reference_check.check_bytes(NAME, data), told(["check", NAME], folder)
+    want, got = reference_check.check_bytes(NAME, data), answer_of(["check", NAME], folder)
     faults = [] if got == want else [f"check: want {want}, got {got}"]
     if number % CONVERTED == 0:
-        faults += faults_of_converted(data, want, told(["convert", NAME], folder))
+        faults += faults_of_converted(data, want, answer_of(["convert", NAME], folder))
     label = {0: "yes", 1: "no"}.get(want[2], "rule" if "rule" in want[1] else "shape")
     return label, faults
 

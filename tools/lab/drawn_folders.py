@@ -7,7 +7,7 @@ import random
 from . import program
 from .campaigns import SECONDS, faults_of_time
 from .cases import GOOD
-from .changes import INPUT, changed_often
+from .changes import INPUT, with_changes
 from .drawn_networks import PLAN, experiment
 from .more_cases import CASES
 from .reading import NotRegular, Reading, outcome
@@ -26,7 +26,7 @@ def case(seed, number):
         files = {name: text.encode() if isinstance(text, str) else text for name, text in files.items()}
     if draw.randrange(8):
         name = draw.choice(sorted(files))
-        files[name] = changed_often(draw, files[name] or b"", INPUT)
+        files[name] = with_changes(draw, files[name] or b"", INPUT)
     return files
 
 

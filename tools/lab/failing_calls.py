@@ -31,43 +31,43 @@ class Failure(collections.namedtuple("Failure", "kind error times judge", defaul
         return KINDS.index(self.kind), place, place + self.times - 1, self.error, 0
 
 
-def as_it_was(own, got):
+def is_as_it_was(own, got):
     return got == own
 
 
-def without_memory(own, got):
+def is_without_memory(own, got):
     return got in (own, (6, b"", "fault: memory\n"))
 
 
-def unread(_, got):
+def is_unread(_, got):
     return got == (4, b"", "fault: read\n")
 
 
-def unopened(own, got):
+def is_unopened(own, got):
     """Without memory to open a file it is one that could not be read."""
-    return without_memory(own, got) or unread(own, got)
+    return is_without_memory(own, got) or is_unread(own, got)
 
 
-def cut_short(own, got):
+def is_cut_short(own, got):
     """A beginning of the text and not all of it."""
     return (got[0], got[2]) == (5, "fault: write\n") and len(got[1]) < len(own[1]) and own[1].startswith(got[1])
 
 
-def without_message(own, got):
+def is_without_message(own, got):
     return got[:2] == own[:2] and own[2].startswith(got[2])
 
 
 READ_ERRORS = (errno.EIO, errno.ENOSPC, errno.EAGAIN)
 FAILURES = [
-    *(Failure("memory", errno.ENOMEM, times, without_memory) for times in (1, ALWAYS)),
-    *(Failure(kind, error, times, unread) for kind in ("open", "lseek", "read") for error in READ_ERRORS for times in (1, ALWAYS)),
+    *(Failure("memory", errno.ENOMEM, times, is_without_memory) for times in (1, ALWAYS)),
+    *(Failure(kind, error, times, is_unread) for kind in ("open", "lseek", "read") for error in READ_ERRORS for times in (1, ALWAYS)),
     # An `open` that a signal interrupts is made again until none does.
-    *(Failure("open", errno.EINTR, times, as_it_was) for times in (1, TRIES + 1)),
-    *(Failure(kind, errno.EINTR, times, as_it_was) for kind in ("lseek", "read", "out") for times in (1, TRIES - 1)),
-    *(Failure(kind, errno.EINTR, TRIES + 1, unread) for kind in ("lseek", "read")),
-    Failure("out", errno.EINTR, TRIES + 1, cut_short),
-    *(Failure("out", error, times, cut_short) for error in (*READ_ERRORS, 0) for times in (1, ALWAYS)),
-    *(Failure("err", error, times, without_message) for error in (*READ_ERRORS, 0, errno.EINTR) for times in (1, ALWAYS)),
+    *(Failure("open", errno.EINTR, times, is_as_it_was) for times in (1, TRIES + 1)),
+    *(Failure(kind, errno.EINTR, times, is_as_it_was) for kind in ("lseek", "read", "out") for times in (1, TRIES - 1)),
+    *(Failure(kind, errno.EINTR, TRIES + 1, is_unread) for kind in ("lseek", "read")),
+    Failure("out", errno.EINTR, TRIES + 1, is_cut_short),
+    *(Failure("out", error, times, is_cut_short) for error in (*READ_ERRORS, 0) for times in (1, ALWAYS)),
+    *(Failure("err", error, times, is_without_message) for error in (*READ_ERRORS, 0, errno.EINTR) for times in (1, ALWAYS)),
 ]
 # The most bytes of a read or a write.
 PIECES = (1, 7, 4095)
@@ -140,7 +140,7 @@ def faults_of_place(library, words, folder, own, failure, place):
     got = answer(library, words, folder, failure.numbers(place))
     is_past = place > own.counts[failure.kind]
     is_to_open = failure.kind == "memory" and place in own.requests_to_open
-    judge = as_it_was if is_past else unopened if is_to_open else failure.judge
+    judge = is_as_it_was if is_past else is_unopened if is_to_open else failure.judge
     faults = [] if judge(own.told, got.told) else [f"status {got.status}, {got.out[:60]!r}, {got.err!r}"]
     if got.counts and bool(got.counts["failed"]) == is_past:
         faults.append("a call failed that was not to be made" if is_past else "no call failed")

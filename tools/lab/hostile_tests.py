@@ -16,24 +16,24 @@ MOST_READ, DRAWN = 300, 24
 OWN = (0, b"text\n", "")
 # A judge of a failed call, an answer, and whether it may be left of a call that answers `OWN`.
 JUDGED = [
-    (failing_calls.as_it_was, OWN, True),
-    (failing_calls.as_it_was, (0, b"text", ""), False),
-    (failing_calls.without_memory, OWN, True),
-    (failing_calls.without_memory, (6, b"", "fault: memory\n"), True),
-    (failing_calls.without_memory, (6, b"t", "fault: memory\n"), False),
-    (failing_calls.without_memory, (-11, b"", ""), False),
-    (failing_calls.unread, (4, b"", "fault: read\n"), True),
-    (failing_calls.unread, OWN, False),
-    (failing_calls.unread, (4, b"t", "fault: read\n"), False),
-    (failing_calls.unopened, (4, b"", "fault: read\n"), True),
-    (failing_calls.unopened, (6, b"", "fault: memory\n"), True),
-    (failing_calls.unopened, (5, b"", "fault: write\n"), False),
-    (failing_calls.cut_short, (5, b"te", "fault: write\n"), True),
-    (failing_calls.cut_short, (5, b"text\n", "fault: write\n"), False),
-    (failing_calls.cut_short, (5, b"tx", "fault: write\n"), False),
-    (failing_calls.cut_short, (0, b"te", ""), False),
-    (failing_calls.without_message, OWN, True),
-    (failing_calls.without_message, (5, b"text\n", ""), False),
+    (failing_calls.is_as_it_was, OWN, True),
+    (failing_calls.is_as_it_was, (0, b"text", ""), False),
+    (failing_calls.is_without_memory, OWN, True),
+    (failing_calls.is_without_memory, (6, b"", "fault: memory\n"), True),
+    (failing_calls.is_without_memory, (6, b"t", "fault: memory\n"), False),
+    (failing_calls.is_without_memory, (-11, b"", ""), False),
+    (failing_calls.is_unread, (4, b"", "fault: read\n"), True),
+    (failing_calls.is_unread, OWN, False),
+    (failing_calls.is_unread, (4, b"t", "fault: read\n"), False),
+    (failing_calls.is_unopened, (4, b"", "fault: read\n"), True),
+    (failing_calls.is_unopened, (6, b"", "fault: memory\n"), True),
+    (failing_calls.is_unopened, (5, b"", "fault: write\n"), False),
+    (failing_calls.is_cut_short, (5, b"te", "fault: write\n"), True),
+    (failing_calls.is_cut_short, (5, b"text\n", "fault: write\n"), False),
+    (failing_calls.is_cut_short, (5, b"tx", "fault: write\n"), False),
+    (failing_calls.is_cut_short, (0, b"te", ""), False),
+    (failing_calls.is_without_message, OWN, True),
+    (failing_calls.is_without_message, (5, b"text\n", ""), False),
 ]
 
 
@@ -75,7 +75,7 @@ def faults_of_drawn():
     """Drawn certificates hold, and of their cases at least a fifth are yes and a fifth no; the same case is drawn again the same."""
     faults, statuses = [], []
     for number in range(0, 4 * drawn_certificates.OF_ONE, 2):
-        head, ratio, rest = drawn_certificates.drawn(7, number // drawn_certificates.OF_ONE)
+        head, ratio, rest = drawn_certificates.drawn_certificate(7, number // drawn_certificates.OF_ONE)
         told = reference_check.check_bytes("c", f"{head}ratio {ratio}\n{rest}".encode())
         faults += [f"network {number // drawn_certificates.OF_ONE}: {told}"] * (told[2] != 0)
         statuses.append(reference_check.check_bytes("c", drawn_certificates.case(7, number)["c"])[2])

@@ -11,7 +11,7 @@ import reference_check
 
 from . import program
 from .campaigns import SECONDS, faults_of_time
-from .changes import CERTIFICATE, changed, with_number
+from .changes import CERTIFICATE, with_change, with_number
 from .drawn_certificates import NAME
 
 SEPARATOR, CASES_OF_CAMPAIGN = CERTIFICATE.separator, 200
@@ -28,7 +28,7 @@ def writer():
 
 
 @functools.lru_cache(maxsize=1)
-def drawn(seed, number, most=None):
+def drawn_certificate(seed, number, most=None):
     """A certificate that holds, of a drawn size, or of so many nodes at most."""
     draw = random.Random(f"{seed} large network {number}")
     format_number = draw.choice((1, 2))
@@ -41,8 +41,8 @@ def drawn(seed, number, most=None):
 def case(seed, number, most=None):
     """One of six as it is, three with a number that is slightly wrong, and two changed somehow."""
     draw = random.Random(f"{seed} large {number}")
-    data, how = drawn(seed, number // OF_ONE, most), draw.randrange(6)
-    return {NAME: data if how == 0 else with_number(draw, data, CERTIFICATE) if how < 4 else changed(draw, data, CERTIFICATE)}
+    data, how = drawn_certificate(seed, number // OF_ONE, most), draw.randrange(6)
+    return {NAME: data if how == 0 else with_number(draw, data, CERTIFICATE) if how < 4 else with_change(draw, data, CERTIFICATE)}
 
 
 def judge(files, folder, _):

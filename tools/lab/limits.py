@@ -44,18 +44,18 @@ class Filled(collections.namedtuple("Filled", "head unit size")):
         return (self.head + self.unit * (size // len(self.unit) + 1))[: min(size, self.size)]
 
 
-def filled(head, unit, size):
+def filled_file(head, unit, size):
     return Filled(head if isinstance(head, bytes) else head.encode(), unit, size)
 
 
 def whole(data):
-    return filled(data, b"\0", len(data if isinstance(data, bytes) else data.encode()))
+    return filled_file(data, b"\0", len(data if isinstance(data, bytes) else data.encode()))
 
 
 def at_limit(what, kind, head, unit, limit, reason):
     """A file up to the limit of its kind, and one of a byte more."""
-    yield f"{what}, up to the limit", kind, filled(head, unit, limit), reason
-    yield f"{what}, one byte past it", kind, filled(head, unit, limit + 1), "too long"
+    yield f"{what}, up to the limit", kind, filled_file(head, unit, limit), reason
+    yield f"{what}, one byte past it", kind, filled_file(head, unit, limit + 1), "too long"
 
 
 def certificates():
@@ -64,8 +64,8 @@ def certificates():
     for what, text, limit in (("first format", SMALLEST, FIRST_LIMIT), ("second format", SMALLEST_IN_SECOND, SECOND_LIMIT)):
         yield from at_limit(f"line feeds after the end, {what}", "certificate", text, b"\n", limit, "shape at line 17")
         yield from at_limit(f"no links and line feeds, {what}", "certificate", text.replace("links 1", "links 0"), b"\n", limit, "shape at line 5")
-    yield "digits on the first line", "certificate", filled("", b"7", FIRST_LIMIT), "shape at line 1"
-    yield "digits of a ratio", "certificate", filled(SMALLEST.partition("ratio 1000000")[0] + "ratio ", b"7", FIRST_LIMIT), "shape at line 11"
+    yield "digits on the first line", "certificate", filled_file("", b"7", FIRST_LIMIT), "shape at line 1"
+    yield "digits of a ratio", "certificate", filled_file(SMALLEST.partition("ratio 1000000")[0] + "ratio ", b"7", FIRST_LIMIT), "shape at line 11"
 
 
 def inputs():
@@ -73,14 +73,14 @@ def inputs():
         yield from at_limit("blanks" if kind == "plan" else "line feeds", kind, GOOD[name], b" " if kind == "plan" else b"\n", INPUT, None)
     for what, unit in (("commas", b","), ("quotes", b'"'), ("line feeds", b"\n"), ("bytes of 255", b"\xff")):
         for kind, header in (("topology", HEADER), ("matrices", DEMANDS), ("failures", OUTAGES)):
-            yield f"{what} alone", kind, filled("", unit, INPUT), "header"
+            yield f"{what} alone", kind, filled_file("", unit, INPUT), "header"
             reason = "fields at row 1" if unit != b"\n" else "empty" if kind == "topology" else None
-            yield f"{what} below the header", kind, filled(header, unit, INPUT), reason
+            yield f"{what} below the header", kind, filled_file(header, unit, INPUT), reason
 
 
 def nested_plans():
-    yield "ten million open brackets", "plan", filled("", b"[", 10_000_000), "not json"
-    yield "a hundred thousand open objects", "plan", filled("", b'{"":', 500_000), "not json"
+    yield "ten million open brackets", "plan", filled_file("", b"[", 10_000_000), "not json"
+    yield "a hundred thousand open objects", "plan", filled_file("", b'{"":', 500_000), "not json"
     for levels, of_lists, of_objects in ((127, "kind of plan", "unknown key"), (128, "not json", "not json")):
         yield f"lists of {levels} levels", "plan", whole("[" * levels + "]" * levels), of_lists
         yield f"objects of {levels} levels", "plan", whole('{"":' * levels + "0" + "}" * levels), of_objects
