@@ -282,9 +282,8 @@ def judged(cert):
     return f"yes ratio {cert['ratio']} set {kind}\n", 0
 
 
-def certificate_in(name):
-    """The certificate of a file that is not refused."""
-    data = bytes_of(name)
+def certificate_of(name, data):
+    """The certificate of a file of this name and these bytes that is not refused."""
     if len(data) > limit(data):
         raise Refused(f"refused: {name}: too long\n", 3)
     try:
@@ -328,10 +327,20 @@ def bytes_of(name):
         raise Refused("fault: read\n", 4) from error
 
 
+def check_bytes(name, data):
+    """The texts for standard output and error, and the status, of a certificate of this name and these bytes."""
+    try:
+        line, status = judged(certificate_of(name, data))
+    except Refused as refusal:
+        text, status = refusal.args
+        return "", text, status
+    return line, "", status
+
+
 def check(names, shows_set=False):
     """The texts for standard output and error, and the status, of a certificate and, if there is one more, a topology."""
     try:
-        cert = certificate_in(names[0])
+        cert = certificate_of(names[0], bytes_of(names[0]))
         if len(names) == 2 and not is_network_in(names[1], cert):
             return "no network\n", "", 1
     except Refused as refusal:
