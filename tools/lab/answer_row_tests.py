@@ -86,6 +86,8 @@ pub struct Kind;
 
 /// A copy.
 pub fn copy(alloc: Global, kind: &Kind) -> Result<Option<Kind>, AllocError>
+    where
+        Kind: Copy,
     ensures same { IfOk result (λ k. k ≡ Some kind.now) }
     ensures some { IfOk result IsSome }
 {

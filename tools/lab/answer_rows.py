@@ -68,7 +68,7 @@ class Proofs:
     def of_crate(folder):
         found = set()
         for where, _, files in os.walk(folder):
-            for file in files:
+            for file in (it for it in files if it.endswith(".rt")):
                 text = read(where, file)
                 found |= set(TEST.findall(text)) | {it.name for it in functions_of(file, text) if it.is_law and it.is_public}
         return found

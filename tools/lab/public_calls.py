@@ -72,7 +72,7 @@ def taken_and_given(signature):
         depth += (signature[start] == "<") - (signature[start] == ">")
         start += 1
     end = bracket_end(signature, start)
-    return signature[start + 1 : end].strip(), signature[end + 1 :].partition("→")[2].strip()
+    return signature[start + 1 : end].strip(), signature[end + 1 :].partition("→")[2].partition(" where ")[0].strip()
 
 
 def is_head_end(indent, line, is_first):
@@ -188,7 +188,7 @@ class PublicCalls:
                     self.calls[key] = self.calls[key]._replace(clauses=it.clauses + [clause for clause in more if clause not in it.clauses])
 
     def answers_of(self, crate, it):
-        """What a function can answer but `Ok`, or but what it was asked for."""
+        """What a function can answer but `Ok`, or but what it was asked for: `None` and `false` in an `Ok` are such answers too."""
         if it.gives.startswith("io::Result<"):
             return ["io::Error"]
         made = re.match(r"(Result|Option)<(.*)>$", it.gives)
@@ -197,7 +197,8 @@ class PublicCalls:
         if made.group(1) == "Option":
             return ["Some" if made.group(2).endswith("Fault") else "None"]
         good, fault = split_list(made.group(2))
-        return (["None"] if good.startswith("Option<") else []) + (self.variants_of(crate, fault) or [fault])
+        more = ["None"] if good.startswith("Option<") else ["false"] if good == "bool" else []
+        return more + (self.variants_of(crate, fault) or [fault])
 
     def variants_of(self, crate, name):
         """The variants of an enum of this crate, or else of another."""
