@@ -206,6 +206,8 @@ UNPUBLISHED = [
     # Pairs ascend by their nodes, whatever the order of the rows is.
     ([SPF, LINE, "step,source,target,demand\n0,a,b,1\n0,a,c,1\n0,c,a,1\n"], 7, "no path: c a\n"),
     ([SPF, LINE, "step,source,target,demand\n0,c,a,1\n0,b,a,1\n"], 7, "no path: b a\n"),
+    # So they are whichever scheme is published.
+    *[([SPF.replace("spf", scheme), LINE, DEMAND + "0,c,a,1\n0,b,a,1\n"], 7, "no path: b a\n") for scheme in ("ecmp", "ksp", "racke")],
     # A plan that is refused needs no topology, and a topology that is refused no matrices.
     (["{}"], 3, "refused: p: missing topology\n"),
     (['{"topology":"t"}'], 3, "refused: p: missing matrices\n"),
