@@ -1,0 +1,163 @@
+//! The attack on a certificate: a witness by a scheme's routings.
+use crate::attempt::{Attempt, attempt, better_of};
+use crate::candidates::{alone, base_of, bound_of, direct_capacities};
+use crate::limits::limit_of;
+use crate::witness::Witness;
+use scheme::{Scheme, SchemeFault};
+use std::alloc::Global;
+use te_model::{DemandSet, Head, Items, Matrix, Memory, Pairs};
+
+/// The greatest bound of a witness.
+const GREATEST_BOUND: u128 = 9_999_999_999_999_999_999;
+
+// The declared pairs.
+fn pairs_of(alloc: Global, head: &Head) -> Result<Pairs, Memory> {
+    let routes = head.routes.as_slice();
+    let mut list = Vec::with_capacity(alloc, routes.len())?;
+    for route in routes {
+        list.push(route.pair)?;
+    }
+    Ok(Pairs {
+        list: Items::new(list),
+    })
+}
+
+// What no rival of each pair alone can pass.
+fn limits_of_pairs(alloc: Global, head: &Head) -> Result<Vec<u128>, Memory> {
+    let count = head.routes.as_slice().len();
+    let mut limits = Vec::with_capacity(alloc, count)?;
+    for p in 0..count {
+        limits.push(limit_of(head, p))?;
+    }
+    Ok(limits)
+}
+
+// The place of the first of the greatest numbers, and 0 of an empty list.
+fn greatest_place(numbers: &[u128]) -> usize {
+    let mut greatest = 0;
+    for k in 0..numbers.len() {
+        if numbers[greatest] < numbers[k] {
+            greatest = k;
+        }
+    }
+    greatest
+}
+
+// Of every matrix: the direct capacities first, then pairs alone by falling limit, as long as one can come before the best.
+fn best_of_all<S: Scheme>(
+    alloc: Global,
+    head: &Head,
+    rival: &S,
+    plan: &S::Plan,
+) -> Result<Attempt, Memory> {
+    let pairs = head.routes.as_slice().len();
+    let mut limits = limits_of_pairs(alloc, head)?;
+    let tried = direct_capacities(alloc, head)?;
+    let mut best = attempt(alloc, head, rival, plan, tried)?;
+    for _ in 0..pairs {
+        let p = greatest_place(&limits);
+        if limits[p] == 0 || limits[p] < best.ratio || limits[p] == best.ratio && best.place < p {
+            break;
+        }
+        limits[p] = 0;
+        let tried = alone(alloc, pairs, p)?;
+        let next = attempt(alloc, head, rival, plan, tried)?;
+        best = better_of(best, next);
+    }
+    Ok(best)
+}
+
+// Of a box: the lower bounds, and then the upper ones, where these are small enough.
+fn best_of_box<S: Scheme>(
+    alloc: Global,
+    head: &Head,
+    rival: &S,
+    plan: &S::Plan,
+    lower: &Matrix,
+    upper: &Matrix,
+) -> Result<Option<Attempt>, Memory> {
+    let first = match bound_of(alloc, 0, lower)? {
+        Some(tried) => Some(attempt(alloc, head, rival, plan, tried)?),
+        None => None,
+    };
+    let second = match bound_of(alloc, 1, upper)? {
+        Some(tried) => Some(attempt(alloc, head, rival, plan, tried)?),
+        None => None,
+    };
+    match first {
+        Some(first) => match second {
+            Some(second) => Ok(Some(better_of(first, second))),
+            None => Ok(Some(first)),
+        },
+        None => Ok(second),
+    }
+}
+
+// The best attempt, if there is a matrix that can be tried.
+fn best_of<S: Scheme>(
+    alloc: Global,
+    head: &Head,
+    rival: &S,
+    plan: &S::Plan,
+) -> Result<Option<Attempt>, Memory> {
+    match &head.set {
+        DemandSet::All => {
+            let best = best_of_all(alloc, head, rival, plan)?;
+            Ok(Some(best))
+        }
+        DemandSet::Margin { num: _, den, base } => {
+            let tried = base_of(alloc, *den, base)?;
+            let best = attempt(alloc, head, rival, plan, tried)?;
+            Ok(Some(best))
+        }
+        DemandSet::Box { lower, upper } => best_of_box(alloc, head, rival, plan, lower, upper),
+    }
+}
+
+// The witness that shows nothing: no demands and no paths.
+fn nothing_shown(alloc: Global, head: &Head) -> Result<Witness, Memory> {
+    let pairs = head.routes.as_slice().len();
+    let demand = vec![in alloc; 0; pairs]?;
+    let mut rival = Vec::with_capacity(alloc, pairs)?;
+    for _ in 0..pairs {
+        rival.push(Items::new(Vec::new(alloc)))?;
+    }
+    Ok(Witness {
+        bound: 0,
+        x: if matches!(head.set, DemandSet::All) {
+            1
+        } else {
+            0
+        },
+        y: 1,
+        demand: Matrix {
+            demand: Items::new(demand),
+        },
+        rival: Items::new(rival),
+    })
+}
+
+/// A witness against smaller ratios of the certificate's routing, by the routings of a scheme.
+///
+/// Of every matrix it tries each pair alone and the matrix of direct capacities, of a margin its base, and of a box its bounds
+/// where these are small enough. It chooses the first of the greatest performance ratio, which is the bound, up to the greatest
+/// of a witness. No pair is routed alone that no rival can bring before the best so far (by what the links at its ends carry).
+/// Without a ratio above 0 the bound is 0, and the witness has no demands and no paths.
+///
+/// `Memory` comes where memory is wanting: each pair of a valid head has a path.
+pub fn attack<S: Scheme>(alloc: Global, head: &Head, rival: &S) -> Result<Witness, Memory> {
+    let pairs = pairs_of(alloc, head)?;
+    let plan = match rival.prepare(alloc, &head.network, &pairs) {
+        Ok(plan) => plan,
+        Err(SchemeFault::NoPath(_)) => unreachable!(),
+        Err(SchemeFault::Memory) => return Err(Memory),
+    };
+    match best_of(alloc, head, rival, &plan)? {
+        Some(best) if best.ratio > 0 => {
+            let mut witness = best.witness;
+            witness.bound = best.ratio.min(GREATEST_BOUND) as u64;
+            Ok(witness)
+        }
+        _ => nothing_shown(alloc, head),
+    }
+}
