@@ -5,3 +5,6 @@ pub mod Ratios
 pub mod KeptRules
 pub mod Verdicts
 pub mod Printing
+pub mod DueLines
+pub mod Ending
+pub mod Narrowing

@@ -4,3 +4,5 @@ pub mod Judged
 pub mod Verdict
 pub mod Text
 pub mod Outcome
+pub mod Reading
+pub mod Candidates

@@ -1,8 +1,8 @@
 //! The lines of a table, with their numbers in the file.
-ghost use Rattle.std.specs.Prelude.{◌≡◌, ℕ, ◌^◌, ◌<◌, List};
+ghost use Rattle.std.specs.Prelude.{◌≡◌, ℕ, ◌+◌, ◌^◌, ◌<◌, ◌≤◌, List, Ok};
 ghost use Rattle.number_tables.specs.declared.line.NumLine.{NumLine};
 ghost use Rattle.number_tables.specs.Table.{AreLines, table_text};
-ghost use Rattle.ratio_witness.specs.Reading.{GivesNumbers, StandsAt};
+ghost use Rattle.ratio_witness.specs.Reading.{GivesNumbers, SaysWhether, StandsAt};
 
 use crate::fault::WitnessFault;
 use number_tables::TableLines;
@@ -36,7 +36,8 @@ impl<'a> NumberedLines<'a> {
     /// The numbers of the next line, where it has this word, which is empty for a line of numbers alone.
     pub fn next_numbers(&mut self, alloc: Global, word: &[u8]) -> Result<Items<u64>, WitnessFault>
         requires { self.old.line < 2 ^ 63 }
-        ensures { (ls : List NumLine) (k : ℕ) → StandsAt self.old ls k → GivesNumbers (λ numbers. numbers) word.now result self.new ls k }
+        ensures numbers { (ls : List NumLine) (k : ℕ) → StandsAt self.old ls k → GivesNumbers (λ numbers. numbers) word.now result self.new ls k }
+        ensures counted { self.new.line ≤ self.old.line + 1 }
     {
         match self.lines.next_line(alloc)? {
             Some(line) if line.word.as_str().as_bytes() == word => {
@@ -48,7 +49,12 @@ impl<'a> NumberedLines<'a> {
     }
 
     /// Whether no line is left.
-    pub fn is_at_end(&mut self, alloc: Global) -> Result<bool, WitnessFault> {
+    ///
+    /// Of a table only `Memory` is a fault, where memory runs out.
+    pub fn is_at_end(&mut self, alloc: Global) -> Result<bool, WitnessFault>
+        ensures { (ls : List NumLine) (k : ℕ) → StandsAt self.old ls k → SaysWhether result ls }
+        ensures same { self.new.line ≡ self.old.line }
+    {
         Ok(self.lines.next_line(alloc)?.is_none())
     }
 }

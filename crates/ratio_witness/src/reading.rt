@@ -1,9 +1,15 @@
 //! Reading the file of a witness.
-ghost use Rattle.std.specs.Prelude.{◌≡◌, ℕ, Ok, Err, IfOk, ◌<◌, length};
+ghost use Rattle.std.specs.Prelude.{◌≡◌, ℕ, ◌+◌, ◌^◌, ◌<◌, ◌≤◌, List, [], ◌∷◌, Ok, Err, Some, None, IfOk, IfErr, MatchResult, codes, length, map};
 ghost use Rattle.te_model.specs.Validity.{IsValidHead};
+ghost use Rattle.te_model.specs.declared.limits.TheConstants.{FORMAT_2};
+ghost use Rattle.cert_text.specs.Reading.{narrow_number};
+ghost use Rattle.number_tables.specs.declared.line.NumLine.{NumLine};
 ghost use Rattle.number_tables.specs.Due.{LeavesSmallFiles};
+ghost use Rattle.number_tables.specs.Table.{AreLines, table_text};
 ghost use Rattle.ratio_witness.specs.Outcome.{IsDueOrMemory};
-ghost use Rattle.ratio_witness.specs.Text.{witness_due, witness_first, witness_text, IsWitnessOf, IsWitnessRuleFault};
+ghost use Rattle.ratio_witness.specs.Reading.{GivesLine, GivesPair, GivesPath, GivesPaths, GivesRival, GivesWitness, StandsAt};
+ghost use Rattle.ratio_witness.specs.Rules.{witness_fault};
+ghost use Rattle.ratio_witness.specs.Text.{has_count, is_path_count, witness_due, witness_first, witness_text, IsWitnessOf, IsWitnessRuleFault};
 
 use crate::fault::WitnessFault;
 use crate::lines::NumberedLines;
@@ -15,7 +21,11 @@ use std::alloc::Global;
 use te_model::{FORMAT_2, Head, Items, Matrix, PathShare, RuleFault};
 
 // The bound.
-fn bound<'a>(lines: &mut NumberedLines<'a>, alloc: Global) -> Result<u64, WitnessFault> {
+fn bound<'a>(lines: &mut NumberedLines<'a>, alloc: Global) -> Result<u64, WitnessFault>
+    requires { lines.old.line < 2 ^ 62 }
+    ensures line { (ls : List NumLine) (k : ℕ) → StandsAt lines.old ls k → GivesLine (λ bound. bound ∷ []) (codes "bound") (has_count 1) result lines.new ls k }
+    ensures counted { lines.new.line ≤ lines.old.line + 1 }
+{
     let line = lines.line();
     let numbers = lines.next_numbers(alloc, b"bound")?;
     match numbers.as_slice() {
@@ -25,7 +35,11 @@ fn bound<'a>(lines: &mut NumberedLines<'a>, alloc: Global) -> Result<u64, Witnes
 }
 
 // The two numbers of the scale.
-fn scale<'a>(lines: &mut NumberedLines<'a>, alloc: Global) -> Result<(u64, u64), WitnessFault> {
+fn scale<'a>(lines: &mut NumberedLines<'a>, alloc: Global) -> Result<(u64, u64), WitnessFault>
+    requires { lines.old.line < 2 ^ 62 }
+    ensures line { (ls : List NumLine) (k : ℕ) → StandsAt lines.old ls k → GivesLine (λ scale. scale.0 ∷ scale.1 ∷ []) (codes "scale") (has_count 2) result lines.new ls k }
+    ensures counted { lines.new.line ≤ lines.old.line + 1 }
+{
     let line = lines.line();
     let numbers = lines.next_numbers(alloc, b"scale")?;
     match numbers.as_slice() {
@@ -39,7 +53,11 @@ fn demand<'a>(
     lines: &mut NumberedLines<'a>,
     alloc: Global,
     pairs: usize,
-) -> Result<Matrix, WitnessFault> {
+) -> Result<Matrix, WitnessFault>
+    requires { lines.old.line < 2 ^ 62 }
+    ensures line { (ls : List NumLine) (k : ℕ) → StandsAt lines.old ls k → GivesLine (λ matrix. matrix.demand) (codes "demand") (has_count pairs) result lines.new ls k }
+    ensures counted { lines.new.line ≤ lines.old.line + 1 }
+{
     let line = lines.line();
     let demand = lines.next_numbers(alloc, b"demand")?;
     if demand.as_slice().len() == pairs {
@@ -50,7 +68,11 @@ fn demand<'a>(
 }
 
 // How many paths a pair has.
-fn path_count<'a>(lines: &mut NumberedLines<'a>, alloc: Global) -> Result<u64, WitnessFault> {
+fn path_count<'a>(lines: &mut NumberedLines<'a>, alloc: Global) -> Result<u64, WitnessFault>
+    requires { lines.old.line < 2 ^ 62 }
+    ensures line { (ls : List NumLine) (k : ℕ) → StandsAt lines.old ls k → GivesLine (λ count. count ∷ []) [] is_path_count result lines.new ls k }
+    ensures counted { lines.new.line ≤ lines.old.line + 1 }
+{
     let line = lines.line();
     let numbers = lines.next_numbers(alloc, b"")?;
     match numbers.as_slice() {
@@ -60,7 +82,10 @@ fn path_count<'a>(lines: &mut NumberedLines<'a>, alloc: Global) -> Result<u64, W
 }
 
 // Link numbers, of which the larger ones are kept as the greatest that a field holds; no network has such a link.
-fn narrow_links(alloc: Global, numbers: &[u64]) -> Result<Items<u32>, WitnessFault> {
+fn narrow_links(alloc: Global, numbers: &[u64]) -> Result<Items<u32>, WitnessFault>
+    ensures links { IfOk result (λ links. links ≡ map narrow_number numbers.now) }
+    ensures fault { IfErr result (λ fault. fault ≡ WitnessFault.Memory) }
+{
     let mut links = Vec::with_capacity(alloc, numbers.len())?;
     for number in numbers {
         links.push((*number).min(u64::from(u32::MAX)) as u32)?;
@@ -69,7 +94,11 @@ fn narrow_links(alloc: Global, numbers: &[u64]) -> Result<Items<u32>, WitnessFau
 }
 
 // A path with its weight.
-fn path_share<'a>(lines: &mut NumberedLines<'a>, alloc: Global) -> Result<PathShare, WitnessFault> {
+fn path_share<'a>(lines: &mut NumberedLines<'a>, alloc: Global) -> Result<PathShare, WitnessFault>
+    requires { lines.old.line < 2 ^ 62 }
+    ensures line { (ls : List NumLine) (k : ℕ) → StandsAt lines.old ls k → GivesPath result lines.new ls k }
+    ensures counted { lines.new.line ≤ lines.old.line + 1 }
+{
     let line = lines.line();
     let numbers = lines.next_numbers(alloc, b"")?;
     match numbers.as_slice() {
@@ -85,12 +114,17 @@ fn path_share<'a>(lines: &mut NumberedLines<'a>, alloc: Global) -> Result<PathSh
     }
 }
 
-// The paths of a pair.
-fn pair_paths<'a>(
+// So many paths.
+fn paths<'a>(
     lines: &mut NumberedLines<'a>,
     alloc: Global,
-) -> Result<Items<PathShare>, WitnessFault> {
-    let count = path_count(lines, alloc)?;
+    count: u64,
+) -> Result<Items<PathShare>, WitnessFault>
+    requires line { lines.old.line < 2 ^ 61 }
+    requires few { count ≤ FORMAT_2.paths }
+    ensures line { (ls : List NumLine) (k : ℕ) → StandsAt lines.old ls k → GivesPaths count result lines.new ls k }
+    ensures counted { lines.new.line ≤ lines.old.line + count }
+{
     let mut paths = Vec::new(alloc);
     for _ in 0..count {
         let path = path_share(lines, alloc)?;
@@ -99,12 +133,29 @@ fn pair_paths<'a>(
     Ok(Items::new(paths))
 }
 
+// The paths of a pair, behind their number.
+fn pair_paths<'a>(
+    lines: &mut NumberedLines<'a>,
+    alloc: Global,
+) -> Result<Items<PathShare>, WitnessFault>
+    requires { lines.old.line < 2 ^ 60 }
+    ensures line { (ls : List NumLine) (k : ℕ) → StandsAt lines.old ls k → GivesPair result lines.new ls k }
+    ensures counted { lines.new.line ≤ lines.old.line + 33 }
+{
+    let count = path_count(lines, alloc)?;
+    paths(lines, alloc, count)
+}
+
 // The paths of so many pairs.
 fn rival<'a>(
     lines: &mut NumberedLines<'a>,
     alloc: Global,
     pairs: usize,
-) -> Result<Items<Items<PathShare>>, WitnessFault> {
+) -> Result<Items<Items<PathShare>>, WitnessFault>
+    requires line { lines.old.line < 2 ^ 59 }
+    requires few { pairs ≤ FORMAT_2.pairs }
+    ensures line { (ls : List NumLine) (k : ℕ) → StandsAt lines.old ls k → GivesRival pairs result lines.new ls k }
+{
     let mut rival = Vec::new(alloc);
     for _ in 0..pairs {
         let paths = pair_paths(lines, alloc)?;
@@ -118,7 +169,11 @@ fn spelled<'a>(
     lines: &mut NumberedLines<'a>,
     alloc: Global,
     pairs: usize,
-) -> Result<Witness, WitnessFault> {
+) -> Result<Witness, WitnessFault>
+    requires line { lines.old.line < 2 ^ 58 }
+    requires few { pairs ≤ FORMAT_2.pairs }
+    ensures { (ls : List NumLine) → StandsAt lines.old ls 2 → GivesWitness pairs result ls }
+{
     let bound = bound(lines, alloc)?;
     let (x, y) = scale(lines, alloc)?;
     let demand = demand(lines, alloc, pairs)?;
@@ -136,13 +191,19 @@ fn spelled<'a>(
 }
 
 // The witness that a table spells for so many pairs.
-fn witness_of_table(alloc: Global, bytes: &[u8], pairs: usize) -> Result<Witness, WitnessFault> {
+fn witness_of_table(alloc: Global, bytes: &[u8], pairs: usize) -> Result<Witness, WitnessFault>
+    requires { pairs ≤ FORMAT_2.pairs }
+    ensures { (ls : List NumLine) → AreLines ls → bytes.now ≡ table_text witness_first ls → GivesWitness pairs result ls }
+{
     let mut lines = NumberedLines::new(first_line(), bytes)?;
     spelled(&mut lines, alloc, pairs)
 }
 
 // Gives the witness back if its rules hold.
-fn keep_ruled(head: &Head, witness: Witness) -> Result<Witness, WitnessFault> {
+fn keep_ruled(head: &Head, witness: Witness) -> Result<Witness, WitnessFault>
+    ensures { MatchResult result (λ w. (w ≡ witness) × (witness_fault head.now witness ≡ None))
+        (λ e. (f : RuleFault) × (e ≡ WitnessFault.Rule f) × (witness_fault head.now witness ≡ Some f)) }
+{
     match witness_fault(head, &witness) {
         Some(fault) => Err(WitnessFault::Rule(fault)),
         None => Ok(witness),
