@@ -1,5 +1,5 @@
 -- Each file of a witness that was begun can be ended, and a witness that can be written has a file.
-use Rattle.std.proofs.Common.{◌≡◌, ℕ, zero, suc, ◌+◌, ◌^◌, ◌<◌, ◌≤◌, Bool, true, false, ◌&&◌, List, [], ◌∷◌, ◌++◌, length, map, Option, Some, None, refl, ap, sym, ◌∙◌, arith, slice_index, ◌==◌, nat_le}
+use Rattle.std.proofs.Common.{◌≡◌, ℕ, zero, suc, ◌+◌, ◌^◌, ◌<◌, ◌≤◌, Bool, true, false, ◌&&◌, List, [], ◌∷◌, ◌++◌, length, map, append-nil, Option, Some, None, refl, ap, sym, ◌∙◌, arith, slice_index, ◌==◌, nat_le}
 use Rattle.std.specs.Prelude.{IsTrue, codes, replicate}
 use Rattle.std.specs.List.{flat_map, list_all}
 use Rattle.std.proofs.lemmas.Bool.{and_parts, eq-eqb, eqb-true, le-leb, leb-true, ltb-true}
@@ -141,17 +141,13 @@ pub after_rival : (n : ℕ) (rival : List (List PathShare)) (more : List NumLine
     first_undue (pairs_due n) (flat_map pair_lines rival ++ more) ≡ later (length (flat_map pair_lines rival)) (first_undue done more)
 after_rival n rival more count shaped = due_pairs rival 0 n more (omega (arith, count)) shaped
 
-nothing_after : (xs : List NumLine) → xs ++ [] ≡ xs
-nothing_after [] = refl
-nothing_after (x ∷ xs) = ap (λ (ys : List NumLine). x ∷ ys) (nothing_after xs)
-
 -- each line of a witness that can be written is due
 pub witness_none : (n : ℕ) (w : Witness) → is_shaped_witness n w ≡ true → first_undue (witness_due n) (witness_lines w) ≡ None
 witness_none n w shaped =
     let parts = shaped_parts n w shaped in
     let rest = flat_map pair_lines w.rival in
     after_demand n w.bound w.x w.y w.demand.demand rest parts.count
-    ∙ ap (later 3) (ap (first_undue (pairs_due n)) (sym (nothing_after rest)) ∙ after_rival n w.rival [] parts.pairs parts.rival ∙ later_none (length rest))
+    ∙ ap (later 3) (ap (first_undue (pairs_due n)) (sym (append-nil rest)) ∙ after_rival n w.rival [] parts.pairs parts.rival ∙ later_none (length rest))
     ∙ later_none 3
 
 pub witness_file : (n : ℕ) (w : Witness) → is_shaped_witness n w ≡ true → AreFile (witness_due n) (witness_lines w)

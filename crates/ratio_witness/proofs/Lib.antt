@@ -8,3 +8,5 @@ pub mod Printing
 pub mod DueLines
 pub mod Ending
 pub mod Narrowing
+pub mod OneWitness
+pub mod ReadAnswers

@@ -1,23 +1,26 @@
 -- A link number that is too wide for its field is refused by the same rule, at the same pair, as the greatest number that the
 -- field holds.
-use Rattle.std.proofs.Common.{◌≡◌, ℕ, zero, suc, ◌+◌, ◌-◌, ◌^◌, ◌<◌, ◌≤◌, Bool, true, false, ◌&&◌, ◌||◌, List, [], ◌∷◌, length, map, get_or, Option, None, refl, sym, ap, ◌∙◌, arith, inl, inr, nat_lt, nat_le, ◌==◌, sum_by}
+use Rattle.std.proofs.Common.{◌≡◌, ℕ, zero, suc, ◌+◌, ◌-◌, ◌^◌, ◌<◌, ◌≤◌, Bool, true, false, ◌&&◌, ◌||◌, List, [], ◌∷◌, length, map, get_or, slice_index, Option, refl, sym, ap, ◌∙◌, arith, inl, inr, nat_lt, nat_le, ◌==◌, sum_by}
 use Rattle.std.specs.List.{list_all}
 use Rattle.std.proofs.Math.ListN.{get_or-map}
 use Rattle.std.proofs.lemmas.Bool.{cases_lt, ltb-true, and_parts}
 use Rattle.std.proofs.lemmas.Bool.Decides.{nat_tests}
 use Rattle.std.proofs.lemmas.List.{length-map}
 use Rattle.te_model.specs.declared.certificate.Head.{Head}
-use Rattle.te_model.specs.declared.limits.TheConstants.{FORMAT_2}
+use Rattle.te_model.specs.declared.certificate.RuleFault.{RuleFault}
 use Rattle.te_model.specs.declared.network.Network.{Network}
 use Rattle.te_model.specs.declared.route.PathShare.{PathShare}
 use Rattle.te_model.specs.Network.{link_count, tail_of, head_of}
 use Rattle.te_model.specs.Path.{chains, is_distinct, is_path, nodes_visited, source_of, destination_of}
-use Rattle.te_model.specs.Validity.{paths_ascend}
+use Rattle.te_model.specs.Counting.{first_some, unless}
+use Rattle.te_model.specs.Validity.{fault_at, paths_ascend, rule_fault}
+use Rattle.te_model.proofs.Searches.{first_below-same}
 use Rattle.cert_text.specs.Reading.{narrow_number}
 use Rattle.cert_text.specs.Kept.{keep_path}
 use Rattle.ratio_witness.specs.declared.witness.Witness.{Witness}
-use Rattle.ratio_witness.specs.Rules.{has_sound_rival, has_whole_rival, is_carried, rival_paths}
+use Rattle.ratio_witness.specs.Rules.{has_bound, has_scale, has_small_demand, has_sound_rival, has_whole_rival, is_carried, rival_paths, witness_fault, KeepsRules}
 use Rattle.ratio_witness.specs.Text.{keep_witness}
+use Rattle.ratio_witness.proofs.KeptRules.{rules_kept}
 
 -- what a field of 32 bits holds at most
 abbrev widest : ℕ
@@ -104,3 +107,49 @@ sound_rival_kept h w p le =
     let test : PathShare → Bool = λ s. is_path h.network (source_of h.routes p) (destination_of h.routes p) s.links in
     ap (λ (paths : List PathShare). list_all test paths && paths_ascend paths) (rival_kept w p)
     ∙ sound_kept h.network (source_of h.routes p) (destination_of h.routes p) (rival_paths w p) le
+
+carried_kept : (w : Witness) (p : ℕ) → is_carried (keep_witness w) p ≡ is_carried w p
+carried_kept w p =
+    ap (λ (paths : List PathShare). slice_index w.demand.demand p == 0 || nat_le 1 (length paths)) (rival_kept w p)
+    ∙ ap (λ n. slice_index w.demand.demand p == 0 || nat_le 1 n) (length-map keep_path (rival_paths w p))
+
+whole_kept : (w : Witness) (p : ℕ) → has_whole_rival (keep_witness w) p ≡ has_whole_rival w p
+whole_kept w p =
+    let paths = rival_paths w p in
+    ap (λ (ps : List PathShare). length ps == 0 || (list_all (λ s. nat_le 1 s.weight) ps && sum_by (λ s. s.weight) ps == 1000000)) (rival_kept w p)
+    ∙ ap (λ n. n == 0 || (list_all (λ s. nat_le 1 s.weight) (map keep_path paths) && sum_by (λ s. s.weight) (map keep_path paths) == 1000000)) (length-map keep_path paths)
+    ∙ ap (λ b. length paths == 0 || (b && sum_by (λ s. s.weight) (map keep_path paths) == 1000000)) (weighted_kept paths)
+    ∙ ap (λ n. length paths == 0 || (list_all (λ s. nat_le 1 s.weight) paths && n == 1000000)) (sum_kept paths)
+
+rule_same : (r n : ℕ) (f g : ℕ → Bool) → ((k : ℕ) → f k ≡ g k) → rule_fault r n f ≡ rule_fault r n g
+rule_same r n f g each = first_below-same n (λ k. unless (f k) (fault_at r k)) (λ k. unless (g k) (fault_at r k)) (λ k below. ap (λ b. unless b (fault_at r k)) (each k))
+
+pub witness_fault_kept : (h : Head) (w : Witness) → link_count h.network ≤ widest → witness_fault h (keep_witness w) ≡ witness_fault h w
+witness_fault_kept h w le =
+    let n = length h.routes in
+    let one = rule_fault 1 1 (λ place. has_bound w) in
+    let two = rule_fault 2 1 (λ place. has_scale w) in
+    let three = rule_fault 3 n (has_small_demand w) in
+    let five = rule_fault 5 n (has_sound_rival h w) in
+    let last = rule_fault 6 n (has_whole_rival (keep_witness w)) in
+    ap (λ (o : Option RuleFault). first_some (one ∷ two ∷ three ∷ o ∷ rule_fault 5 n (has_sound_rival h (keep_witness w)) ∷ last ∷ []))
+    (rule_same 4 n (is_carried (keep_witness w)) (is_carried w) (carried_kept w))
+    ∙ ap (λ (o : Option RuleFault). first_some (one ∷ two ∷ three ∷ rule_fault 4 n (is_carried w) ∷ o ∷ last ∷ []))
+    (rule_same 5 n (has_sound_rival h (keep_witness w)) (has_sound_rival h w) (λ p. sound_rival_kept h w p le))
+    ∙ ap (λ (o : Option RuleFault). first_some (one ∷ two ∷ three ∷ rule_fault 4 n (is_carried w) ∷ five ∷ o ∷ []))
+    (rule_same 6 n (has_whole_rival (keep_witness w)) (has_whole_rival w) (whole_kept w))
+
+-- what changes no item changes no list
+map_whole : {X : Type 0} (f : X → X) (xs : List X) (d : X) → ((k : ℕ) → k < length xs → f (get_or xs k d) ≡ get_or xs k d) → map f xs ≡ xs
+map_whole f [] d each = refl
+map_whole f (x ∷ xs) d each = rw (each 0 (omega arith), map_whole f xs d (λ k lt. each (suc k) (omega arith))) refl
+
+-- of a witness that keeps its rules all is kept
+pub witness_whole : (h : Head) (w : Witness) → link_count h.network ≤ widest → length w.rival ≡ length h.routes → KeepsRules h w → keep_witness w ≡ w
+witness_whole h w le count keeps =
+    let kept = rules_kept h w keeps in
+    let rival : map (map keep_path) w.rival ≡ w.rival = map_whole (map keep_path) w.rival [] (λ p below.
+    let test : PathShare → Bool = λ s. is_path h.network (source_of h.routes p) (destination_of h.routes p) s.links in
+    let sound = and_parts (list_all test (rival_paths w p)) (paths_ascend (rival_paths w p)) (kept.sound p (omega (arith, below, count))) in
+    paths_whole h.network (source_of h.routes p) (destination_of h.routes p) (rival_paths w p) le sound.0) in
+    λ i. record { bound = w.bound; x = w.x; y = w.y; demand = w.demand; rival = rival i }
