@@ -23,7 +23,7 @@ use Rattle.ratio_witness.specs.Text.{keep_witness}
 use Rattle.ratio_witness.proofs.KeptRules.{rules_kept}
 
 -- what a field of 32 bits holds at most
-abbrev widest : ℕ
+abbrev pub widest : ℕ
 widest = 2 ^ 32 - 1
 
 kept_whole : (n : ℕ) → n ≤ widest → narrow_number n ≡ n

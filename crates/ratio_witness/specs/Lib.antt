@@ -6,3 +6,4 @@ pub mod Text
 pub mod Outcome
 pub mod Reading
 pub mod Candidates
+pub mod Attempts

@@ -1,4 +1,11 @@
 //! The attack on a certificate: a witness by a scheme's routings.
+ghost use Rattle.std.specs.Prelude.{◌≡◌, ◌≤◌, IfOk, None};
+ghost use Rattle.te_model.specs.Validity.{IsValidHead};
+ghost use Rattle.ratio_witness.specs.Attempts.{pairs_of};
+ghost use Rattle.ratio_witness.specs.Candidates.{IsChosen};
+ghost use Rattle.ratio_witness.specs.Text.{IsWitnessOf};
+ghost use Rattle.ratio_witness.specs.Verdict.{verdict_fault};
+
 use crate::attempt::{Attempt, attempt, better_of};
 use crate::candidates::{alone, base_of, bound_of, direct_capacities};
 use crate::limits::limit_of;
@@ -145,7 +152,14 @@ fn nothing_shown(alloc: Global, head: &Head) -> Result<Witness, Memory> {
 /// Without a ratio above 0 the bound is 0, and the witness has no demands and no paths.
 ///
 /// `Memory` comes where memory is wanting: each pair of a valid head has a path.
-pub fn attack<S: Scheme>(alloc: Global, head: &Head, rival: &S) -> Result<Witness, Memory> {
+pub fn attack<S: Scheme>(alloc: Global, head: &Head, rival: &S) -> Result<Witness, Memory>
+    requires head { IsValidHead head.now }
+    requires few { S.PATHS ≤ 32 }
+    ensures witness { IfOk result (IsWitnessOf head.now) }
+    ensures yes { IfOk result (λ w. verdict_fault head.now w ≡ None) }
+    ensures chosen { IfOk result (λ w. (plan : S.Plan) × S.is_plan rival.now head.now.network (pairs_of head.now) plan
+        × IsChosen head.now (λ demand routes. (note : S.Note) × S.relates rival.now head.now.network (pairs_of head.now) plan demand routes note) w) }
+{
     let pairs = pairs_of(alloc, head)?;
     let plan = match rival.prepare(alloc, &head.network, &pairs) {
         Ok(plan) => plan,

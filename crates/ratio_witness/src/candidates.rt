@@ -1,4 +1,8 @@
 //! The matrices that an attack tries.
+ghost use Rattle.std.specs.Prelude.{◌≡◌, ◌*◌, ◌<◌, ◌≤◌, ◌∷◌, [], IfOk, IfNone, IfSome, IsTrue, length};
+ghost use Rattle.te_model.specs.Network.{is_well_formed};
+ghost use Rattle.ratio_witness.specs.Candidates.{alone, bound_tried, direct_capacities, direct_capacity};
+
 use crate::attempt::Tried;
 use std::alloc::Global;
 use te_model::{Head, Items, Matrix, Memory, Network, Pair};
@@ -10,7 +14,10 @@ const ALONE: u64 = 1_000_000;
 const MOST: u64 = 1 << 32;
 
 /// One pair alone, with a demand of one million.
-pub fn alone(alloc: Global, pairs: usize, pair: usize) -> Result<Tried, Memory> {
+pub fn alone(alloc: Global, pairs: usize, pair: usize) -> Result<Tried, Memory>
+    requires { pair < pairs }
+    ensures { IfOk result (λ t. (t.place ≡ pair) × (t.demand.demand ≡ alone pairs pair) × (t.x ≡ 1) × (t.y ≡ 1)) }
+{
     let mut demand = vec![in alloc; 0; pairs]?;
     demand[pair] = ALONE;
     Ok(Tried {
@@ -24,7 +31,10 @@ pub fn alone(alloc: Global, pairs: usize, pair: usize) -> Result<Tried, Memory> 
 }
 
 // What the links from the source of the pair to its destination carry, cut at the greatest demand of a witness.
-fn direct_capacity(net: &Network, pair: Pair) -> u64 {
+fn direct_capacity(net: &Network, pair: Pair) -> u64
+    requires { IsTrue (is_well_formed net.now) }
+    ensures { result ≡ direct_capacity net.now pair }
+{
     let mut total = 0;
     for link in net.links.as_slice() {
         if link.tail == pair.src && link.head == pair.dst {
@@ -35,7 +45,10 @@ fn direct_capacity(net: &Network, pair: Pair) -> u64 {
 }
 
 /// What the links from the source of each pair to its destination carry: each pair can send it over these alone.
-pub fn direct_capacities(alloc: Global, head: &Head) -> Result<Tried, Memory> {
+pub fn direct_capacities(alloc: Global, head: &Head) -> Result<Tried, Memory>
+    requires { IsTrue (is_well_formed head.now.network) }
+    ensures { IfOk result (λ t. (t.place ≡ length head.now.routes) × (t.demand.demand ≡ direct_capacities head.now) × (t.x ≡ 1) × (t.y ≡ 1)) }
+{
     let routes = head.routes.as_slice();
     let mut demand = Vec::with_capacity(alloc, routes.len())?;
     for route in routes {
@@ -52,7 +65,10 @@ pub fn direct_capacities(alloc: Global, head: &Head) -> Result<Tried, Memory> {
 }
 
 /// The base of a margin: `den * den` times it is the lower bound.
-pub fn base_of(alloc: Global, den: u64, base: &Matrix) -> Result<Tried, Memory> {
+pub fn base_of(alloc: Global, den: u64, base: &Matrix) -> Result<Tried, Memory>
+    requires { den ≤ 1000 }
+    ensures { IfOk result (λ t. (t.place ≡ 0) × (t.demand.demand ≡ base.now.demand) × (t.x ≡ 1) × (t.y ≡ den * den)) }
+{
     let demand = Vec::from_slice(alloc, base.demand.as_slice())?;
     Ok(Tried {
         place: 0,
@@ -65,7 +81,11 @@ pub fn base_of(alloc: Global, den: u64, base: &Matrix) -> Result<Tried, Memory> 
 }
 
 /// A bound of a box, where its numbers are small enough for a witness.
-pub fn bound_of(alloc: Global, place: usize, bound: &Matrix) -> Result<Option<Tried>, Memory> {
+pub fn bound_of(alloc: Global, place: usize, bound: &Matrix) -> Result<Option<Tried>, Memory>
+    ensures none { IfOk result (λ o. IfNone o (bound_tried bound.now.demand ≡ [])) }
+    ensures some { IfOk result (λ o. IfSome o (λ t. (t.place ≡ place) × (t.demand.demand ≡ bound.now.demand) × (t.x ≡ 1) × (t.y ≡ 1)
+        × (length (bound_tried bound.now.demand) ≡ 1))) }
+{
     let list = bound.demand.as_slice();
     if !list.iter().all(|d| *d <= MOST) {
         return Ok(None);

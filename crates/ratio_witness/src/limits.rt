@@ -1,9 +1,18 @@
 //! What no rival of a pair alone can pass: all that it sends leaves its source and enters its destination.
+ghost use Rattle.std.specs.Prelude.{◌≡◌, ◌<◌, ◌≤◌, ℕ, List, length, IsTrue};
+ghost use Rattle.te_model.specs.declared.route.PathShare.{PathShare};
+ghost use Rattle.te_model.specs.Network.{is_well_formed};
+ghost use Rattle.te_model.specs.Validity.{IsValidHead};
+ghost use Rattle.ratio_witness.specs.Witness.{capacity_from, capacity_into, performance_ratio, IsRivalOf};
+
 use crate::loads::loads_of_one;
 use te_model::{Head, Network, RATIO_UNIT, SHARE_UNIT, ceil_div};
 
 // What the links that leave the node carry together at most.
-fn capacity_from(net: &Network, node: u32) -> u64 {
+fn capacity_from(net: &Network, node: u32) -> u64
+    requires { IsTrue (is_well_formed net.now) }
+    ensures { result ≡ capacity_from net.now node }
+{
     let mut total = 0;
     for link in net.links.as_slice() {
         if link.tail == node {
@@ -14,7 +23,10 @@ fn capacity_from(net: &Network, node: u32) -> u64 {
 }
 
 // What the links that lead to the node carry together at most.
-fn capacity_into(net: &Network, node: u32) -> u64 {
+fn capacity_into(net: &Network, node: u32) -> u64
+    requires { IsTrue (is_well_formed net.now) }
+    ensures { result ≡ capacity_into net.now node }
+{
     let mut total = 0;
     for link in net.links.as_slice() {
         if link.head == node {
@@ -26,7 +38,13 @@ fn capacity_into(net: &Network, node: u32) -> u64 {
 
 /// No rival of the pair alone shows more than this, in millionths: the greatest over the links of the pair's share, over the
 /// capacity, times what the links at one of its ends carry, rounded up.
-pub fn limit_of(head: &Head, pair: usize) -> u128 {
+pub fn limit_of(head: &Head, pair: usize) -> u128
+    requires head { IsValidHead head.now }
+    requires pair { pair < length head.now.routes }
+    ensures { (demand : ℕ → ℕ) (rival : List (List PathShare)) → ((q : ℕ) → q < length head.now.routes → ¬ (q ≡ pair) → demand q ≡ 0) →
+        0 < demand pair → IsRivalOf head.now.network head.now.routes demand rival →
+        performance_ratio head.now.network head.now.routes demand rival ≤ result }
+{
     let net = &head.network;
     let route = &head.routes.as_slice()[pair];
     let room = capacity_from(net, route.pair.src).min(capacity_into(net, route.pair.dst));
