@@ -1,7 +1,7 @@
 //! The matrices that an attack tries.
-ghost use Rattle.std.specs.Prelude.{◌≡◌, ◌*◌, ◌<◌, ◌≤◌, ◌∷◌, [], IfOk, IfNone, IfSome, IsTrue, length};
+ghost use Rattle.std.specs.Prelude.{◌≡◌, ◌<◌, ◌≤◌, IfOk, IsTrue};
 ghost use Rattle.te_model.specs.Network.{is_well_formed};
-ghost use Rattle.ratio_witness.specs.Candidates.{alone, bound_tried, direct_capacities, direct_capacity};
+ghost use Rattle.ratio_witness.specs.Candidates.{alone, as_list, base_tried, bounds_tried, direct_capacities, direct_capacity};
 
 use crate::attempt::Tried;
 use std::alloc::Global;
@@ -16,7 +16,7 @@ const MOST: u64 = 1 << 32;
 /// One pair alone, with a demand of one million.
 pub fn alone(alloc: Global, pairs: usize, pair: usize) -> Result<Tried, Memory>
     requires { pair < pairs }
-    ensures { IfOk result (λ t. (t.place ≡ pair) × (t.demand.demand ≡ alone pairs pair) × (t.x ≡ 1) × (t.y ≡ 1)) }
+    ensures { IfOk result (λ t. t ≡ alone pairs pair) }
 {
     let mut demand = vec![in alloc; 0; pairs]?;
     demand[pair] = ALONE;
@@ -47,7 +47,7 @@ fn direct_capacity(net: &Network, pair: Pair) -> u64
 /// What the links from the source of each pair to its destination carry: each pair can send it over these alone.
 pub fn direct_capacities(alloc: Global, head: &Head) -> Result<Tried, Memory>
     requires { IsTrue (is_well_formed head.now.network) }
-    ensures { IfOk result (λ t. (t.place ≡ length head.now.routes) × (t.demand.demand ≡ direct_capacities head.now) × (t.x ≡ 1) × (t.y ≡ 1)) }
+    ensures { IfOk result (λ t. t ≡ direct_capacities head.now) }
 {
     let routes = head.routes.as_slice();
     let mut demand = Vec::with_capacity(alloc, routes.len())?;
@@ -67,7 +67,7 @@ pub fn direct_capacities(alloc: Global, head: &Head) -> Result<Tried, Memory>
 /// The base of a margin: `den * den` times it is the lower bound.
 pub fn base_of(alloc: Global, den: u64, base: &Matrix) -> Result<Tried, Memory>
     requires { den ≤ 1000 }
-    ensures { IfOk result (λ t. (t.place ≡ 0) × (t.demand.demand ≡ base.now.demand) × (t.x ≡ 1) × (t.y ≡ den * den)) }
+    ensures { IfOk result (λ t. t ≡ base_tried den base.now) }
 {
     let demand = Vec::from_slice(alloc, base.demand.as_slice())?;
     Ok(Tried {
@@ -82,9 +82,7 @@ pub fn base_of(alloc: Global, den: u64, base: &Matrix) -> Result<Tried, Memory>
 
 /// A bound of a box, where its numbers are small enough for a witness.
 pub fn bound_of(alloc: Global, place: usize, bound: &Matrix) -> Result<Option<Tried>, Memory>
-    ensures none { IfOk result (λ o. IfNone o (bound_tried bound.now.demand ≡ [])) }
-    ensures some { IfOk result (λ o. IfSome o (λ t. (t.place ≡ place) × (t.demand.demand ≡ bound.now.demand) × (t.x ≡ 1) × (t.y ≡ 1)
-        × (length (bound_tried bound.now.demand) ≡ 1))) }
+    ensures { IfOk result (λ o. as_list o ≡ bounds_tried place bound.now) }
 {
     let list = bound.demand.as_slice();
     if !list.iter().all(|d| *d <= MOST) {
