@@ -1,15 +1,15 @@
 -- Which line of a witness is the first that is not due.
-use Rattle.std.proofs.Common.{◌≡◌, ℕ, zero, suc, ◌+◌, ◌≤◌, Bool, true, false, ◌&&◌, cond, List, [], ◌∷◌, ◌++◌, length, map, Option, Some, None, refl, ap, sym, ◌∙◌, arith, append_assoc, length-append, slice_index, nat_le, ◌==◌}
-use Rattle.std.specs.Prelude.{bytes_eq, codes, IsTrue}
+use Rattle.std.proofs.Common.{◌≡◌, ℕ, zero, suc, ◌+◌, Bool, true, false, ◌&&◌, cond, List, [], ◌∷◌, ◌++◌, length, map, Option, Some, None, refl, ap, sym, ◌∙◌, arith, append_assoc, length-append, slice_index, nat_le, ◌==◌}
+use Rattle.std.specs.Prelude.{bytes_eq}
 use Rattle.std.specs.List.{flat_map, list_all}
-use Rattle.std.proofs.lemmas.Bool.{and_parts, and_from, eq-eqb, eqb-true}
+use Rattle.std.proofs.lemmas.Bool.{and_parts, and_from, eq-eqb}
 use Rattle.std.proofs.lemmas.Slice.Eq.{bytes_eq-Decides}
 use Rattle.te_model.specs.declared.limits.TheConstants.{FORMAT_2}
 use Rattle.te_model.specs.declared.route.PathShare.{PathShare}
 use Rattle.te_model.specs.Shape.{are_words, is_count, is_shaped_path, is_word}
 use Rattle.number_tables.specs.declared.line.NumLine.{NumLine}
-use Rattle.number_tables.specs.Due.{Due, done, line, one_later, first_undue}
-use Rattle.ratio_witness.specs.Text.{are_shaped_paths, has_count, is_path_count, is_path_line, pair_lines, pairs_due, paths_due, share_line}
+use Rattle.number_tables.specs.Due.{Due, line, one_later, first_undue}
+use Rattle.ratio_witness.specs.Text.{are_shaped_paths, is_path_count, is_path_line, pair_lines, pairs_due, paths_due, share_line}
 
 -- so many places later
 pub later : ℕ → Option ℕ → Option ℕ

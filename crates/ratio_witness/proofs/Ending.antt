@@ -1,6 +1,6 @@
 -- Each file of a witness that was begun can be ended, and a witness that can be written has a file.
-use Rattle.std.proofs.Common.{◌≡◌, ℕ, zero, suc, ◌+◌, ◌^◌, ◌<◌, ◌≤◌, Bool, true, false, ◌&&◌, List, [], ◌∷◌, ◌++◌, length, map, append-nil, Option, Some, None, refl, ap, sym, ◌∙◌, arith, slice_index, ◌==◌, nat_le}
-use Rattle.std.specs.Prelude.{IsTrue, codes, replicate}
+use Rattle.std.proofs.Common.{◌≡◌, ℕ, zero, suc, ◌+◌, ◌^◌, ◌<◌, ◌≤◌, true, ◌&&◌, List, [], ◌∷◌, ◌++◌, length, map, append-nil, None, refl, ap, sym, ◌∙◌, arith, slice_index, ◌==◌, nat_le}
+use Rattle.std.specs.Prelude.{codes, replicate}
 use Rattle.std.specs.List.{flat_map, list_all}
 use Rattle.std.proofs.lemmas.Bool.{and_parts, eq-eqb, eqb-true, le-leb, leb-true, ltb-true}
 use Rattle.std.proofs.lemmas.List.{length-replicate}
@@ -9,12 +9,12 @@ use Rattle.te_model.specs.declared.route.PathShare.{PathShare}
 use Rattle.te_model.specs.Shape.{are_words, is_count, is_row_of, is_shaped_path, is_word}
 use Rattle.cert_text.specs.Fits.{AreWords}
 use Rattle.number_tables.specs.declared.line.NumLine.{NumLine}
-use Rattle.number_tables.specs.Due.{Due, done, line, AreDue, AreFile, CanEnd, one_later, first_undue}
+use Rattle.number_tables.specs.Due.{Due, done, line, AreFile, CanEnd, one_later, first_undue}
 use Rattle.number_tables.specs.Table.{AreLines, IsLine}
 use Rattle.number_tables.proofs.DueLines.{first_undue_leaves}
 use Rattle.ratio_witness.specs.declared.witness.Witness.{Witness}
-use Rattle.ratio_witness.specs.Text.{are_shaped_paths, has_count, is_path_count, is_path_line, is_shaped_witness, pair_lines, pairs_due, paths_due, share_line, witness_due, witness_first, witness_lines}
-use Rattle.ratio_witness.proofs.DueLines.{later, later_none, later_some, due_first, due_pairs}
+use Rattle.ratio_witness.specs.Text.{are_shaped_paths, has_count, is_shaped_witness, pair_lines, pairs_due, paths_due, share_line, witness_due, witness_first, witness_lines}
+use Rattle.ratio_witness.proofs.DueLines.{later, later_none, due_first, due_pairs}
 
 -- ---- each file can be ended
 

@@ -1,6 +1,6 @@
 -- What the reader answers, from what the table and its lines are.
-use Rattle.std.proofs.Common.{◌≡◌, ℕ, ◌+◌, ◌-◌, ◌^◌, ◌≤◌, true, List, length, Option, Some, None, Result, Ok, Err, refl, ap, sym, ◌∙◌, arith, subst, inl, inr}
-use Rattle.std.specs.Prelude.{◌⊎◌, IfOk}
+use Rattle.std.proofs.Common.{◌≡◌, ℕ, ◌+◌, ◌-◌, ◌^◌, ◌≤◌, true, List, length, Some, None, Result, Ok, Err, refl, ap, sym, ◌∙◌, arith, subst, inl, inr}
+use Rattle.std.specs.Prelude.{IfOk}
 use Rattle.te_model.specs.declared.certificate.Head.{Head}
 use Rattle.te_model.specs.declared.certificate.RuleFault.{RuleFault}
 use Rattle.te_model.specs.Faults.{LeavesAt}
@@ -8,7 +8,7 @@ use Rattle.te_model.specs.Network.{link_count}
 use Rattle.number_tables.specs.declared.fault.TableFault.{TableFault}
 use Rattle.number_tables.specs.declared.fault.TableFault.TheVariants as tables
 use Rattle.number_tables.specs.declared.line.NumLine.{NumLine}
-use Rattle.number_tables.specs.Due.{AreFile, LeavesSmallFiles, first_undue}
+use Rattle.number_tables.specs.Due.{AreFile, LeavesSmallFiles}
 use Rattle.number_tables.specs.Table.{AreLines, table_text}
 use Rattle.number_tables.proofs.DueLines.{first_undue_leaves, one_small_fault}
 use Rattle.ratio_witness.specs.declared.fault.WitnessFault.{WitnessFault}
@@ -18,7 +18,7 @@ use Rattle.ratio_witness.specs.Outcome.{IsDueOrMemory, fault_of}
 use Rattle.ratio_witness.specs.Reading.{FailsWithin}
 use Rattle.ratio_witness.specs.Rules.{witness_fault, KeepsRules}
 use Rattle.ratio_witness.specs.Text.{is_shaped_witness, keep_witness, witness_due, witness_first, witness_lines, witness_text, IsWitnessOf, IsWitnessRuleFault}
-use Rattle.ratio_witness.proofs.Ending.{shaped_parts, witness_can, witness_file, witness_lines_are}
+use Rattle.ratio_witness.proofs.Ending.{shaped_parts, witness_can, witness_file}
 use Rattle.ratio_witness.proofs.Narrowing.{witness_fault_kept, witness_whole}
 use Rattle.ratio_witness.proofs.OneWitness.{one_witness}
 

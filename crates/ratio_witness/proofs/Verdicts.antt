@@ -1,5 +1,5 @@
 -- What the verdict on a witness says.
-use Rattle.std.proofs.Common.{◌≡◌, ◌↔◌, ℕ, ◌*◌, ◌<◌, ◌≤◌, true, false, ◌&&◌, Option, Some, None, List, length, get_or, arith, refl, ap, sym, ◌∙◌, subst, nat_le}
+use Rattle.std.proofs.Common.{◌≡◌, ◌↔◌, ℕ, ◌*◌, ◌<◌, ◌≤◌, true, Option, Some, None, length, arith, refl, ap, sym, ◌∙◌, subst, nat_le}
 use Rattle.std.specs.Prelude.{IsTrue}
 use Rattle.std.proofs.lemmas.Bool.{leb-true}
 use Rattle.te_model.specs.declared.certificate.Head.{Head}
@@ -13,10 +13,8 @@ use Rattle.te_model.specs.Validity.{IsValidHead, FailsFrom, fault_at, faults_fro
 use Rattle.te_model.proofs.RuleSearch.{found_fails_from}
 use Rattle.te_model.proofs.Searches.{first_below_none, or_else-none}
 use Rattle.te_model.proofs.Tests.{and_true, first_some_none_at, first_failing_none_at}
-use Rattle.ratio_witness.specs.declared.verdict.WitnessVerdict.{WitnessVerdict}
 use Rattle.ratio_witness.specs.declared.verdict.WitnessVerdict.TheVariants.{Yes, No}
 use Rattle.ratio_witness.specs.declared.witness.Witness.{Witness}
-use Rattle.ratio_witness.specs.Judged.{CanJudge}
 use Rattle.ratio_witness.specs.Rules.{demand_of, KeepsRules}
 use Rattle.ratio_witness.specs.Verdict.{is_between, is_in_set, ratio_shown, shows_bound, verdict_fault, verdict_of, verdict_rules}
 use Rattle.ratio_witness.specs.Witness.{NoLowerRatio}

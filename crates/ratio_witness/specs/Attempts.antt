@@ -7,7 +7,6 @@ use Rattle.te_model.specs.Pairs.{AreDemands}
 use Rattle.ratio_witness.specs.declared.attempt.Attempt.{Attempt}
 use Rattle.ratio_witness.specs.declared.attempt.Tried.{Tried}
 use Rattle.ratio_witness.specs.Candidates.{paths_by}
-use Rattle.ratio_witness.specs.Rules.{KeepsRules}
 use Rattle.ratio_witness.specs.Text.{IsWitnessOf}
 use Rattle.ratio_witness.specs.Verdict.{ratio_shown}
 

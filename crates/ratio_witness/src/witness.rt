@@ -1,5 +1,5 @@
 //! Witnesses against smaller ratios.
-ghost use Rattle.std.specs.Prelude.{◌≡◌, slice_index, slice_index_or, []};
+ghost use Rattle.std.specs.Prelude.{◌≡◌};
 
 use te_model::{Items, Matrix, PathShare, number_at};
 

@@ -1,6 +1,5 @@
-use Rattle.std.proofs.Common.{◌≡◌, ◌∙◌, ◌<◌, List, length, arith, ap, slice_index}
+use Rattle.std.proofs.Common.{◌∙◌, List, length, arith, ap, slice_index}
 use Rattle.te_model.specs.declared.network.Link.{Link}
-use Rattle.te_model.specs.Network.{link_count}
 use Rattle.ratio_witness.specs.Witness.{most_used_link}
 use Rattle.ratio_witness.proofs.Ratios.{most_used_more}
 use Rattle.ratio_witness.proofs.utilisation.most_used_link.Goals as goal

@@ -1,4 +1,4 @@
-use Rattle.std.proofs.Common.{◌∙◌, arith}
+use Rattle.std.proofs.Common.{◌∙◌}
 use Rattle.ratio_witness.proofs.Ratios.{shown_by}
 use Rattle.ratio_witness.proofs.verdict.ratio_shown.Goals as goal
 
