@@ -10,3 +10,4 @@ pub mod Ending
 pub mod Narrowing
 pub mod OneWitness
 pub mod ReadAnswers
+pub mod Limits
