@@ -11,3 +11,4 @@ pub mod Narrowing
 pub mod OneWitness
 pub mod ReadAnswers
 pub mod Limits
+pub mod Heads

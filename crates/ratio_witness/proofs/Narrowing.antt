@@ -111,13 +111,13 @@ sound_rival_kept h w p le =
 carried_kept : (w : Witness) (p : ℕ) → is_carried (keep_witness w) p ≡ is_carried w p
 carried_kept w p =
     ap (λ (paths : List PathShare). slice_index w.demand.demand p == 0 || nat_le 1 (length paths)) (rival_kept w p)
-    ∙ ap (λ n. slice_index w.demand.demand p == 0 || nat_le 1 n) (length-map keep_path (rival_paths w p))
+    ∙ ap (λ n. slice_index w.demand.demand p == 0 || nat_le 1 n) (length-map (rival_paths w p) keep_path)
 
 whole_kept : (w : Witness) (p : ℕ) → has_whole_rival (keep_witness w) p ≡ has_whole_rival w p
 whole_kept w p =
     let paths = rival_paths w p in
     ap (λ (ps : List PathShare). length ps == 0 || (list_all (λ s. nat_le 1 s.weight) ps && sum_by (λ s. s.weight) ps == 1000000)) (rival_kept w p)
-    ∙ ap (λ n. n == 0 || (list_all (λ s. nat_le 1 s.weight) (map keep_path paths) && sum_by (λ s. s.weight) (map keep_path paths) == 1000000)) (length-map keep_path paths)
+    ∙ ap (λ n. n == 0 || (list_all (λ s. nat_le 1 s.weight) (map keep_path paths) && sum_by (λ s. s.weight) (map keep_path paths) == 1000000)) (length-map paths keep_path)
     ∙ ap (λ b. length paths == 0 || (b && sum_by (λ s. s.weight) (map keep_path paths) == 1000000)) (weighted_kept paths)
     ∙ ap (λ n. length paths == 0 || (list_all (λ s. nat_le 1 s.weight) paths && n == 1000000)) (sum_kept paths)
 
