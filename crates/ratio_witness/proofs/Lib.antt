@@ -12,3 +12,4 @@ pub mod OneWitness
 pub mod ReadAnswers
 pub mod Limits
 pub mod Heads
+pub mod Attempted
