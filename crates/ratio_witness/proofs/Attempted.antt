@@ -3,9 +3,9 @@ use Rattle.std.proofs.Common.{◌≡◌, ℕ, ◌^◌, ◌<◌, ◌≤◌, Bool,
 use Rattle.std.specs.Prelude.{IsTrue, slice_index_or}
 use Rattle.std.specs.List.{list_all}
 use Rattle.std.proofs.Math.ListN.{get_or-map}
-use Rattle.std.proofs.lemmas.Bool.{and_from, eq-eqb, le-leb, lt-ltb}
+use Rattle.std.proofs.lemmas.Bool.{and_from, eq-eqb, le-leb, lt-ltb, eqb-true}
 use Rattle.std.proofs.lemmas.List.{length-map}
-use Rattle.std.proofs.lemmas.List.Elements.{All-get_or}
+use Rattle.std.proofs.lemmas.List.Elements.{All-get_or, All-from_get_or}
 use Rattle.te_model.specs.declared.certificate.Head.{Head}
 use Rattle.te_model.specs.declared.certificate.RuleFault.{RuleFault}
 use Rattle.te_model.specs.declared.network.Network.{Network}
@@ -13,8 +13,16 @@ use Rattle.te_model.specs.declared.route.Pair.{Pair}
 use Rattle.te_model.specs.declared.route.PathShare.{PathShare}
 use Rattle.te_model.specs.declared.route.PairRoutes.{PairRoutes}
 use Rattle.te_model.specs.Counting.{first_some, unless}
+use Rattle.te_model.specs.declared.limits.TheConstants.{FORMAT_2}
+use Rattle.te_model.specs.Network.{link_count, node_count}
+use Rattle.te_model.specs.Shape.{are_words, is_count, is_shaped_path, is_word}
+use Rattle.te_model.specs.Laws.{LinksJoinNodes}
+use Rattle.te_model.proofs.Chains.{chains_of_path, path_links}
+use Rattle.shortest_path.proofs.PathLengths.{path_short}
+use Rattle.std.proofs.lemmas.List.Sums.{get_or-le-sum_by}
+use Rattle.ratio_witness.specs.Text.{are_shaped_paths}
 use Rattle.te_model.specs.Pairs.{AreDemands}
-use Rattle.te_model.specs.Path.{destination_of, is_path, no_routes, routes_at, source_of}
+use Rattle.te_model.specs.Path.{destination_of, is_path, no_routes, routes_at, source_of, chains}
 use Rattle.te_model.specs.PathRouting.{IsPathSplit}
 use Rattle.te_model.specs.Validity.{fault_at, paths_ascend, rule_fault}
 use Rattle.te_model.proofs.Searches.{first_below_none}
@@ -115,3 +123,40 @@ routed_kept h w routes is same demands bound x some y =
           ap (λ (ps : List PathShare). length ps == 0 || (list_all (λ s. nat_le 1 s.weight) ps && sum_by (λ s. s.weight) ps == 1000000)) (paths_at w routes p same)
           ∙ whole net (routes_at routes p) (split p below);
     })
+
+-- ---- the routing can be written
+
+-- a chain between two nodes has a link
+chain_some : (net : Network) (s t : ℕ) (links : List ℕ) → (s ≡ t → ⊥) → chains net s t links ≡ true → 1 ≤ length links
+chain_some net s t [] apart chain = absurd (apart (eqb-true s t chain))
+chain_some net s t (h ∷ hs) apart chain = omega arith
+
+shaped_path : (net : Network) (s t : ℕ) (p : PathShare) → LinksJoinNodes net → node_count net ≤ FORMAT_2.nodes → link_count net ≤ FORMAT_2.links →
+    s < node_count net → (s ≡ t → ⊥) → p.weight ≤ 1000000 → is_path net s t p.links ≡ true → is_shaped_path FORMAT_2 p ≡ true
+shaped_path net s t p joins few few_links inside apart light path =
+    let short = path_short net s t p.links joins inside path in
+    let some = chain_some net s t p.links apart (chains_of_path net s t p.links path) in
+    let words = all_to_tests is_word (λ h. h < link_count net) (λ h below. lt-ltb h (2 ^ 64) (omega (arith, below, few_links))) p.links (path_links net s t p.links path) in
+    and_from (is_word p.weight && is_count 1 FORMAT_2.hops (length p.links)) (are_words p.links)
+    (and_from (is_word p.weight) (is_count 1 FORMAT_2.hops (length p.links)) (lt-ltb p.weight (2 ^ 64) (omega (arith, light)))
+    (and_from (nat_le 1 (length p.links)) (nat_le (length p.links) FORMAT_2.hops) (le-leb 1 (length p.links) some)
+    (le-leb (length p.links) FORMAT_2.hops (omega (arith, short, few)))))
+    words
+
+no_path_share : PathShare
+no_path_share = record { links = []; weight = 0 }
+
+pub shaped_split : (net : Network) (r : PairRoutes) → LinksJoinNodes net → node_count net ≤ FORMAT_2.nodes → link_count net ≤ FORMAT_2.links →
+    r.pair.src < node_count net → (r.pair.src ≡ r.pair.dst → ⊥) → length r.paths ≤ 32 → IsPathSplit net r → are_shaped_paths r.paths ≡ true
+shaped_split net r joins few few_links inside apart few_paths split =
+    let paths : list_all (is_shaped_path FORMAT_2) r.paths ≡ true =
+    all_to_tests (is_shaped_path FORMAT_2) (λ s. is_shaped_path FORMAT_2 s ≡ true) (λ s e. e) r.paths
+    (All-from_get_or (λ s. is_shaped_path FORMAT_2 s ≡ true) r.paths no_path_share (λ k below.
+    shaped_path net r.pair.src r.pair.dst (get_or r.paths k no_path_share) joins few few_links inside apart
+    (omega (arith, get_or-le-sum_by (λ s. s.weight) r.paths k no_path_share below, split.whole))
+    (All-get_or (λ s. IsTrue (is_path net r.pair.src r.pair.dst s.links)) r.paths k no_path_share below split.paths)))
+    in
+    and_from (is_count 0 FORMAT_2.paths (length r.paths)) (list_all (is_shaped_path FORMAT_2) r.paths)
+    (and_from (nat_le 0 (length r.paths)) (nat_le (length r.paths) FORMAT_2.paths) (le-leb 0 (length r.paths) (omega arith))
+    (le-leb (length r.paths) FORMAT_2.paths (omega (arith, few_paths))))
+    paths

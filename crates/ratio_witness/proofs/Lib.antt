@@ -13,3 +13,4 @@ pub mod ReadAnswers
 pub mod Limits
 pub mod Heads
 pub mod Attempted
+pub mod TriedYes
