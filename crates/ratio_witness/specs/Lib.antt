@@ -7,3 +7,4 @@ pub mod Outcome
 pub mod Reading
 pub mod Candidates
 pub mod Attempts
+pub mod Answers
