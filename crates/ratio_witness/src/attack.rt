@@ -1,8 +1,8 @@
 //! The attack on a certificate: a witness by a scheme's routings.
-ghost use Rattle.std.specs.Prelude.{◌≡◌, ◌≤◌, IfOk, None};
+ghost use Rattle.std.specs.Prelude.{◌≡◌, ◌<◌, ◌≤◌, ℕ, [], None, IfOk, IfNone, IfSome, length, replicate, slice_index};
 ghost use Rattle.te_model.specs.Validity.{IsValidHead};
-ghost use Rattle.ratio_witness.specs.Attempts.{pairs_of};
-ghost use Rattle.ratio_witness.specs.Candidates.{IsChosen};
+ghost use Rattle.ratio_witness.specs.Attempts.{pairs_of, AreLimits, IsBestAttempt};
+ghost use Rattle.ratio_witness.specs.Candidates.{no_demand_scale, tried_of, IsChosen};
 ghost use Rattle.ratio_witness.specs.Text.{IsWitnessOf};
 ghost use Rattle.ratio_witness.specs.Verdict.{verdict_fault};
 
@@ -18,7 +18,9 @@ use te_model::{DemandSet, Head, Items, Matrix, Memory, Pairs};
 const GREATEST_BOUND: u128 = 9_999_999_999_999_999_999;
 
 // The declared pairs.
-fn pairs_of(alloc: Global, head: &Head) -> Result<Pairs, Memory> {
+fn pairs_of(alloc: Global, head: &Head) -> Result<Pairs, Memory>
+    ensures { IfOk result (λ pairs. pairs.list ≡ pairs_of head.now) }
+{
     let routes = head.routes.as_slice();
     let mut list = Vec::with_capacity(alloc, routes.len())?;
     for route in routes {
@@ -30,7 +32,10 @@ fn pairs_of(alloc: Global, head: &Head) -> Result<Pairs, Memory> {
 }
 
 // What no rival of each pair alone can pass.
-fn limits_of_pairs(alloc: Global, head: &Head) -> Result<Vec<u128>, Memory> {
+fn limits_of_pairs(alloc: Global, head: &Head) -> Result<Vec<u128>, Memory>
+    requires { IsValidHead head.now }
+    ensures { IfOk result (λ limits. AreLimits head.now limits.items) }
+{
     let count = head.routes.as_slice().len();
     let mut limits = Vec::with_capacity(alloc, count)?;
     for p in 0..count {
@@ -40,7 +45,11 @@ fn limits_of_pairs(alloc: Global, head: &Head) -> Result<Vec<u128>, Memory> {
 }
 
 // The place of the first of the greatest numbers, and 0 of an empty list.
-fn greatest_place(numbers: &[u128]) -> usize {
+fn greatest_place(numbers: &[u128]) -> usize
+    ensures greatest { (k : ℕ) → k < length numbers.now → slice_index numbers.now k ≤ slice_index numbers.now result }
+    ensures first { (k : ℕ) → k < result → slice_index numbers.now k < slice_index numbers.now result }
+    ensures within { 0 < length numbers.now → result < length numbers.now }
+{
     let mut greatest = 0;
     for k in 0..numbers.len() {
         if numbers[greatest] < numbers[k] {
@@ -56,7 +65,13 @@ fn best_of_all<S: Scheme>(
     head: &Head,
     rival: &S,
     plan: &S::Plan,
-) -> Result<Attempt, Memory> {
+) -> Result<Attempt, Memory>
+    requires head { IsValidHead head.now }
+    requires plan { S.is_plan rival.now head.now.network (pairs_of head.now) plan.now }
+    requires few { S.PATHS ≤ 32 }
+    requires all { head.now.set ≡ DemandSet.All }
+    ensures { IfOk result (IsBestAttempt head.now (λ demand routes. (note : S.Note) × S.relates rival.now head.now.network (pairs_of head.now) plan.now demand routes note)) }
+{
     let pairs = head.routes.as_slice().len();
     let mut limits = limits_of_pairs(alloc, head)?;
     let tried = direct_capacities(alloc, head)?;
@@ -82,7 +97,14 @@ fn best_of_box<S: Scheme>(
     plan: &S::Plan,
     lower: &Matrix,
     upper: &Matrix,
-) -> Result<Option<Attempt>, Memory> {
+) -> Result<Option<Attempt>, Memory>
+    requires head { IsValidHead head.now }
+    requires plan { S.is_plan rival.now head.now.network (pairs_of head.now) plan.now }
+    requires few { S.PATHS ≤ 32 }
+    requires bounds { head.now.set ≡ DemandSet.Box lower.now upper.now }
+    ensures some { IfOk result (λ o. IfSome o (IsBestAttempt head.now (λ demand routes. (note : S.Note) × S.relates rival.now head.now.network (pairs_of head.now) plan.now demand routes note))) }
+    ensures none { IfOk result (λ o. IfNone o (tried_of head.now head.now.set ≡ [])) }
+{
     let first = match bound_of(alloc, 0, lower)? {
         Some(tried) => Some(attempt(alloc, head, rival, plan, tried)?),
         None => None,
@@ -106,7 +128,13 @@ fn best_of<S: Scheme>(
     head: &Head,
     rival: &S,
     plan: &S::Plan,
-) -> Result<Option<Attempt>, Memory> {
+) -> Result<Option<Attempt>, Memory>
+    requires head { IsValidHead head.now }
+    requires plan { S.is_plan rival.now head.now.network (pairs_of head.now) plan.now }
+    requires few { S.PATHS ≤ 32 }
+    ensures some { IfOk result (λ o. IfSome o (IsBestAttempt head.now (λ demand routes. (note : S.Note) × S.relates rival.now head.now.network (pairs_of head.now) plan.now demand routes note))) }
+    ensures none { IfOk result (λ o. IfNone o (tried_of head.now head.now.set ≡ [])) }
+{
     match &head.set {
         DemandSet::All => {
             let best = best_of_all(alloc, head, rival, plan)?;
@@ -122,7 +150,13 @@ fn best_of<S: Scheme>(
 }
 
 // The witness that shows nothing: no demands and no paths.
-fn nothing_shown(alloc: Global, head: &Head) -> Result<Witness, Memory> {
+fn nothing_shown(alloc: Global, head: &Head) -> Result<Witness, Memory>
+    requires { IsValidHead head.now }
+    ensures witness { IfOk result (IsWitnessOf head.now) }
+    ensures yes { IfOk result (λ w. verdict_fault head.now w ≡ None) }
+    ensures nothing { IfOk result (λ w. (w.bound ≡ 0) × (w.x ≡ no_demand_scale head.now.set) × (w.y ≡ 1)
+        × (w.demand.demand ≡ replicate (length head.now.routes) 0) × (w.rival ≡ replicate (length head.now.routes) [])) }
+{
     let pairs = head.routes.as_slice().len();
     let demand = vec![in alloc; 0; pairs]?;
     let mut rival = Vec::with_capacity(alloc, pairs)?;

@@ -1,9 +1,9 @@
 //! What no rival of a pair alone can pass: all that it sends leaves its source and enters its destination.
-ghost use Rattle.std.specs.Prelude.{◌≡◌, ◌<◌, ◌≤◌, ℕ, List, length, IsTrue};
-ghost use Rattle.te_model.specs.declared.route.PathShare.{PathShare};
+ghost use Rattle.std.specs.Prelude.{◌≡◌, ◌<◌, IsTrue, length};
 ghost use Rattle.te_model.specs.Network.{is_well_formed};
 ghost use Rattle.te_model.specs.Validity.{IsValidHead};
-ghost use Rattle.ratio_witness.specs.Witness.{capacity_from, capacity_into, performance_ratio, IsRivalOf};
+ghost use Rattle.ratio_witness.specs.Attempts.{IsLimit};
+ghost use Rattle.ratio_witness.specs.Witness.{capacity_from, capacity_into};
 
 use crate::loads::loads_of_one;
 use te_model::{Head, Network, RATIO_UNIT, SHARE_UNIT, ceil_div};
@@ -41,9 +41,7 @@ fn capacity_into(net: &Network, node: u32) -> u64
 pub fn limit_of(head: &Head, pair: usize) -> u128
     requires head { IsValidHead head.now }
     requires pair { pair < length head.now.routes }
-    ensures { (demand : ℕ → ℕ) (rival : List (List PathShare)) → ((q : ℕ) → q < length head.now.routes → ¬ (q ≡ pair) → demand q ≡ 0) →
-        0 < demand pair → IsRivalOf head.now.network head.now.routes demand rival →
-        performance_ratio head.now.network head.now.routes demand rival ≤ result }
+    ensures { IsLimit head.now pair result }
 {
     let net = &head.network;
     let route = &head.routes.as_slice()[pair];
