@@ -1,6 +1,6 @@
 //! Printing a witness.
-ghost use Rattle.std.specs.Prelude.{◌≡◌, ◌++◌, ◌∷◌, IfOk, OnOk, flat_map, length};
-ghost use Rattle.ratio_witness.specs.Text.{pair_lines, witness_first, witness_lines, witness_text};
+ghost use Rattle.std.specs.Prelude.{◌≡◌, ◌++◌, ◌∷◌, [], IfOk, OnOk, flat_map, length};
+ghost use Rattle.ratio_witness.specs.Text.{pair_lines, share_line, witness_first, witness_lines, witness_text};
 
 use crate::witness::Witness;
 use number_tables::{NumLine, print_table};
@@ -16,7 +16,7 @@ pub(crate) fn first_line() -> &'static [u8]
 
 // A line of numbers after a word, which is empty where there is none.
 fn line(alloc: Global, word: &str, numbers: Vec<u64>) -> Result<NumLine, Memory>
-    ensures { IfOk result (λ l. (l.word ≡ word.now) × (l.numbers ≡ numbers.items)) }
+    ensures { IfOk result (λ l. l ≡ record { word = word.now; numbers = numbers.items }) }
 {
     let word = Name::new(String::from_str(alloc, word)?);
     Ok(NumLine {
@@ -39,15 +39,31 @@ fn share_numbers(alloc: Global, path: &PathShare) -> Result<Vec<u64>, Memory>
     Ok(numbers)
 }
 
+// The line of a path.
+fn share_line(alloc: Global, path: &PathShare) -> Result<NumLine, Memory>
+    ensures { IfOk result (λ l. l ≡ share_line path.now) }
+{
+    let numbers = share_numbers(alloc, path)?;
+    line(alloc, "", numbers)
+}
+
+// The line of a number of paths.
+fn count_line(alloc: Global, count: usize) -> Result<NumLine, Memory>
+    ensures { IfOk result (λ l. l ≡ record { word = []; numbers = count ∷ [] }) }
+{
+    let numbers = vec![in alloc; count as u64]?;
+    line(alloc, "", numbers)
+}
+
 // Adds the lines of a pair: the number of its paths, and each of them.
 fn add_pair(alloc: Global, lines: &mut Vec<NumLine>, paths: &[PathShare]) -> Result<(), Memory>
     ensures { OnOk result (lines.new.items ≡ lines.old.items ++ pair_lines paths.now) }
 {
-    let count = vec![in alloc; paths.len() as u64]?;
-    lines.push(line(alloc, "", count)?)?;
+    let first = count_line(alloc, paths.len())?;
+    lines.push(first)?;
     for path in paths {
-        let numbers = share_numbers(alloc, path)?;
-        lines.push(line(alloc, "", numbers)?)?;
+        let next = share_line(alloc, path)?;
+        lines.push(next)?;
     }
     Ok(())
 }
@@ -74,9 +90,12 @@ fn witness_lines(alloc: Global, witness: &Witness) -> Result<Vec<NumLine>, Memor
     let scale = vec![in alloc; witness.x, witness.y]?;
     let demand = Vec::from_slice(alloc, witness.demand.demand.as_slice())?;
     let mut lines = Vec::new(alloc);
-    lines.push(line(alloc, "bound", bound)?)?;
-    lines.push(line(alloc, "scale", scale)?)?;
-    lines.push(line(alloc, "demand", demand)?)?;
+    let first = line(alloc, "bound", bound)?;
+    lines.push(first)?;
+    let second = line(alloc, "scale", scale)?;
+    lines.push(second)?;
+    let third = line(alloc, "demand", demand)?;
+    lines.push(third)?;
     add_pairs(alloc, &mut lines, witness.rival.as_slice())?;
     Ok(lines)
 }
