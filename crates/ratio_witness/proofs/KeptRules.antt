@@ -70,19 +70,20 @@ simple_paths : (net : Network) (s t : ℕ) (paths : List PathShare) → link_cou
     All IsSimplePath paths
 simple_paths net s t paths few all = all_from_tests (λ q. is_path net s t q.links) IsSimplePath (λ q is. simple_path net s t q few is) paths all
 
--- no weights, or weights that sum to one million
+-- where there is a path, the weights sum to one million
+some_whole : (n sum : ℕ) (weighted : Bool) → (n == 0 || (weighted && sum == 1000000)) ≡ true → 1 ≤ n → sum ≡ 1000000
+some_whole n sum weighted whole some = grind (arith, nat_tests)
+
 whole_le : (paths : List PathShare) → (length paths == 0 || (list_all (λ s. nat_le 1 s.weight) paths && sum_by (λ s. s.weight) paths == 1000000)) ≡ true →
     sum_by (λ s. s.weight) paths ≤ 1000000
 whole_le [] is = omega arith
 whole_le (s ∷ ss) is =
-    let both : (list_all (λ s. nat_le 1 s.weight) (s ∷ ss) && sum_by (λ s. s.weight) (s ∷ ss) == 1000000) ≡ true = grind (arith, nat_tests) in
-    let e : sum_by (λ s. s.weight) (s ∷ ss) ≡ 1000000 = grind (arith, nat_tests) in
+    let e = some_whole (length (s ∷ ss)) (sum_by (λ s. s.weight) (s ∷ ss)) (list_all (λ s. nat_le 1 s.weight) (s ∷ ss)) is (omega arith) in
     omega (arith, e)
 
--- a pair with a demand has paths, whose weights sum to one million
-carried_whole : (demand n sum : ℕ) (weighted : Bool) → (demand == 0 || nat_le 1 n) ≡ true → (n == 0 || (weighted && sum == 1000000)) ≡ true → 0 < demand →
-    sum ≡ 1000000
-carried_whole demand n sum weighted carried whole some = grind (arith, nat_tests)
+-- a pair with a demand has a path
+some_path : (demand n : ℕ) → (demand == 0 || nat_le 1 n) ≡ true → 0 < demand → 1 ≤ n
+some_path demand n carried some = grind (arith, nat_tests)
 
 -- a valid head is that of a valid certificate without blocks
 pub valid_alone : (h : Head) → IsValidHead h → IsValid (record { head = h; blocks = [] })
@@ -137,8 +138,8 @@ is_rival h w keeps =
           let sound = and_true (list_all test (rival_paths w p)) (paths_ascend (rival_paths w p)) (kept.sound p below) in
           all_from_tests test (λ s. IsTrue (test s)) (λ s e. e) (rival_paths w p) sound.0;
       whole = λ p below some.
-          carried_whole (demand_of w p) (length (rival_paths w p)) (sum_by (λ s. s.weight) (rival_paths w p)) (list_all (λ s. nat_le 1 s.weight) (rival_paths w p))
-          (kept.carried p below) (kept.whole p below) some;
+          some_whole (length (rival_paths w p)) (sum_by (λ s. s.weight) (rival_paths w p)) (list_all (λ s. nat_le 1 s.weight) (rival_paths w p)) (kept.whole p below)
+          (some_path (demand_of w p) (length (rival_paths w p)) (kept.carried p below) some);
     }
 
 pub some_scale : (w : Witness) → has_scale w ≡ true → 1 ≤ w.y
