@@ -8,7 +8,7 @@ cd $D
 rm -rf NOTES proofs/printing
 for f in answers attack attempt candidates fault limits lines printing reading; do rm -f src/$f.rt; done
 for f in Text Outcome Reading Candidates Attempts Answers; do rm -f specs/$f.antt; done
-for f in Printing DueLines Ending Narrowing OneWitness ReadAnswers Limits Heads Attempted TriedYes; do rm -f proofs/$f.antt; done
+for f in Printing DueLines Ending Narrowing OneWitness ReadAnswers Limits Heads Attempted TriedYes Choosing; do rm -f proofs/$f.antt; done
 printf 'pub mod Witness\npub mod Rules\npub mod Judged\npub mod Verdict\n' > specs/Lib.antt
 printf 'pub mod Lower\npub mod Ends\npub mod LinkLoads\npub mod Ratios\npub mod KeptRules\npub mod Verdicts\n' > proofs/Lib.antt
 cat > src/lib.rt <<'L'

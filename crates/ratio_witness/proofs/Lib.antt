@@ -14,3 +14,4 @@ pub mod Limits
 pub mod Heads
 pub mod Attempted
 pub mod TriedYes
+pub mod Choosing

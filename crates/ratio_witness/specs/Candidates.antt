@@ -61,9 +61,9 @@ paths_by routes = map (λ r. r.paths) routes
 abbrev pub tried_ratio : Head → Tried → List (List PathShare) → ℕ
 tried_ratio h t rival = performance_ratio h.network h.routes (slice_index t.demand.demand) rival
 
--- what comes before place k is less than the second number, and the others are at most that
+-- the first ratio, of place j, is 0, or less than the second, of place k, or at most that and not before it
 abbrev pub IsUpToAt : ℕ → ℕ → ℕ → ℕ → Type 0
-IsUpToAt j k a b = (a < b) ⊎ ((k ≤ j) × (a ≤ b))
+IsUpToAt j k a b = (a ≡ 0) ⊎ (a < b) ⊎ ((k ≤ j) × (a ≤ b))
 
 -- A matrix is no better than that of place k, whose ratio this is: the scheme's routing of it, in the relation Routes, shows
 -- no more, or no rival of it at all does.
