@@ -1,6 +1,6 @@
 """Attack of a certificate's routing of every matrix: the guided order against the plain one, on random small networks.
 
-The guided order (src/attack.rt) must choose the candidate that the plain order chooses, and pass over only candidates that no
+The guided order (src/attacks.rt) must choose the candidate that the plain order chooses, and pass over only candidates that no
 rival brings before it. Rival: least paths by hops, which stands for a scheme. Prints how many were routed.
 """
 import random, sys

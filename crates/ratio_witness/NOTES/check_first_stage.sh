@@ -6,7 +6,7 @@ for d in src specs proofs must-fail; do rm -rf $D/$d; cp -r $S/$d $D/; done
 cp /tmp/w/J/crates.txt /tmp/w/Jx/crates.txt
 cd $D
 rm -rf NOTES proofs/printing
-for f in answers attack attempt candidates fault limits lines printing reading; do rm -f src/$f.rt; done
+for f in answers attacks attempt candidates fault limits lines printing reading; do rm -f src/$f.rt; done
 for f in Text Outcome Reading Candidates Attempts Answers; do rm -f specs/$f.antt; done
 for f in Printing DueLines Ending Narrowing OneWitness ReadAnswers Limits Heads Attempted TriedYes Choosing; do rm -f proofs/$f.antt; done
 printf 'pub mod Witness\npub mod Rules\npub mod Judged\npub mod Verdict\n' > specs/Lib.antt

@@ -8,7 +8,7 @@ ghost use Rattle.ratio_witness.specs.Rules.{KeepsRules};
 ghost use Rattle.ratio_witness.specs.Text.{witness_text, IsWitnessOf};
 ghost use Rattle.ratio_witness.specs.Witness.{NoLowerRatio};
 
-use crate::attack::attack;
+use crate::attacks::attack;
 use crate::printing::print;
 use crate::verdict::{WitnessVerdict, judge};
 use crate::witness::Witness;

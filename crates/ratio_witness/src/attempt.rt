@@ -42,7 +42,7 @@ fn paths_of(alloc: Global, routing: Routing) -> Result<Items<Items<PathShare>>, 
 }
 
 /// What the scheme's routing of the matrix shows.
-pub fn attempt<S: Scheme>(
+pub fn attempt_of<S: Scheme>(
     alloc: Global,
     head: &Head,
     rival: &S,

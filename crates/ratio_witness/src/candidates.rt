@@ -8,7 +8,7 @@ use std::alloc::Global;
 use te_model::{Head, Items, Matrix, Memory, Network, Pair};
 
 /// The demand of a pair alone: ratios do not depend on it.
-const ALONE: u64 = 1_000_000;
+const DEMAND_ALONE: u64 = 1_000_000;
 
 /// The greatest demand of a witness.
 const MOST: u64 = 1 << 32;
@@ -19,7 +19,7 @@ pub fn alone(alloc: Global, pairs: usize, pair: usize) -> Result<Tried, Memory>
     ensures { IfOk result (λ t. t ≡ alone pairs pair) }
 {
     let mut demand = vec![in alloc; 0; pairs]?;
-    demand[pair] = ALONE;
+    demand[pair] = DEMAND_ALONE;
     Ok(Tried {
         place: pair,
         demand: Matrix {

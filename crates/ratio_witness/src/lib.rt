@@ -7,7 +7,7 @@
 #![tactic(auto)]
 
 mod answers;
-mod attack;
+mod attacks;
 mod attempt;
 mod candidates;
 mod fault;
@@ -23,7 +23,7 @@ mod verdict;
 mod witness;
 
 pub use answers::{attack_text, check_witness_text};
-pub use attack::attack;
+pub use attacks::attack;
 pub use fault::WitnessFault;
 pub use printing::print;
 pub use reading::read;

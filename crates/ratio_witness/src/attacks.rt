@@ -6,7 +6,7 @@ ghost use Rattle.ratio_witness.specs.Candidates.{no_demand_scale, tried_of, IsCh
 ghost use Rattle.ratio_witness.specs.Text.{IsWitnessOf};
 ghost use Rattle.ratio_witness.specs.Verdict.{verdict_fault};
 
-use crate::attempt::{Attempt, attempt, better_of};
+use crate::attempt::{Attempt, attempt_of, better_of};
 use crate::candidates::{alone, base_of, bound_of, direct_capacities};
 use crate::limits::limit_of;
 use crate::witness::Witness;
@@ -75,7 +75,7 @@ fn best_of_all<S: Scheme>(
     let pairs = head.routes.as_slice().len();
     let mut limits = limits_of_pairs(alloc, head)?;
     let tried = direct_capacities(alloc, head)?;
-    let mut best = attempt(alloc, head, rival, plan, tried)?;
+    let mut best = attempt_of(alloc, head, rival, plan, tried)?;
     for _ in 0..pairs {
         let p = greatest_place(&limits);
         if limits[p] == 0 || limits[p] < best.ratio || limits[p] == best.ratio && best.place < p {
@@ -83,7 +83,7 @@ fn best_of_all<S: Scheme>(
         }
         limits[p] = 0;
         let tried = alone(alloc, pairs, p)?;
-        let next = attempt(alloc, head, rival, plan, tried)?;
+        let next = attempt_of(alloc, head, rival, plan, tried)?;
         best = better_of(best, next);
     }
     Ok(best)
@@ -106,11 +106,11 @@ fn best_of_box<S: Scheme>(
     ensures none { IfOk result (λ o. IfNone o (tried_of head.now head.now.set ≡ [])) }
 {
     let first = match bound_of(alloc, 0, lower)? {
-        Some(tried) => Some(attempt(alloc, head, rival, plan, tried)?),
+        Some(tried) => Some(attempt_of(alloc, head, rival, plan, tried)?),
         None => None,
     };
     let second = match bound_of(alloc, 1, upper)? {
-        Some(tried) => Some(attempt(alloc, head, rival, plan, tried)?),
+        Some(tried) => Some(attempt_of(alloc, head, rival, plan, tried)?),
         None => None,
     };
     match first {
@@ -142,7 +142,7 @@ fn best_of<S: Scheme>(
         }
         DemandSet::Margin { num: _, den, base } => {
             let tried = base_of(alloc, *den, base)?;
-            let best = attempt(alloc, head, rival, plan, tried)?;
+            let best = attempt_of(alloc, head, rival, plan, tried)?;
             Ok(Some(best))
         }
         DemandSet::Box { lower, upper } => best_of_box(alloc, head, rival, plan, lower, upper),
