@@ -6,6 +6,7 @@ use Rattle.std.specs.List.{list_all}
 use Rattle.std.proofs.lemmas.Bool.{leb-true}
 use Rattle.std.proofs.lemmas.Bool.Decides.{nat_tests}
 use Rattle.std.proofs.lemmas.List.Elements.{All-nil, All-weaker}
+use Rattle.te_model.specs.declared.certificate.Certificate.{Certificate}
 use Rattle.te_model.specs.declared.certificate.Head.{Head}
 use Rattle.te_model.specs.declared.certificate.RuleFault.{RuleFault}
 use Rattle.te_model.specs.declared.limits.TheConstants.{FORMAT_2}
@@ -100,7 +101,7 @@ some_link h shaped = grind (arith, nat_tests)
 
 pub can_judge : (h : Head) (w : Witness) → IsValidHead h → KeepsRules h w → CanJudge h w
 can_judge h w valid keeps =
-    let c = record { head = h; blocks = [] } in
+    let c : Certificate = record { head = h; blocks = [] } in
     let is = valid_alone h valid in
     let limits = valid_limits c is in
     let head_rules = rules_hold c is.1 in

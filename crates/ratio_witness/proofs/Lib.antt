@@ -4,14 +4,3 @@ pub mod LinkLoads
 pub mod Ratios
 pub mod KeptRules
 pub mod Verdicts
-pub mod Printing
-pub mod DueLines
-pub mod Ending
-pub mod Narrowing
-pub mod OneWitness
-pub mod ReadAnswers
-pub mod Limits
-pub mod Heads
-pub mod Attempted
-pub mod TriedYes
-pub mod Choosing

@@ -64,14 +64,14 @@ no_faults h w each bound =
 pub yes_exactly : (h : Head) (w : Witness) →
     (verdict_of (verdict_fault h w) ≡ Yes) ↔ (((p : ℕ) → p < length h.routes → IsTrue (is_in_set h.set w p)) × IsTrue (shows_bound h w))
 yes_exactly h w = (
-  λ yes. let none = yes_none (verdict_fault h w) yes in (no_fault_in_set h w none, no_fault_bound h w none),
+  λ answer. let none = yes_none (verdict_fault h w) answer in (no_fault_in_set h w none, no_fault_bound h w none),
   λ both. ap verdict_of (no_faults h w both.0 both.1),
 )
 
 pub no_first : (h : Head) (w : Witness) (rule place : ℕ) → verdict_of (verdict_fault h w) ≡ No rule place →
     FailsFrom 1 (verdict_rules h w) rule place × ((r k : ℕ) → FailsFrom 1 (verdict_rules h w) r k → IsUpTo rule place r k)
-no_first h w rule place no =
-    let found = no_some (verdict_fault h w) rule place no in
+no_first h w rule place answer =
+    let found = no_some (verdict_fault h w) rule place answer in
     let first = found_fails_from 1 (verdict_rules h w) found.0 found.1 in
     let P : ℕ → ℕ → Type 0 = λ n k. FailsFrom 1 (verdict_rules h w) n k
     × ((r j : ℕ) → FailsFrom 1 (verdict_rules h w) r j → IsUpTo n k r j) in
@@ -90,8 +90,8 @@ member (Box lower upper) w n some each = (w.x, w.y, some, λ p below. between (B
 
 pub yes_shows : (h : Head) (w : Witness) → IsValidHead h → KeepsRules h w → verdict_of (verdict_fault h w) ≡ Yes →
     NoLowerRatio h.network h.routes h.set w.bound
-yes_shows h w valid keeps yes =
-    let none = yes_none (verdict_fault h w) yes in
+yes_shows h w valid keeps answer =
+    let none = yes_none (verdict_fault h w) answer in
     let some = some_scale w (rules_kept h w keeps).scale in
     let judged = can_judge h w valid keeps in
     let bound : w.bound ≤ ratio_shown h w = leb-true w.bound (ratio_shown h w) (no_fault_bound h w none) in

@@ -2,7 +2,8 @@
 ghost use Rattle.std.specs.Prelude.{◌≡◌, ◌&&◌, ◌<◌, length, nat_le, sum_by};
 ghost use Rattle.std.specs.List.{list_all};
 ghost use Rattle.te_model.specs.Path.{is_path};
-ghost use Rattle.te_model.specs.Validity.{paths_ascend, rule_fault};
+ghost use Rattle.te_model.specs.Counting.{unless};
+ghost use Rattle.te_model.specs.Validity.{fault_at, paths_ascend, rule_fault};
 ghost use Rattle.ratio_witness.specs.Rules.{has_bound, has_scale, has_small_demand, has_sound_rival, has_whole_rival, is_carried, witness_fault};
 
 use crate::witness::Witness;
@@ -88,18 +89,15 @@ fn has_whole_rival(witness: &Witness, p: usize) -> bool
     paths.is_empty() || all_weighted(paths) && weights_sum(paths) == u128::from(SHARE_UNIT)
 }
 
-// Where U1 fails.
-fn bound_fault(witness: &Witness) -> Option<RuleFault>
-    ensures { result ≡ rule_fault 1 1 (λ place. has_bound witness.now) }
+// The fault of a rule with one place, where it does not hold.
+pub(crate) fn fault_unless(holds: bool, number: u8) -> Option<RuleFault>
+    ensures { result ≡ unless holds (fault_at number 0) }
 {
-    first_fault(1, 1, |_place| has_bound(witness))
-}
-
-// Where U2 fails.
-fn scale_fault(witness: &Witness) -> Option<RuleFault>
-    ensures { result ≡ rule_fault 2 1 (λ place. has_scale witness.now) }
-{
-    first_fault(2, 1, |_place| has_scale(witness))
+    if holds {
+        None
+    } else {
+        Some(RuleFault { number, place: 0 })
+    }
 }
 
 // Where U3 fails first.
@@ -137,8 +135,8 @@ pub fn witness_fault(head: &Head, witness: &Witness) -> Option<RuleFault>
     ensures { result ≡ witness_fault head.now witness.now }
 {
     let pairs = head.routes.as_slice().len();
-    bound_fault(witness)
-        .or(scale_fault(witness))
+    fault_unless(has_bound(witness), 1)
+        .or(fault_unless(has_scale(witness), 2))
         .or(demand_fault(witness, pairs))
         .or(carried_fault(witness, pairs))
         .or(path_fault(head, witness))

@@ -8,6 +8,7 @@ ghost use Rattle.ratio_witness.specs.Verdict.{is_between, is_in_set, ratio_shown
 ghost use Rattle.ratio_witness.specs.Witness.{NoLowerRatio};
 
 use crate::loads::{loads_by_rival, loads_by_routes};
+use crate::rules::fault_unless;
 use crate::utilisation::utilisation_ratio;
 use crate::witness::Witness;
 use te_model::{DemandSet, Head, RuleFault, first_fault};
@@ -85,14 +86,8 @@ fn bound_fault(head: &Head, witness: &Witness) -> Option<RuleFault>
     requires { CanJudge head.now witness.now }
     ensures { result ≡ unless (shows_bound head.now witness.now) (fault_at 2 0) }
 {
-    if u128::from(witness.bound) <= ratio_shown(head, witness) {
-        None
-    } else {
-        Some(RuleFault {
-            number: 2,
-            place: 0,
-        })
-    }
+    let shown = ratio_shown(head, witness);
+    fault_unless(u128::from(witness.bound) <= shown, 2)
 }
 
 // The first of J1 and J2 that fails.

@@ -19,17 +19,17 @@ below_pairs routes list p same below = let e = ap length same in omega (arith, b
 
 pub add_demand-requires-clause-paths : goal.add_demand-requires-clause-paths
 add_demand-requires-clause-paths c =
-    let inside = below_pairs c.args.head.now.routes c.as_slice.result.now c.loop-p.p c.as_slice.ensures c.loop-p-test.true in
+    let inside = below_pairs c.args.head.now.routes c.as_slice-p-end.result.now c.loop-p.p c.as_slice-p-end.ensures c.loop-p-test.true in
     subst (All IsSimplePath) (sym c.rival_paths.ensures) (c.requires.rival.each c.loop-p.p inside)
 
 pub add_demand-requires-clause-whole : goal.add_demand-requires-clause-whole
 add_demand-requires-clause-whole c =
-    let inside = below_pairs c.args.head.now.routes c.as_slice.result.now c.loop-p.p c.as_slice.ensures c.loop-p-test.true in
+    let inside = below_pairs c.args.head.now.routes c.as_slice-p-end.result.now c.loop-p.p c.as_slice-p-end.ensures c.loop-p-test.true in
     omega (arith, ap (sum_by (λ s. s.weight)) c.rival_paths.ensures, c.requires.rival.whole c.loop-p.p inside)
 
 pub add_demand-requires-clause-demand : goal.add_demand-requires-clause-demand
 add_demand-requires-clause-demand c =
-    let inside = below_pairs c.args.head.now.routes c.as_slice.result.now c.loop-p.p c.as_slice.ensures c.loop-p-test.true in
+    let inside = below_pairs c.args.head.now.routes c.as_slice-p-end.result.now c.loop-p.p c.as_slice-p-end.ensures c.loop-p-test.true in
     omega (arith, c.demand_of-demand.ensures, c.requires.demands c.loop-p.p inside)
 
 pub add_demand-requires-clause-room : goal.add_demand-requires-clause-room
@@ -37,7 +37,7 @@ add_demand-requires-clause-room c = λ h.
     let routes = c.args.head.now.routes in
     let n = length routes in
     let w = c.args.witness.now in
-    let inside = below_pairs routes c.as_slice.result.now c.loop-p.p c.as_slice.ensures c.loop-p-test.true in
+    let inside = below_pairs routes c.as_slice-p-end.result.now c.loop-p.p c.as_slice-p-end.ensures c.loop-p-test.true in
     omega (
       arith,
       c.loop-p.invariant.sums h,
@@ -71,14 +71,14 @@ ended routes list p same up down = let e = ap length same in omega (arith, e, up
 pub returns-clause-loads : goal.returns-clause-loads
 returns-clause-loads c = λ e.
     let w = c.args.witness.now in
-    let end' = ended c.args.head.now.routes c.as_slice.result.now c.loop-p.p c.as_slice.ensures (omega arith) (omega arith) in
+    let end' = ended c.args.head.now.routes c.as_slice-p-end.result.now c.loop-p.p c.as_slice-p-end.ensures (omega arith) (omega arith) in
     c.loop-p.invariant.sums e ∙ ap (λ n. load n (demand_of w) (rival_share w.rival) e) end'
 
 pub returns-clause-small : goal.returns-clause-small
 returns-clause-small c = λ e.
     let n = length c.args.head.now.routes in
     let w = c.args.witness.now in
-    let end' = ended c.args.head.now.routes c.as_slice.result.now c.loop-p.p c.as_slice.ensures (omega arith) (omega arith) in
+    let end' = ended c.args.head.now.routes c.as_slice-p-end.result.now c.loop-p.p c.as_slice-p-end.ensures (omega arith) (omega arith) in
     omega (
       arith,
       c.loop-p.invariant.sums e,

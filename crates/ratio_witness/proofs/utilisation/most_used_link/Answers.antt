@@ -13,5 +13,5 @@ loop-h-preserved c = record {
 
 pub returns-clause-most : goal.returns-clause-most
 returns-clause-most c =
-    let count = ap (λ (ls : List Link). length ls) c.as_slice.ensures in
+    let count = ap (λ (ls : List Link). length ls) c.as_slice-count.ensures in
     c.loop-h.invariant.same ∙ ap (most_used_link c.args.net.now (slice_index c.args.loads.now)) (omega (arith, count))

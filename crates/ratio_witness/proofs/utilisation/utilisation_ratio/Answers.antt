@@ -1,4 +1,4 @@
-use Rattle.std.proofs.Common.{◌∙◌, ◌*◌, arith, ap, slice_index}
+use Rattle.std.proofs.Common.{◌∙◌, ◌*◌, ◌^◌, ◌≤◌, arith, ap, slice_index}
 use Rattle.te_model.specs.Network.{link_count}
 use Rattle.ratio_witness.specs.Witness.{most_used_link}
 use Rattle.ratio_witness.proofs.Ratios.{capacity_by_load, load_by_capacity, same_quotient}
@@ -16,12 +16,18 @@ returns c =
 
 pub overflow_mul-over : goal.overflow_mul-over
 overflow_mul-over c =
-    capacity_by_load (c.from.result * c.capacity_of.result) (slice_index c.args.loads.now c.most_used_link-e.result)
-    (let unit = ap (λ u. u * c.capacity_of.result) c.from.ensures in
-    omega (arith, unit, c.capacity_of.ensures, c.requires.loads.capacities c.most_used_link-h.result))
-    (c.requires.loads.small c.most_used_link-e.result)
+    let unit = ap (λ u. u * c.capacity_of.result) c.from.ensures in
+    let few : c.from.result * c.capacity_of.result ≤ 1000000 * 2 ^ 32 = omega (arith, unit, c.capacity_of.ensures, c.requires.loads.capacities c.most_used_link-h.result) in
+    omega (
+      arith,
+      capacity_by_load (c.from.result * c.capacity_of.result) (slice_index c.args.loads.now c.most_used_link-e.result) few
+          (c.requires.loads.small c.most_used_link-e.result),
+    )
 
 pub overflow_mul-under : goal.overflow_mul-under
 overflow_mul-under c =
-    load_by_capacity (slice_index c.args.by_rival.now c.most_used_link-h.result) c.capacity_of-2.result (c.requires.rival.small c.most_used_link-h.result)
-    (omega (arith, c.capacity_of-2.ensures, c.requires.loads.capacities c.most_used_link-e.result))
+    omega (
+      arith,
+      load_by_capacity (slice_index c.args.by_rival.now c.most_used_link-h.result) c.capacity_of-2.result (c.requires.rival.small c.most_used_link-h.result)
+          (omega (arith, c.capacity_of-2.ensures, c.requires.loads.capacities c.most_used_link-e.result)),
+    )

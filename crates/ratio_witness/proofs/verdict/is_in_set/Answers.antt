@@ -8,4 +8,4 @@ returns-in-Margin c =
 
 pub returns-in-Box : goal.returns-in-Box
 returns-in-Box c =
-    c.is_between.ensures ∙ box_between c.args.head.now.set c.in-Box.lower c.in-Box.upper c.args.witness.now c.args.p c.in-Box.is
+    c.is_between-in-Box.ensures ∙ box_between c.args.head.now.set c.in-Box.lower c.in-Box.upper c.args.witness.now c.args.p c.in-Box.is

@@ -18,7 +18,7 @@ returns-clause-yes c =
     (sym c.verdict.ensures) (yes_exactly h w)
 
 pub returns-clause-no : goal.returns-clause-no
-returns-clause-no c = λ rule place no. no_first c.args.head.now c.args.witness.now rule place (sym c.verdict.ensures ∙ no)
+returns-clause-no c = λ rule place answer. no_first c.args.head.now c.args.witness.now rule place (sym c.verdict.ensures ∙ answer)
 
 pub returns-clause-ratio : goal.returns-clause-ratio
-returns-clause-ratio c = λ yes. yes_shows c.args.head.now c.args.witness.now c.requires.head c.requires.rules (sym c.verdict.ensures ∙ yes)
+returns-clause-ratio c = λ answer. yes_shows c.args.head.now c.args.witness.now c.requires.head c.requires.rules (sym c.verdict.ensures ∙ answer)

@@ -1,7 +1,0 @@
-use Rattle.std.proofs.Common.{◌≡◌, ◌++◌, ◌∷◌, [], length, map, take}
-use Rattle.ratio_witness.specs.Text.{share_line}
-use Rattle.ratio_witness.proofs.printing.add_pair.Given as goal
-
-abbrev pub invariant-loop-path : goal.invariant-loop-path
-invariant-loop-path l =
-    l.lines.items ≡ l.fn.lines.items ++ (record { word = []; numbers = length l.paths ∷ [] } ∷ map share_line (take l.path-index l.paths))

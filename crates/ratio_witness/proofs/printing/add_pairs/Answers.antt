@@ -1,9 +1,0 @@
-use Rattle.ratio_witness.specs.Text.{pair_lines}
-use Rattle.ratio_witness.proofs.Printing.{all_put, one_more}
-use Rattle.ratio_witness.proofs.printing.add_pairs.Goals as goal
-
-pub loop-paths-preserved : goal.loop-paths-preserved
-loop-paths-preserved c = one_more pair_lines _ _ _ c.args.rival.now c.loop-paths.paths-index c.paths-item.result c.loop-paths-test.true c.paths-item.is c.loop-paths.invariant c.in_ok-add_pair.ensures
-
-pub returns : goal.returns
-returns c = all_put pair_lines _ _ c.args.rival.now c.loop-paths.paths-index c.loop-paths-test.false c.loop-paths.invariant
