@@ -1,0 +1,4 @@
+pub mod Witness
+pub mod Rules
+pub mod Judged
+pub mod Verdict
