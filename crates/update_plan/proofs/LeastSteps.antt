@@ -1,5 +1,6 @@
 -- What the numbers of the links say of the update.
 use Rattle.std.proofs.Common.{◌↔◌, ◌≡◌, inl, inr, ℕ, suc, ◌+◌, ◌*◌, ◌-◌, ◌<◌, ◌≤◌, List, length, arith, sym, subst}
+use Rattle.std.specs.Prelude.{slice_index}
 use Rattle.std.proofs.lemmas.Bool.{cases_lt}
 use Rattle.te_model.specs.declared.network.Network.{Network}
 use Rattle.te_model.specs.declared.route.PairRoutes.{PairRoutes}
@@ -32,8 +33,9 @@ enough_is net demand paths loads are K e =
     let eg = are.growth.each e in
     let ed = are.decline.each e in
     (
-      λ has. enough_same (SHARE_UNIT * capacity_of net e) _ _ _ _ (load_by x x.before e) (load_by x x.after e) (growth_on x e) (decline_on x e) K eb ea eg ed has,
-      λ has. enough_same (SHARE_UNIT * capacity_of net e) (load_by x x.before e) (load_by x x.after e) (growth_on x e) (decline_on x e) _ _ _ _ K
+      λ has. enough_same (SHARE_UNIT * capacity_of net e) (slice_index loads.before e) (slice_index loads.after e) (slice_index loads.growth e) (slice_index loads.decline e) (load_by x x.before e) (load_by x x.after e) (growth_on x e) (decline_on x e) K eb ea eg ed has,
+      λ has. enough_same (SHARE_UNIT * capacity_of net e) (load_by x x.before e) (load_by x x.after e) (growth_on x e) (decline_on x e)
+      (slice_index loads.before e) (slice_index loads.after e) (slice_index loads.growth e) (slice_index loads.decline e) K
       (sym eb) (sym ea) (sym eg) (sym ed) has,
     )
 

@@ -5,3 +5,4 @@ pub mod PlanPaths
 pub mod LeastSteps
 pub mod OneList
 pub mod LoadSums
+pub mod StageWeights

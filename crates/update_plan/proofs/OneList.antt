@@ -1,6 +1,6 @@
 -- Two routings have one list of paths, side by side.
 use Rattle.std.proofs.Common.{◌⊎◌, inl, inr, ◌≡◌, ℕ, zero, suc, ◌+◌, ◌-◌, ◌<◌, ◌≤◌, Bool, true, false, List, [], ◌∷◌, ◌++◌, length, get_or, arith, refl, ap, sym, ◌∙◌, subst, All}
-use Rattle.std.specs.Prelude.{IsTrue, bytes_eq, if◌then◌else◌}
+use Rattle.std.specs.Prelude.{IsTrue, bytes_eq, sum_by, if◌then◌else◌}
 use Rattle.std.specs.List.{AllPairs}
 use Rattle.std.proofs.lemmas.Bool.{cases_lt}
 use Rattle.std.proofs.lemmas.List.Elements.{All-cons}
@@ -107,7 +107,9 @@ not_before x y xs ys some asc asc' before after lt =
 some_weight : (x : UpdatePath) (xs : List UpdatePath) → 1 ≤ x.before + x.after → weight_by (λ u. u.before) (λ l. true) (x ∷ xs) ≡ 0 →
     weight_by (λ u. u.after) (λ l. true) (x ∷ xs) ≡ 0 → ⊥
 some_weight x xs some before after =
-    omega (arith, some, before, after, sum_by-cons (λ (u : UpdatePath). u.before) x xs, sum_by-cons (λ (u : UpdatePath). u.after) x xs)
+    let before' : sum_by (λ (u : UpdatePath). u.before) (x ∷ xs) ≡ 0 = before in
+    let after' : sum_by (λ (u : UpdatePath). u.after) (x ∷ xs) ≡ 0 = after in
+    omega (arith, some, before', after', sum_by-cons (λ (u : UpdatePath). u.before) x xs, sum_by-cons (λ (u : UpdatePath). u.after) x xs)
 
 -- the rest has the same weights
 rest_same : (weight : UpdatePath → ℕ) (x y : UpdatePath) (xs ys : List UpdatePath) → x ≡ y →

@@ -69,10 +69,12 @@ own_paths : (net : Network) (pairs : ℕ) (r s : PairRoutes) (p : ℕ) (own : Li
 own_paths net pairs r s p own inside before after side k d below =
     let u = get_or own k d in
     let over = goes_over net r s p own before after side k d below in
+    let old : sum_by (λ (v : UpdatePath). v.before) own ≡ SHARE_UNIT = side.before_is (λ l. true) ∙ before.whole in
+    let new : sum_by (λ (v : UpdatePath). v.after) own ≡ SHARE_UNIT = side.after_is (λ l. true) ∙ after.whole in
     record {
       pair = omega (arith, (side.own k d below).0, inside);
-      before = omega (arith, get_or-le-sum_by (λ (v : UpdatePath). v.before) own k d below, side.before_is (λ l. true), before.whole);
-      after = omega (arith, get_or-le-sum_by (λ (v : UpdatePath). v.after) own k d below, side.after_is (λ l. true), after.whole);
+      before = omega (arith, get_or-le-sum_by (λ (v : UpdatePath). v.before) own k d below, old);
+      after = omega (arith, get_or-le-sum_by (λ (v : UpdatePath). v.after) own k d below, new);
       links = over.0;
       distinct = over.1;
     }

@@ -52,11 +52,17 @@ pairs_load demand (suc n) before after paths (earlier, own, is, rest, side) e =
     let f : UpdatePath → ℕ = λ u. if has_number u.links e then slice_index demand u.pair * u.before else 0 in
     let g : UpdatePath → ℕ = λ u. if has_number u.links e then slice_index demand u.pair * u.after else 0 in
     let was = pairs_load demand n before after earlier rest e in
-    let f_own = own_load demand (λ u. u.before) test n own side.own ∙ ap (λ s. slice_index demand n * s) (side.before_is test) in
-    let g_own = own_load demand (λ u. u.after) test n own side.own ∙ ap (λ s. slice_index demand n * s) (side.after_is test) in
+    let f_own : sum_by f own ≡ slice_index demand n * share before n e =
+    own_load demand (λ u. u.before) test n own side.own ∙ ap (λ s. slice_index demand n * s) (side.before_is test)
+    in
+    let g_own : sum_by g own ≡ slice_index demand n * share after n e =
+    own_load demand (λ u. u.after) test n own side.own ∙ ap (λ s. slice_index demand n * s) (side.after_is test)
+    in
+    let f_next : load (suc n) (slice_index demand) (share before) e ≡ load n (slice_index demand) (share before) e + slice_index demand n * share before n e = refl in
+    let g_next : load (suc n) (slice_index demand) (share after) e ≡ load n (slice_index demand) (share after) e + slice_index demand n * share after n e = refl in
     (
-      omega (arith, ap (sum_by f) is, sum_by-append f earlier own, was.0, f_own),
-      omega (arith, ap (sum_by g) is, sum_by-append g earlier own, was.1, g_own),
+      omega (arith, ap (sum_by f) is, sum_by-append f earlier own, was.0, f_own, f_next),
+      omega (arith, ap (sum_by g) is, sum_by-append g earlier own, was.1, g_own, g_next),
     )
 
 pub loads_are_of_routings : LoadsAreOfRoutings

@@ -208,15 +208,11 @@ room K X c fits =
 pub on_quotients : (x : Update) (K e : ℕ) → 1 ≤ K → IsSafeOn x K e ↔ HasSteps x K e
 on_quotients x K e some = (to, from)
   where
-    B : ℕ
-    B = load_by x x.before e
-
-    A : ℕ
-    A = load_by x x.after e
-
     to : IsSafeOn x K e → HasSteps x K e
     to safe =
         let fits = (on_ends x K e some).0 safe in
+        let B = load_by x x.before e in
+        let A = load_by x x.after e in
         let c = x.capacity e in
         let before = once_fits K B (growth_on x e) c some fits.first in
         let after = once_fits K A (decline_on x e) c some fits.last in
@@ -229,8 +225,8 @@ on_quotients x K e some = (to, from)
 
     from : HasSteps x K e → IsSafeOn x K e
     from has = (on_ends x K e some).1 (record {
-      first = omega (arith, has.growth_fits, room K B (x.capacity e) has.before_fits);
-      last = omega (arith, has.decline_fits, room K A (x.capacity e) has.after_fits);
+      first = omega (arith, has.growth_fits, room K (load_by x x.before e) (x.capacity e) has.before_fits);
+      last = omega (arith, has.decline_fits, room K (load_by x x.after e) (x.capacity e) has.after_fits);
     })
 
 pub by_quotients : SafeByQuotients

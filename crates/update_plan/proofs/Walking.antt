@@ -1,6 +1,6 @@
 -- One path more of a pair in two splits, side by side.
-use Rattle.std.proofs.Common.{◌⊎◌, inl, inr, ◌≡◌, ℕ, ◌+◌, ◌-◌, ◌<◌, ◌≤◌, Bool, true, false, not, ◌&&◌, List, [], ◌∷◌, ◌++◌, length, get_or, take, arith, refl, ap, sym, ◌∙◌, subst, nat_lt, All}
-use Rattle.std.specs.Prelude.{IsTrue, suc, if◌then◌else◌}
+use Rattle.std.proofs.Common.{◌⊎◌, inl, inr, ◌≡◌, ℕ, suc, ◌+◌, ◌-◌, ◌<◌, ◌≤◌, Bool, true, false, not, ◌&&◌, List, [], ◌∷◌, ◌++◌, length, get_or, take, arith, refl, ap, sym, ◌∙◌, subst, nat_lt, All}
+use Rattle.std.specs.Prelude.{IsTrue, if◌then◌else◌}
 use Rattle.std.specs.List.{AllPairs}
 use Rattle.std.proofs.lemmas.Bool.{and_parts, false≢true, lt-ltb, ltb-true}
 use Rattle.std.proofs.lemmas.List.{take_all}
@@ -86,9 +86,9 @@ all_before : (own : List UpdatePath) (links : List ℕ) (u : UpdatePath) → u.l
 all_before own links u same all k d below =
     subst (λ l. list_below (get_or own k d).links l ≡ true) (sym same) (All-get_or (λ (v : UpdatePath). list_below v.links links ≡ true) own k d below all)
 
-pushed : (own : List UpdatePath) (links : List ℕ) (u : UpdatePath) → u.links ≡ links → All (λ v. list_below v.links links ≡ true) own →
+ascending_push : (own : List UpdatePath) (links : List ℕ) (u : UpdatePath) → u.links ≡ links → All (λ v. list_below v.links links ≡ true) own →
     AllPairs (λ v w. IsTrue (list_below v.links w.links)) own → AllPairs (λ v w. IsTrue (list_below v.links w.links)) (own ++ u ∷ [])
-pushed own links u same all asc = all_pairs_push (λ (v w : UpdatePath). IsTrue (list_below v.links w.links)) own u asc (all_before own links u same all)
+ascending_push own links u same all asc = all_pairs_push (λ (v w : UpdatePath). IsTrue (list_below v.links w.links)) own u asc (all_before own links u same all)
 
 owned : (p : ℕ) (own : List UpdatePath) (u : UpdatePath) → u.pair ≡ p → 1 ≤ u.before + u.after → All (λ v. (v.pair ≡ p) × (1 ≤ v.before + v.after)) own →
     All (λ v. (v.pair ≡ p) × (1 ≤ v.before + v.after)) (own ++ u ∷ [])
@@ -103,7 +103,7 @@ walk_before : (p : ℕ) (before after : List PathShare) (i j : ℕ) (own : List 
     u.pair ≡ p → u.links ≡ links_at before i → u.before ≡ (path_at before i).weight → u.after ≡ 0 →
     IsWalked p before after i j own → IsWalked p before after (i + 1) j (own ++ u ∷ [])
 walk_before p before after i j own u asc some i_in first pair links weight none walked = record {
-  ascending = pushed own (links_at before i) u links (walked.before.below i_in) walked.ascending;
+  ascending = ascending_push own (links_at before i) u links (walked.before.below i_in) walked.ascending;
   own = owned p own u pair (omega (arith, weight, weight_some before i i_in some)) walked.own;
   before = taken (λ v. v.before) before i own u asc i_in links weight walked.before;
   after = kept (λ v. v.after) after j own u none (λ j_in. subst (λ l. list_below l (links_at after j) ≡ true) (sym links) (first j_in)) walked.after;
@@ -115,7 +115,7 @@ walk_after : (p : ℕ) (before after : List PathShare) (i j : ℕ) (own : List U
     u.pair ≡ p → u.links ≡ links_at after j → u.after ≡ (path_at after j).weight → u.before ≡ 0 →
     IsWalked p before after i j own → IsWalked p before after i (j + 1) (own ++ u ∷ [])
 walk_after p before after i j own u asc some j_in first pair links weight none walked = record {
-  ascending = pushed own (links_at after j) u links (walked.after.below j_in) walked.ascending;
+  ascending = ascending_push own (links_at after j) u links (walked.after.below j_in) walked.ascending;
   own = owned p own u pair (omega (arith, weight, weight_some after j j_in some)) walked.own;
   before = kept (λ v. v.before) before i own u none (λ i_in. subst (λ l. list_below l (links_at before i) ≡ true) (sym links) (first i_in)) walked.before;
   after = taken (λ v. v.after) after j own u asc j_in links weight walked.after;
@@ -127,7 +127,7 @@ walk_both : (p : ℕ) (before after : List PathShare) (i j : ℕ) (own : List Up
     u.pair ≡ p → u.links ≡ links_at before i → u.before ≡ (path_at before i).weight → u.after ≡ (path_at after j).weight →
     IsWalked p before after i j own → IsWalked p before after (i + 1) (j + 1) (own ++ u ∷ [])
 walk_both p before after i j own u asc asc' some i_in j_in same pair links weight weight' walked = record {
-  ascending = pushed own (links_at before i) u links (walked.before.below i_in) walked.ascending;
+  ascending = ascending_push own (links_at before i) u links (walked.before.below i_in) walked.ascending;
   own = owned p own u pair (omega (arith, weight, weight_some before i i_in some)) walked.own;
   before = taken (λ v. v.before) before i own u asc i_in links weight walked.before;
   after = taken (λ v. v.after) after j own u asc' j_in (links ∙ same) weight' walked.after;
@@ -190,28 +190,25 @@ pub walk_on : (p : ℕ) (before after : List PathShare) (i j : ℕ) (own : List 
     IsWalked p before after (place_after (comes_next before i after j) i) (place_after (comes_next after j before i) j) (own ++ next_update p before i after j ∷ [])
 walk_on p before after i j own asc asc' some some' left walked = go (comes_next before i after j) (comes_next after j before i) refl refl
   where
-    u : UpdatePath
-    u = next_update p before i after j
-
-    weight_before : (b : Bool) → comes_next before i after j ≡ b → u.before ≡ (if b then (path_at before i).weight else 0)
+    weight_before : (b : Bool) → comes_next before i after j ≡ b → (next_update p before i after j).before ≡ (if b then (path_at before i).weight else 0)
     weight_before b e = ap (λ c. if c then (path_at before i).weight else 0) e
 
-    weight_after : (a : Bool) → comes_next after j before i ≡ a → u.after ≡ (if a then (path_at after j).weight else 0)
+    weight_after : (a : Bool) → comes_next after j before i ≡ a → (next_update p before i after j).after ≡ (if a then (path_at after j).weight else 0)
     weight_after a e = ap (λ c. if c then (path_at after j).weight else 0) e
 
-    links : (b : Bool) → comes_next before i after j ≡ b → u.links ≡ (if b then links_at before i else links_at after j)
+    links : (b : Bool) → comes_next before i after j ≡ b → (next_update p before i after j).links ≡ (if b then links_at before i else links_at after j)
     links b e = ap (λ c. if c then links_at before i else links_at after j) e
 
     go : (b a : Bool) → comes_next before i after j ≡ b → comes_next after j before i ≡ a →
-        IsWalked p before after (place_after b i) (place_after a j) (own ++ u ∷ [])
+        IsWalked p before after (place_after b i) (place_after a j) (own ++ next_update p before i after j ∷ [])
     go true true eb ea =
-        walk_both p before after i j own u asc asc' some (next_true before i after j eb).0 (next_true after j before i ea).0 (both_same before after i j eb ea)
+        walk_both p before after i j own (next_update p before i after j) asc asc' some (next_true before i after j eb).0 (next_true after j before i ea).0 (both_same before after i j eb ea)
         refl (links true eb) (weight_before true eb) (weight_after true ea) walked
     go true false eb ea =
-        walk_before p before after i j own u asc some (next_true before i after j eb).0 (λ j_in. (next_false after j before i ea j_in).1)
+        walk_before p before after i j own (next_update p before i after j) asc some (next_true before i after j eb).0 (λ j_in. (next_false after j before i ea j_in).1)
         refl (links true eb) (weight_before true eb) (weight_after false ea) walked
     go false true eb ea =
-        walk_after p before after i j own u asc' some' (next_true after j before i ea).0 (λ i_in. (next_false before i after j eb i_in).1)
+        walk_after p before after i j own (next_update p before i after j) asc' some' (next_true after j before i ea).0 (λ i_in. (next_false before i after j eb i_in).1)
         refl (links false eb) (weight_after true ea) (weight_before false eb) walked
     go false false eb ea = absurd (one_next before after i j left eb ea)
 

@@ -5,3 +5,6 @@ pub mod Walk
 pub mod Plan
 pub mod Loads
 pub mod Steps
+pub mod Stages
+pub mod Text
+pub mod Answer

@@ -1,5 +1,5 @@
 -- How many steps the links need.
-use Rattle.std.specs.Prelude.{◌≡◌, ◌↔◌, ¬◌, ℕ, ◌<◌, ◌≤◌}
+use Rattle.std.specs.Prelude.{◌≡◌, ◌↔◌, ℕ, ◌<◌, ◌≤◌}
 use Rattle.te_model.specs.declared.network.Network.{Network}
 use Rattle.te_model.specs.Network.{link_count}
 use Rattle.update_plan.specs.declared.loads.LinkLoads.{LinkLoads}
@@ -10,7 +10,7 @@ use Rattle.update_plan.specs.Loads.{AreEnoughOn}
 pub record IsStepCount (net : Network) (loads : LinkLoads) (steps : ℕ) : Type 0 where
   pub some : 1 ≤ steps
   pub few : steps ≤ MAX_STEPS
-  pub least : (K : ℕ) → 1 ≤ K → K ≤ MAX_STEPS → ((e : ℕ) → e < link_count net → AreEnoughOn net loads K e) ↔ steps ≤ K
+  pub least : (K : ℕ) → 1 ≤ K → K ≤ MAX_STEPS → ((e : ℕ) → e < link_count net → AreEnoughOn net loads K e) ↔ (steps ≤ K)
 
 -- of the links on which no number of steps up to 1000 is enough, e is the first
 pub record IsFirstWithoutSteps (net : Network) (loads : LinkLoads) (e : ℕ) : Type 0 where

@@ -1,6 +1,6 @@
 //! What is answered of two certificates and a matrix: a plan, or why there is none.
 ghost use Rattle.std.specs.Prelude.{◌≡◌, ◌^◌, ◌<◌, IfOk, IsTrue, ◌↔◌, length, map};
-ghost use Rattle.te_model.specs.Validity.{IsValidHead};
+ghost use Rattle.te_model.specs.PathRouting.{IsPathRouting};
 ghost use Rattle.routing.specs.Routes.{AreDemands};
 ghost use Rattle.update_plan.specs.Answer.{IsUpdateText, no_slack_line, pairs_of};
 
@@ -36,7 +36,7 @@ fn no_slack_line(alloc: Global, link: u32) -> Result<Vec<u8>, Memory>
 /// matrix of the declared pairs: `no network` where the networks differ, else `no pairs` where the pairs do, else `no slack at
 /// link E`, each with status 1; else the text of the plan with status 0.
 ///
-/// The heads are valid, and the matrix has a demand of at most 2^32 for each declared pair. `Memory` comes where memory is
+/// The routes of each head are a routing of its network, as those of valid heads are, and the matrix has a demand of at most 2^32 for each declared pair. `Memory` comes where memory is
 /// wanting.
 pub fn update_text(
     alloc: Global,
@@ -45,8 +45,9 @@ pub fn update_text(
     pairs: &Pairs,
     matrix: &Matrix,
 ) -> Result<(u8, Vec<u8>), Memory>
-    requires old { IsValidHead old.now }
-    requires new { IsValidHead new.now }
+    requires old { IsPathRouting old.now.network old.now.routes }
+    requires new { IsPathRouting new.now.network new.now.routes }
+    requires few { length old.now.routes < 2 ^ 32 }
     requires demands { AreDemands (length pairs.now.list) matrix.now.demand }
     ensures { IfOk result (λ answer. IsUpdateText old.now new.now pairs.now.list matrix.now.demand answer.0 answer.1.items) }
 {

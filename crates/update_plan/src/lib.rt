@@ -2,13 +2,18 @@
 #![tactic(auto)]
 
 pub mod laws;
+mod answer;
 mod fault;
 mod loads;
 mod path;
 mod plan;
 mod side_by_side;
+mod stages;
 mod steps;
+mod text;
 
+pub use answer::update_text;
 pub use fault::UpdateFault;
 pub use path::{MAX_STEPS, UpdatePath, UpdatePlan};
 pub use plan::plan;
+pub use text::print;

@@ -31,7 +31,10 @@ fn steps_of(
     ensures none { (e : ℕ) → result ≡ Err (faults.NoSlack e) → LacksSlack (update_of net.now demands.now paths.now) e }
 {
     let loads = link_loads(alloc, net, demands, paths)?;
-    least_steps(net, &loads).map_err(UpdateFault::NoSlack)
+    match least_steps(net, &loads) {
+        Ok(steps) => Ok(steps),
+        Err(link) => Err(UpdateFault::NoSlack(link)),
+    }
 }
 
 /// The plan of an update from the one routing to the other, by their routes.

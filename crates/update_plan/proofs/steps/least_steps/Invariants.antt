@@ -7,5 +7,5 @@ abbrev pub invariant-loop-h : goal.invariant-loop-h
 invariant-loop-h l = record {
   some : 1 ≤ l.most;
   few : l.most ≤ MAX_STEPS;
-  least : (K : ℕ) → 1 ≤ K → K ≤ MAX_STEPS → ((e : ℕ) → e < l.h → AreEnoughOn l.net l.loads K e) ↔ l.most ≤ K;
+  least : (K : ℕ) → 1 ≤ K → K ≤ MAX_STEPS → ((e : ℕ) → e < l.h → AreEnoughOn l.net l.loads K e) ↔ (l.most ≤ K);
 }
