@@ -161,7 +161,7 @@ same_lists p (x ∷ xs) (y ∷ ys) asc asc' own own' before after = elim (list_b
     head' : (y.pair ≡ p) × (1 ≤ y.before + y.after)
     head' = own' 0 no_update (omega arith)
 
-same_paths : (before after : List PairRoutes) (n : ℕ) (xs ys : List UpdatePath) → ArePaths n before after xs → ArePaths n before after ys → xs ≡ ys
+pub same_paths : (before after : List PairRoutes) (n : ℕ) (xs ys : List UpdatePath) → ArePaths n before after xs → ArePaths n before after ys → xs ≡ ys
 same_paths before after zero xs ys is is' = is ∙ sym is'
 same_paths before after (suc n) xs ys (earlier, own, is, rest, side) (earlier', own', is', rest', side') =
     let first = same_paths before after n earlier earlier' rest rest' in

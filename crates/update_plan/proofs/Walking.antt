@@ -2,7 +2,7 @@
 use Rattle.std.proofs.Common.{◌⊎◌, inl, inr, ◌≡◌, ℕ, suc, ◌+◌, ◌-◌, ◌<◌, ◌≤◌, Bool, true, false, not, ◌&&◌, List, [], ◌∷◌, ◌++◌, length, get_or, take, arith, refl, ap, sym, ◌∙◌, subst, nat_lt, All}
 use Rattle.std.specs.Prelude.{IsTrue, if◌then◌else◌}
 use Rattle.std.specs.List.{AllPairs}
-use Rattle.std.proofs.lemmas.Bool.{and_parts, false≢true, lt-ltb, ltb-true}
+use Rattle.std.proofs.lemmas.Bool.{and_parts, cases_lt, false≢true, lt-ltb, ltb-true, or_cases, or_left, or_right}
 use Rattle.std.proofs.lemmas.List.{take_all}
 use Rattle.std.proofs.lemmas.List.Elements.{All-get_or, All-nil, All-push, All-weaker}
 use Rattle.std.proofs.lemmas.List.Quantifiers.{all_pairs_push}
@@ -15,7 +15,7 @@ use Rattle.routing.specs.Merge.{links_at, no_path, path_at, weight_where}
 use Rattle.routing.proofs.Ascending.{ascending_at}
 use Rattle.update_plan.specs.declared.path.UpdatePath.{UpdatePath}
 use Rattle.update_plan.specs.Paths.{AreSideBySide, weight_by}
-use Rattle.update_plan.specs.Walk.{comes_next, next_update, place_after}
+use Rattle.update_plan.specs.Walk.{comes_next, is_left, next_update, place_after}
 
 -- the first i paths of a split are among those that are side by side, all of which come before the next
 pub record HasWalked (weight : UpdatePath → ℕ) (xs : List PathShare) (i : ℕ) (own : List UpdatePath) : Type 0 where
@@ -133,7 +133,7 @@ walk_both p before after i j own u asc asc' some i_in j_in same pair links weigh
   after = taken (λ v. v.after) after j own u asc' j_in (links ∙ same) weight' walked.after;
 }
 
-next_true : (xs : List PathShare) (i : ℕ) (ys : List PathShare) (j : ℕ) → comes_next xs i ys j ≡ true →
+pub next_true : (xs : List PathShare) (i : ℕ) (ys : List PathShare) (j : ℕ) → comes_next xs i ys j ≡ true →
     (i < length xs) × (j < length ys → list_below (links_at ys j) (links_at xs i) ≡ false)
 next_true xs i ys j is =
     let parts = and_parts (nat_lt i (length xs)) (not (nat_lt j (length ys) && list_below (links_at ys j) (links_at xs i))) is in
@@ -155,6 +155,33 @@ next_false xs i ys j is below =
     on true true false a is = absurd (false≢true (sym is))
     on true false c a is = absurd (false≢true (sym is))
     on false b c a is = absurd (false≢true a)
+
+-- what is left
+pub left_of : (before after : List PathShare) (i j : ℕ) → is_left before i after j ≡ true → (i < length before) ⊎ (j < length after)
+left_of before after i j is = elim (or_cases (nat_lt i (length before)) (nat_lt j (length after)) is) [
+  | inl i_in ↦ inl (ltb-true i (length before) i_in)
+  | inr j_in ↦ inr (ltb-true j (length after) j_in)
+]
+
+pub none_left : (before after : List PathShare) (i j : ℕ) → is_left before i after j ≡ false → (length before ≤ i) × (length after ≤ j)
+none_left before after i j is = (
+  elim (cases_lt i (length before)) [
+    | inl lt ↦ absurd (false≢true (sym is ∙ or_left (nat_lt i (length before)) (nat_lt j (length after)) (lt-ltb i (length before) lt)))
+    | inr ge ↦ ge
+  ],
+  elim (cases_lt j (length after)) [
+    | inl lt ↦ absurd (false≢true (sym is ∙ or_right (nat_lt i (length before)) (nat_lt j (length after)) (lt-ltb j (length after) lt)))
+    | inr ge ↦ ge
+  ],
+)
+
+-- the links of the next path are there
+pub next_there : (before after : List PathShare) (i j : ℕ) → (i < length before) ⊎ (j < length after) → IsTrue (comes_next before i after j) ⊎ (j < length after)
+next_there before after i j left = elim left [ inl i_in ↦ go (comes_next before i after j) refl i_in | inr j_in ↦ inr j_in ]
+  where
+    go : (b : Bool) → comes_next before i after j ≡ b → i < length before → IsTrue (comes_next before i after j) ⊎ (j < length after)
+    go true e i_in = inl e
+    go false e i_in = inr (next_false before i after j e i_in).0
 
 -- one of the two comes next, where one is left
 pub one_next : (before after : List PathShare) (i j : ℕ) → (i < length before) ⊎ (j < length after) →

@@ -49,3 +49,9 @@ IsUpdateText old new pairs demand status text =
     ⊎ ((old.network ≡ new.network) × (¬ HavePairs old new pairs) × (status ≡ 1) × (text ≡ no_pairs_line))
     ⊎ ((old.network ≡ new.network) × HavePairs old new pairs
     × (IsPlanText old new demand status text ⊎ IsNoSlackText old new demand status text))
+
+-- There is one answer.
+abbrev pub OneUpdateText : Type 0
+OneUpdateText =
+    (old new : Head) (pairs : List Pair) (demand : List ℕ) (status other : ℕ) (text more : List ℕ) →
+    IsUpdateText old new pairs demand status text → IsUpdateText old new pairs demand other more → (status ≡ other) × (text ≡ more)

@@ -1,5 +1,5 @@
 -- The walk over the paths of a pair in two splits: which path comes next.
-use Rattle.std.specs.Prelude.{ℕ, ◌+◌, Bool, not, ◌&&◌, List, length, nat_lt, if◌then◌else◌}
+use Rattle.std.specs.Prelude.{ℕ, ◌+◌, Bool, not, ◌&&◌, ◌||◌, List, length, nat_lt, if◌then◌else◌}
 use Rattle.te_model.specs.declared.route.PathShare.{PathShare}
 use Rattle.te_model.specs.Validity.{list_below}
 use Rattle.routing.specs.Merge.{links_at, path_at}
@@ -22,6 +22,10 @@ next_update p before i after j = record {
   after = next_weight after j before i;
   links = if comes_next before i after j then links_at before i else links_at after j;
 }
+
+-- whether a path is left of either
+abbrev pub is_left : List PathShare → ℕ → List PathShare → ℕ → Bool
+is_left before i after j = nat_lt i (length before) || nat_lt j (length after)
 
 -- the place behind a path that was taken
 abbrev pub place_after : Bool → ℕ → ℕ

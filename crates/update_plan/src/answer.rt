@@ -5,7 +5,7 @@ ghost use Rattle.routing.specs.Routes.{AreDemands};
 ghost use Rattle.update_plan.specs.Answer.{IsUpdateText, no_slack_line, pairs_of};
 
 use crate::fault::UpdateFault;
-use crate::plan::plan_by_routes;
+use crate::planning::plan_by_routes;
 use crate::text::print;
 use std::alloc::Global;
 use te_model::{Head, Matrix, Memory, Pair, PairRoutes, Pairs, same_network};

@@ -4,7 +4,7 @@ ghost use Rattle.te_model.specs.Validity.{paths_ascend};
 ghost use Rattle.routing.specs.Merge.{links_at};
 ghost use Rattle.routing.specs.Split.{are_splits};
 ghost use Rattle.update_plan.specs.Paths.{ArePaths, AreSideBySide};
-ghost use Rattle.update_plan.specs.Walk.{comes_next, next_update, next_weight, place_after};
+ghost use Rattle.update_plan.specs.Walk.{comes_next, is_left, next_update, next_weight, place_after};
 ghost use Rattle.update_plan.specs.declared.path.UpdatePath.{UpdatePath};
 
 use crate::path::UpdatePath;
@@ -14,7 +14,8 @@ use te_model::{Items, Memory, PairRoutes, PathShare};
 
 /// Whether path `i` is there, and path `j` of the others does not come before it.
 fn comes_next(paths: &[PathShare], i: usize, others: &[PathShare], j: usize) -> bool
-    ensures { result ≡ comes_next paths.now i others.now j }
+    ensures next { result ≡ comes_next paths.now i others.now j }
+    ensures fits { IsTrue result → i < 2 ^ 64 - 1 }
 {
     i < paths.len()
         && !(j < others.len()
@@ -70,8 +71,14 @@ fn next_update(
     })
 }
 
+fn is_left(before: &[PathShare], i: usize, after: &[PathShare], j: usize) -> bool
+    ensures { result ≡ is_left before.now i after.now j }
+{
+    i < before.len() || j < after.len()
+}
+
 fn place_after(taken: bool, place: usize) -> usize
-    requires { place < 2 ^ 64 - 1 }
+    requires { IsTrue taken → place < 2 ^ 64 - 1 }
     ensures { result ≡ place_after taken place }
 {
     if taken { place + 1 } else { place }
@@ -93,7 +100,7 @@ fn add_pair(
 {
     let mut i = 0;
     let mut j = 0;
-    'walk: while i < before.len() || j < after.len() {
+    'walk: while is_left(before, i, after, j) {
         let in_before = comes_next(before, i, after, j);
         let in_after = comes_next(after, j, before, i);
         paths.push(next_update(alloc, pair, before, i, after, j)?)?;
