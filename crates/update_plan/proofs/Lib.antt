@@ -6,3 +6,4 @@ pub mod LeastSteps
 pub mod OneList
 pub mod LoadSums
 pub mod StageWeights
+pub mod OneAnswer

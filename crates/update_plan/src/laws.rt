@@ -1,4 +1,5 @@
 //! Laws of safe updates. Each is the contract of a function that does nothing.
+ghost use Rattle.update_plan.specs.Answer.{OneUpdateText};
 ghost use Rattle.update_plan.specs.Laws.{LoadsAreOfRoutings, OneListOfPaths, SafeByEnds, SafeByQuotients, SafeByStages, SafeForMore, SafeWithSlack};
 
 /// Safe is one test for each link and stage.
@@ -34,4 +35,9 @@ pub fn one_list_of_paths()
 /// By its weights before and after, the load of an update is that of each routing.
 pub fn loads_are_of_routings()
     ensures { LoadsAreOfRoutings }
+{}
+
+/// There is one answer on an update: it is a function of the two heads, the declared pairs and the matrix.
+pub fn one_update_text()
+    ensures { OneUpdateText }
 {}
