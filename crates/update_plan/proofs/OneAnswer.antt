@@ -50,12 +50,12 @@ plan_or_lack net before after demand plan e (are, least) (paths, are', lacks) =
 
 pub one_answer : OneUpdateText
 one_answer old new pairs demand s s' t t' (inl (apart, is, text)) (inl (apart', is', text')) = (is ∙ sym is', text ∙ sym text')
-one_answer old new pairs demand s s' t t' (inl (apart, is, text)) (inr (inl (same, rest))) = absurd (apart same)
-one_answer old new pairs demand s s' t t' (inl (apart, is, text)) (inr (inr (same, rest))) = absurd (apart same)
-one_answer old new pairs demand s s' t t' (inr (inl (same, rest))) (inl (apart, is, text)) = absurd (apart same)
+one_answer old new pairs demand s s' t t' (inl (apart, is, text)) (inr (inl (same, differ, is', text'))) = absurd (apart same)
+one_answer old new pairs demand s s' t t' (inl (apart, is, text)) (inr (inr (same, have, rest))) = absurd (apart same)
+one_answer old new pairs demand s s' t t' (inr (inl (same, differ, is', text'))) (inl (apart, is, text)) = absurd (apart same)
 one_answer old new pairs demand s s' t t' (inr (inl (same, differ, is, text))) (inr (inl (same', differ', is', text'))) = (is ∙ sym is', text ∙ sym text')
 one_answer old new pairs demand s s' t t' (inr (inl (same, differ, is, text))) (inr (inr (same', have, rest))) = absurd (differ have)
-one_answer old new pairs demand s s' t t' (inr (inr (same, rest))) (inl (apart, is, text)) = absurd (apart same)
+one_answer old new pairs demand s s' t t' (inr (inr (same, have, rest))) (inl (apart, is, text)) = absurd (apart same)
 one_answer old new pairs demand s s' t t' (inr (inr (same, have, rest))) (inr (inl (same', differ, is, text))) = absurd (differ have)
 one_answer old new pairs demand s s' t t' (inr (inr (same, have, inl a))) (inr (inr (same', have', inl b))) =
     (a.status_is ∙ sym b.status_is, a.text_is ∙ (one_plan old.network old.routes new.routes demand a.plan b.plan a.is_plan b.is_plan ∙ sym b.text_is))

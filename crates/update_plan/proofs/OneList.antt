@@ -27,14 +27,14 @@ walk_all : (p : ℕ) (before after : List PathShare) → paths_ascend before ≡
     (length before - i) + (length after - j) ≤ most → IsWalked p before after i j own → (all : List UpdatePath) × AreSideBySide p before after all
 walk_all p before after asc asc' some some' zero i j own le walked = (own, walk_end p before after i j own (omega (arith, le)) (omega (arith, le)) walked)
 walk_all p before after asc asc' some some' (suc most) i j own le walked = elim (cases_lt i (length before)) [
-  | inl i_in ↦ more (inl i_in)
-  | inr i_out ↦ elim (cases_lt j (length after)) [ inl j_in ↦ more (inr j_in) | inr j_out ↦ (own, walk_end p before after i j own i_out j_out walked) ]
+  | inl i_in ↦ walk_all p before after asc asc' some some' most (place_after (comes_next before i after j) i) (place_after (comes_next after j before i) j)
+      (own ++ next_update p before i after j ∷ []) (omega (arith, le, walk_smaller before after i j (inl i_in))) (walk_on p before after i j own asc asc' some some' (inl i_in) walked)
+  | inr i_out ↦ elim (cases_lt j (length after)) [
+    | inl j_in ↦ walk_all p before after asc asc' some some' most (place_after (comes_next before i after j) i) (place_after (comes_next after j before i) j)
+      (own ++ next_update p before i after j ∷ []) (omega (arith, le, walk_smaller before after i j (inr j_in))) (walk_on p before after i j own asc asc' some some' (inr j_in) walked)
+    | inr j_out ↦ (own, walk_end p before after i j own i_out j_out walked)
+  ]
 ]
-  where
-    more : (i < length before) ⊎ (j < length after) → (all : List UpdatePath) × AreSideBySide p before after all
-    more left =
-        walk_all p before after asc asc' some some' most (place_after (comes_next before i after j) i) (place_after (comes_next after j before i) j)
-        (own ++ next_update p before i after j ∷ []) (omega (arith, le, walk_smaller before after i j left)) (walk_on p before after i j own asc asc' some some' left walked)
 
 pub side_by_side : (net : Network) (r s : PairRoutes) (p : ℕ) → IsPathSplit net r → IsPathSplit net s → (all : List UpdatePath) × AreSideBySide p r.paths s.paths all
 side_by_side net r s p before after =
@@ -52,18 +52,19 @@ paths_exist net before after old new same (suc n) le =
 none_equal : (weight : UpdatePath → ℕ) (links : List ℕ) (ys : List UpdatePath) → All (λ v. list_below links v.links ≡ true) ys →
     weight_by weight (λ l. bytes_eq l links) ys ≡ 0
 none_equal weight links [] behind = refl
-none_equal weight links (v ∷ vs) behind = go (bytes_eq v.links links) refl
+none_equal weight links (v ∷ vs) behind =
+    go (bytes_eq v.links links) refl (none_equal weight links vs (λ k d below. behind (suc k) d (omega (arith, below))))
   where
-    go : (b : Bool) → bytes_eq v.links links ≡ b → weight_by weight (λ l. bytes_eq l links) (v ∷ vs) ≡ 0
-    go true e =
+    go : (b : Bool) → bytes_eq v.links links ≡ b → weight_by weight (λ l. bytes_eq l links) vs ≡ 0 → weight_by weight (λ l. bytes_eq l links) (v ∷ vs) ≡ 0
+    go true e later =
         let same = (bytes_eq-Decides v.links links).0 e in
         absurd (list_below-irrefl links (subst (λ l. list_below links l ≡ true) same (behind 0 no_update (omega arith))))
-    go false e =
+    go false e later =
         omega (
           arith,
           sum_by-cons (λ (u : UpdatePath). if bytes_eq u.links links then weight u else 0) v vs,
           if_false (bytes_eq v.links links) (weight v) e,
-          none_equal weight links vs (λ k d below. behind (suc k) d (omega (arith, below))),
+          later,
         )
 
 -- the weight of the first path, by the paths that have its links

@@ -23,13 +23,14 @@ use Rattle.update_plan.specs.Paths.{ArePaths, AreSideBySide, weight_by}
 -- where weights sum to something, one of the paths passes
 some_passes : (test : List ℕ → Bool) (xs : List PathShare) → 1 ≤ weight_where test xs → (m : ℕ) × (m < length xs) × (test (links_at xs m) ≡ true)
 some_passes test [] some = absurd (omega (arith, some))
-some_passes test (x ∷ xs) some = go (test x.links) refl
+some_passes test (x ∷ xs) some = go (test x.links) refl (some_passes test xs)
   where
-    go : (b : Bool) → test x.links ≡ b → (m : ℕ) × (m < length (x ∷ xs)) × (test (links_at (x ∷ xs) m) ≡ true)
-    go true e = (0, omega arith, e)
-    go false e =
+    go : (b : Bool) → test x.links ≡ b → (1 ≤ weight_where test xs → (m : ℕ) × (m < length xs) × (test (links_at xs m) ≡ true)) →
+        (m : ℕ) × (m < length (x ∷ xs)) × (test (links_at (x ∷ xs) m) ≡ true)
+    go true e later = (0, omega arith, e)
+    go false e later =
         let whole = sum_by-cons (λ (s : PathShare). if test s.links then s.weight else 0) x xs in
-        let (m, below, passes) = some_passes test xs (omega (arith, whole, some, if_false (test x.links) x.weight e)) in
+        let (m, below, passes) = later (omega (arith, whole, some, if_false (test x.links) x.weight e)) in
         (suc m, omega (arith, below), passes)
 
 -- a path with a weight in a split is one of its paths

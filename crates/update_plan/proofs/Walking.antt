@@ -24,11 +24,11 @@ pub record HasWalked (weight : UpdatePath → ℕ) (xs : List PathShare) (i : �
   pub below : i < length xs → All (λ u. list_below u.links (links_at xs i) ≡ true) own
 
 -- the first i paths of the one split and the first j of the other, side by side
-pub record IsWalked (p : ℕ) (before after : List PathShare) (i j : ℕ) (own : List UpdatePath) : Type 0 where
-  pub ascending : AllPairs (λ u v. IsTrue (list_below u.links v.links)) own
-  pub own : All (λ u. (u.pair ≡ p) × (1 ≤ u.before + u.after)) own
-  pub before : HasWalked (λ u. u.before) before i own
-  pub after : HasWalked (λ u. u.after) after j own
+pub record IsWalked (p : ℕ) (old new : List PathShare) (i j : ℕ) (paths : List UpdatePath) : Type 0 where
+  pub ascending : AllPairs (λ u v. IsTrue (list_below u.links v.links)) paths
+  pub own : All (λ u. (u.pair ≡ p) × (1 ≤ u.before + u.after)) paths
+  pub before : HasWalked (λ u. u.before) old i paths
+  pub after : HasWalked (λ u. u.after) new j paths
 
 walked_no : (weight : UpdatePath → ℕ) (xs : List PathShare) → HasWalked weight xs 0 []
 walked_no weight xs = record {

@@ -38,9 +38,9 @@ LacksSlackOn net before after demand e =
     (paths : List UpdatePath) × ArePaths (length before) before after paths × LacksSlack (update_of net demand paths) e
 
 -- both routings leave a share 1 / (k + 1) of each link free
-pub record LeaveRoutesFree (net : Network) (before after : List PairRoutes) (demand : List ℕ) (k : ℕ) : Type 0 where
-  pub before : (e : ℕ) → e < link_count net → (k + 1) * load_on before demand e ≤ k * SHARE_UNIT * capacity_of net e
-  pub after : (e : ℕ) → e < link_count net → (k + 1) * load_on after demand e ≤ k * SHARE_UNIT * capacity_of net e
+pub record LeaveRoutesFree (net : Network) (old new : List PairRoutes) (demand : List ℕ) (k : ℕ) : Type 0 where
+  pub before : (e : ℕ) → e < link_count net → (k + 1) * load_on old demand e ≤ k * SHARE_UNIT * capacity_of net e
+  pub after : (e : ℕ) → e < link_count net → (k + 1) * load_on new demand e ≤ k * SHARE_UNIT * capacity_of net e
 
 -- a plan of at most k steps, or want of memory
 abbrev pub HasPlanWithin : ℕ → Result UpdatePlan UpdateFault → Type 0
