@@ -1,18 +1,21 @@
 -- What the numbers of the links say of the update.
-use Rattle.std.proofs.Common.{◌↔◌, ◌≡◌, inl, inr, ℕ, suc, ◌+◌, ◌*◌, ◌-◌, ◌<◌, ◌≤◌, List, length, arith, sym, subst}
-use Rattle.std.specs.Prelude.{slice_index}
+use Rattle.std.proofs.Common.{◌↔◌, ◌≡◌, inl, inr, ℕ, suc, ◌+◌, ◌*◌, ◌-◌, ◌<◌, ◌≤◌, List, length, arith, refl, sym, subst}
+use Rattle.std.specs.Prelude.{Err, IfOk, Ok, Result, slice_index}
 use Rattle.std.proofs.lemmas.Bool.{cases_lt}
 use Rattle.te_model.specs.declared.network.Network.{Network}
 use Rattle.te_model.specs.declared.route.PairRoutes.{PairRoutes}
 use Rattle.te_model.specs.declared.units.TheConstants.{SHARE_UNIT}
 use Rattle.te_model.specs.Network.{link_count, capacity_of}
+use Rattle.update_plan.specs.declared.fault.UpdateFault.{UpdateFault}
+use Rattle.update_plan.specs.declared.fault.UpdateFault.TheVariants.{Memory, NoSlack}
 use Rattle.update_plan.specs.declared.loads.LinkLoads.{LinkLoads}
 use Rattle.update_plan.specs.declared.path.TheConstants.{MAX_STEPS}
 use Rattle.update_plan.specs.declared.path.UpdatePath.{UpdatePath}
+use Rattle.update_plan.specs.declared.path.UpdatePlan.{UpdatePlan}
 use Rattle.update_plan.specs.Laws.{AreEnough, HasSteps, decline_on, growth_on}
-use Rattle.update_plan.specs.Loads.{AreEnoughOn, AreLinkLoads, HasCounts}
+use Rattle.update_plan.specs.Loads.{AreEnoughOn, AreLinkLoads, HasLoads}
 use Rattle.update_plan.specs.Paths.{ArePaths, update_of}
-use Rattle.update_plan.specs.Plan.{IsLeastSafe, LacksSlack, LeaveRoutesFree}
+use Rattle.update_plan.specs.Plan.{HasPlanWithin, IsLeastSafe, IsPlanOf, LacksSlack, LacksSlackOn, LeaveRoutesFree}
 use Rattle.update_plan.specs.Steps.{IsFirstWithoutSteps, IsStepCount}
 use Rattle.update_plan.specs.Update.{IsSafe, LeaveFree, load_by}
 use Rattle.update_plan.proofs.RoutingLoads.{loads_are_of_routings}
@@ -31,12 +34,11 @@ enough_is net demand paths loads are K e =
     let eb = are.before.each e in
     let ea = are.after.each e in
     let eg = are.growth.each e in
-    let ed = are.decline.each e in
-    (
+    let ed = are.decline.each e in (
       λ has. enough_same (SHARE_UNIT * capacity_of net e) (slice_index loads.before e) (slice_index loads.after e) (slice_index loads.growth e) (slice_index loads.decline e) (load_by x x.before e) (load_by x x.after e) (growth_on x e) (decline_on x e) K eb ea eg ed has,
       λ has. enough_same (SHARE_UNIT * capacity_of net e) (load_by x x.before e) (load_by x x.after e) (growth_on x e) (decline_on x e)
-      (slice_index loads.before e) (slice_index loads.after e) (slice_index loads.growth e) (slice_index loads.decline e) K
-      (sym eb) (sym ea) (sym eg) (sym ed) has,
+          (slice_index loads.before e) (slice_index loads.after e) (slice_index loads.growth e) (slice_index loads.decline e) K
+          (sym eb) (sym ea) (sym eg) (sym ed) has,
     )
 
 pub least_safe : (net : Network) (demand : List ℕ) (paths : List UpdatePath) (loads : LinkLoads) (steps : ℕ) → AreLinkLoads net demand paths loads →
@@ -68,10 +70,14 @@ lacks_slack net demand paths loads e are lacks =
     }
 
 -- the loads have one number of each kind for each link
-pub have_counts : (net : Network) (demand : List ℕ) (paths : List UpdatePath) (loads : LinkLoads) → AreLinkLoads net demand paths loads →
-    HasCounts (link_count net) loads
-have_counts net demand paths loads are =
-    record { before = are.before.count; after = are.after.count; growth = are.growth.count; decline = are.decline.count }
+pub has_loads : (net : Network) (demand : List ℕ) (paths : List UpdatePath) (loads : LinkLoads) → AreLinkLoads net demand paths loads →
+    HasLoads (link_count net) loads
+has_loads net demand paths loads are = record {
+  before = record { count_is = are.before.count; beyond = are.before.beyond };
+  after = record { count_is = are.after.count; beyond = are.after.beyond };
+  growth = record { count_is = are.growth.count; beyond = are.growth.beyond };
+  decline = record { count_is = are.decline.count; beyond = are.decline.beyond };
+}
 
 -- free shares of the routings are free shares of their update
 leave_free : (net : Network) (before after : List PairRoutes) (demand : List ℕ) (paths : List UpdatePath) (k : ℕ) → length after ≡ length before →
@@ -96,3 +102,14 @@ few_by_slack net before after demand paths steps k same are least some free = el
   | inl lt ↦ absurd (least.least k some lt (safe_by_slack net before after demand paths k same are some free))
   | inr ge ↦ ge
 ]
+
+-- so there is a plan within k steps
+pub within_slack : (net : Network) (before after : List PairRoutes) (demand : List ℕ) → length after ≡ length before → (result : Result UpdatePlan UpdateFault) →
+    IfOk result (IsPlanOf net before after demand) → ((e : ℕ) → result ≡ Err (NoSlack e) → LacksSlackOn net before after demand e) →
+    (k : ℕ) → 1 ≤ k → k ≤ MAX_STEPS → LeaveRoutesFree net before after demand k → HasPlanWithin k result
+within_slack net before after demand same (Ok plan) is none k some few free =
+    few_by_slack net before after demand plan.paths plan.steps k same is.0 is.1 some free
+within_slack net before after demand same (Err (NoSlack e)) is none k some few free =
+    let (paths, are, lacks) = none e refl in
+    absurd (lacks.none k some few (safe_by_slack net before after demand paths k same are some free))
+within_slack net before after demand same (Err Memory) is none k some few free = refl

@@ -7,3 +7,6 @@ pub mod OneList
 pub mod LoadSums
 pub mod StageWeights
 pub mod OneAnswer
+pub mod StepCounts
+pub mod ValidHeads
+pub mod PlanSizes

@@ -1,11 +1,12 @@
 -- The load of a link, path by path.
-use Rattle.std.proofs.Common.{◌≡◌, ℕ, suc, ◌+◌, ◌*◌, ◌^◌, ◌<◌, ◌≤◌, List, length, arith, ap, All}
+use Rattle.std.proofs.Common.{◌≡◌, ℕ, suc, Bool, true, false, refl, ◌+◌, ◌*◌, ◌^◌, ◌<◌, ◌≤◌, List, length, arith, ap, ◌∙◌, All}
 use Rattle.std.specs.Prelude.{slice_index, if◌then◌else◌}
 use Rattle.std.proofs.lemmas.List.Elements.{All-get_or}
 use Rattle.std.proofs.lemmas.Nat.{mul-le}
 use Rattle.te_model.specs.declared.network.Network.{Network}
 use Rattle.te_model.specs.Counting.{sum_below}
 use Rattle.te_model.specs.Path.{amount_on, has_number}
+use Rattle.te_model.proofs.Amounts.{has_at}
 use Rattle.te_model.proofs.Conditionals.{if_le-self}
 use Rattle.te_model.proofs.Sums.{sum_below-bound}
 use Rattle.update_plan.specs.declared.loads.WeightKind.{WeightKind}
@@ -23,6 +24,13 @@ pub load_more : (demand : List ℕ) (paths : List UpdatePath) (kind : WeightKind
     first_load demand paths kind (n + 1) e
     ≡ first_load demand paths kind n e + amount_on (update_at paths n).links (slice_index demand (update_at paths n).pair * weight_of kind (update_at paths n)) e
 load_more demand paths kind n e = let next : n + 1 ≡ suc n = omega arith in ap (λ m. first_load demand paths kind m e) next
+
+-- the amount of a path by its demand and its weight
+pub amount_is : (demand : List ℕ) (paths : List UpdatePath) (kind : WeightKind) (k : ℕ) (u : UpdatePath) (d w : ℕ) → u ≡ update_at paths k →
+    d ≡ slice_index demand u.pair → w ≡ weight_of kind u → d * w ≡ slice_index demand (update_at paths k).pair * weight_of kind (update_at paths k)
+amount_is demand paths kind k u d w same demands weighs =
+    ap (λ x. x * w) demands
+    ∙ (ap (λ x. slice_index demand u.pair * x) weighs ∙ ap (λ (v : UpdatePath). slice_index demand v.pair * weight_of kind v) same)
 
 weight_small : (kind : WeightKind) (u : UpdatePath) → u.before ≤ 1000000 → u.after ≤ 1000000 → weight_of kind u ≤ 1000000
 weight_small Before u before after = before
@@ -48,3 +56,11 @@ load_small net demand paths kind n e small are le =
       if_le-self (has_number (update_at paths k).links e) (slice_index demand (update_at paths k).pair * weight_of kind (update_at paths k)),
       amount_small net demand paths kind k small are (omega (arith, below, le)),
     ))
+
+-- links with numbers of 32 bits put nothing on a link beyond them
+pub none_beyond : (links : List ℕ) (amount e : ℕ) → ((k : ℕ) → k < length links → slice_index links k < 2 ^ 32) → 2 ^ 32 ≤ e → amount_on links amount e ≡ 0
+none_beyond links amount e small wide = go (has_number links e) refl
+  where
+    go : (b : Bool) → has_number links e ≡ b → (if b then amount else 0) ≡ 0
+    go true has = let (k, below, at) = has_at links e has in absurd (omega (arith, small k below, at, wide))
+    go false has = refl

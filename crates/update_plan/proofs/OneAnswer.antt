@@ -63,6 +63,7 @@ one_answer old new pairs demand s s' t t' (inr (inr (same, have, inl a))) (inr (
     absurd (plan_or_lack old.network old.routes new.routes demand a.plan b.link a.is_plan b.lacks)
 one_answer old new pairs demand s s' t t' (inr (inr (same, have, inr a))) (inr (inr (same', have', inl b))) =
     absurd (plan_or_lack old.network old.routes new.routes demand b.plan a.link b.is_plan a.lacks)
-one_answer old new pairs demand s s' t t' (inr (inr (same, have, inr a))) (inr (inr (same', have', inr b))) =
-    (a.status_is ∙ sym b.status_is,
-     a.text_is ∙ (ap no_slack_line (one_lack old.network old.routes new.routes demand a.link b.link a.lacks b.lacks) ∙ sym b.text_is))
+one_answer old new pairs demand s s' t t' (inr (inr (same, have, inr a))) (inr (inr (same', have', inr b))) = (
+  a.status_is ∙ sym b.status_is,
+  a.text_is ∙ (ap no_slack_line (one_lack old.network old.routes new.routes demand a.link b.link a.lacks b.lacks) ∙ sym b.text_is),
+)

@@ -24,19 +24,22 @@ use Rattle.update_plan.proofs.Walking.{IsWalked, walk_end, walk_on, walk_smaller
 -- the walk goes on to the end
 walk_all : (p : ℕ) (before after : List PathShare) → paths_ascend before ≡ true → paths_ascend after ≡ true →
     All (λ s. 1 ≤ s.weight) before → All (λ s. 1 ≤ s.weight) after → (most i j : ℕ) (own : List UpdatePath) →
-    (length before - i) + (length after - j) ≤ most → IsWalked p before after i j own → (all : List UpdatePath) × AreSideBySide p before after all
-walk_all p before after asc asc' some some' zero i j own le walked = (own, walk_end p before after i j own (omega (arith, le)) (omega (arith, le)) walked)
+    (length before - i) + (length after - j) ≤ most → IsWalked p before after i j own →
+    (all : List UpdatePath) × AreSideBySide p before after all × (length all ≤ length before + length after)
+walk_all p before after asc asc' some some' zero i j own le walked =
+    (own, walk_end p before after i j own (omega (arith, le)) (omega (arith, le)) walked, omega (arith, walked.few, walked.before.within, walked.after.within))
 walk_all p before after asc asc' some some' (suc most) i j own le walked = elim (cases_lt i (length before)) [
   | inl i_in ↦ walk_all p before after asc asc' some some' most (place_after (comes_next before i after j) i) (place_after (comes_next after j before i) j)
       (own ++ next_update p before i after j ∷ []) (omega (arith, le, walk_smaller before after i j (inl i_in))) (walk_on p before after i j own asc asc' some some' (inl i_in) walked)
   | inr i_out ↦ elim (cases_lt j (length after)) [
     | inl j_in ↦ walk_all p before after asc asc' some some' most (place_after (comes_next before i after j) i) (place_after (comes_next after j before i) j)
-      (own ++ next_update p before i after j ∷ []) (omega (arith, le, walk_smaller before after i j (inr j_in))) (walk_on p before after i j own asc asc' some some' (inr j_in) walked)
-    | inr j_out ↦ (own, walk_end p before after i j own i_out j_out walked)
+        (own ++ next_update p before i after j ∷ []) (omega (arith, le, walk_smaller before after i j (inr j_in))) (walk_on p before after i j own asc asc' some some' (inr j_in) walked)
+    | inr j_out ↦ (own, walk_end p before after i j own i_out j_out walked, omega (arith, walked.few, walked.before.within, walked.after.within))
   ]
 ]
 
-pub side_by_side : (net : Network) (r s : PairRoutes) (p : ℕ) → IsPathSplit net r → IsPathSplit net s → (all : List UpdatePath) × AreSideBySide p r.paths s.paths all
+pub side_by_side : (net : Network) (r s : PairRoutes) (p : ℕ) → IsPathSplit net r → IsPathSplit net s →
+    (all : List UpdatePath) × AreSideBySide p r.paths s.paths all × (length all ≤ length r.paths + length s.paths)
 side_by_side net r s p before after =
     walk_all p r.paths s.paths before.distinct after.distinct before.weights after.weights ((length r.paths - 0) + (length s.paths - 0)) 0 0 [] (omega arith) (walked_none p r.paths s.paths)
 
@@ -45,7 +48,7 @@ pub paths_exist : (net : Network) (before after : List PairRoutes) → IsPathRou
 paths_exist net before after old new same zero le = ([], refl)
 paths_exist net before after old new same (suc n) le =
     let (earlier, rest) = paths_exist net before after old new same n (omega (arith, le)) in
-    let (own, side) = side_by_side net (routes_at before n) (routes_at after n) n (split_at net before n old (omega (arith, le))) (split_at net after n new (omega (arith, le, same))) in
+    let (own, side, few) = side_by_side net (routes_at before n) (routes_at after n) n (split_at net before n old (omega (arith, le))) (split_at net after n new (omega (arith, le, same))) in
     (earlier ++ own, (earlier, own, refl, rest, side))
 
 -- none of the paths behind some links has these
@@ -162,11 +165,23 @@ same_lists p (x ∷ xs) (y ∷ ys) asc asc' own own' before after = elim (list_b
     head' : (y.pair ≡ p) × (1 ≤ y.before + y.after)
     head' = own' 0 no_update (omega arith)
 
+-- one list for each pair
+same_sides : (p : ℕ) (before after : List PathShare) (own others : List UpdatePath) → AreSideBySide p before after own → AreSideBySide p before after others → own ≡ others
+same_sides p before after own others side other =
+    same_lists p own others side.ascending other.ascending side.own other.own (λ t. side.before_is t ∙ sym (other.before_is t)) (λ t. side.after_is t ∙ sym (other.after_is t))
+
+-- the paths of a pair are no more than those of the two splits
+pub few_paths : (net : Network) (r s : PairRoutes) (p : ℕ) (own : List UpdatePath) → IsPathSplit net r → IsPathSplit net s → AreSideBySide p r.paths s.paths own →
+    length own ≤ length r.paths + length s.paths
+few_paths net r s p own before after side =
+    let (all, sides, few) = side_by_side net r s p before after in
+    omega (arith, ap (λ (l : List UpdatePath). length l) (same_sides p r.paths s.paths own all side sides), few)
+
 pub same_paths : (before after : List PairRoutes) (n : ℕ) (xs ys : List UpdatePath) → ArePaths n before after xs → ArePaths n before after ys → xs ≡ ys
 same_paths before after zero xs ys is is' = is ∙ sym is'
 same_paths before after (suc n) xs ys (earlier, own, is, rest, side) (earlier', own', is', rest', side') =
     let first = same_paths before after n earlier earlier' rest rest' in
-    let last = same_lists n own own' side.ascending side'.ascending side.own side'.own (λ t. side.before_is t ∙ sym (side'.before_is t)) (λ t. side.after_is t ∙ sym (side'.after_is t)) in
+    let last = same_sides n (routes_at before n).paths (routes_at after n).paths own own' side side' in
     is ∙ (ap (λ l. l ++ own) first ∙ (ap (λ l. earlier' ++ l) last ∙ sym is'))
 
 pub one_list : OneListOfPaths

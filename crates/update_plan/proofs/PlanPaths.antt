@@ -34,7 +34,7 @@ some_passes test (x ∷ xs) some = go (test x.links) refl (some_passes test xs)
         (suc m, omega (arith, below), passes)
 
 -- a path with a weight in a split is one of its paths
-of_split : (weight : UpdatePath → ℕ) (own : List UpdatePath) (xs : List PathShare) → ((test : List ℕ → Bool) → weight_by weight test own ≡ weight_where test xs) →
+pub of_split : (weight : UpdatePath → ℕ) (own : List UpdatePath) (xs : List PathShare) → ((test : List ℕ → Bool) → weight_by weight test own ≡ weight_where test xs) →
     (k : ℕ) (d : UpdatePath) → k < length own → 1 ≤ weight (get_or own k d) → (m : ℕ) × (m < length xs) × (links_at xs m ≡ (get_or own k d).links)
 of_split weight own xs sums k d below some =
     let u = get_or own k d in
@@ -65,7 +65,7 @@ goes_over net r s p own before after side k d below =
           (path_links net s.pair.src s.pair.dst u.links path, path_links_once net s.pair.src s.pair.dst u.links path)
     ]
 
-own_paths : (net : Network) (pairs : ℕ) (r s : PairRoutes) (p : ℕ) (own : List UpdatePath) → p < pairs → IsPathSplit net r → IsPathSplit net s →
+pub own_paths : (net : Network) (pairs : ℕ) (r s : PairRoutes) (p : ℕ) (own : List UpdatePath) → p < pairs → IsPathSplit net r → IsPathSplit net s →
     AreSideBySide p r.paths s.paths own → All (IsUpdatePath net pairs) own
 own_paths net pairs r s p own inside before after side k d below =
     let u = get_or own k d in

@@ -59,8 +59,7 @@ pairs_load demand (suc n) before after paths (earlier, own, is, rest, side) e =
     own_load demand (λ u. u.after) test n own side.own ∙ ap (λ s. slice_index demand n * s) (side.after_is test)
     in
     let f_next : load (suc n) (slice_index demand) (share before) e ≡ load n (slice_index demand) (share before) e + slice_index demand n * share before n e = refl in
-    let g_next : load (suc n) (slice_index demand) (share after) e ≡ load n (slice_index demand) (share after) e + slice_index demand n * share after n e = refl in
-    (
+    let g_next : load (suc n) (slice_index demand) (share after) e ≡ load n (slice_index demand) (share after) e + slice_index demand n * share after n e = refl in (
       omega (arith, ap (sum_by f) is, sum_by-append f earlier own, was.0, f_own, f_next),
       omega (arith, ap (sum_by g) is, sum_by-append g earlier own, was.1, g_own, g_next),
     )
@@ -68,9 +67,8 @@ pairs_load demand (suc n) before after paths (earlier, own, is, rest, side) e =
 pub loads_are_of_routings : LoadsAreOfRoutings
 loads_are_of_routings net before after demand paths same are e =
     let loads = pairs_load demand (length before) before after paths are e in
-    let count : length after ≡ length before = same in
-    (
+    let count : length after ≡ length before = same in (
       sums_all (λ u. if has_number u.links e then slice_index demand u.pair * u.before else 0) paths ∙ loads.0,
       sums_all (λ u. if has_number u.links e then slice_index demand u.pair * u.after else 0) paths
-      ∙ (loads.1 ∙ ap (λ n. load n (slice_index demand) (share after) e) (sym count)),
+          ∙ (loads.1 ∙ ap (λ n. load n (slice_index demand) (share after) e) (sym count)),
     )

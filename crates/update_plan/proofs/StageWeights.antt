@@ -2,6 +2,7 @@
 use Rattle.std.proofs.Common.{◌≡◌, inl, inr, true, ℕ, zero, suc, ◌+◌, ◌-◌, ◌*◌, ◌<◌, ◌≤◌, List, [], ◌∷◌, ◌++◌, length, arith, refl, ap, sym, ◌∙◌, ◌==◌, All}
 use Rattle.std.specs.Prelude.{map, slice_index, sum_by, if◌then◌else◌}
 use Rattle.std.proofs.lemmas.Bool.{cases_lt}
+use Rattle.std.proofs.lemmas.List.{get_or-map}
 use Rattle.std.proofs.lemmas.List.Sums.{sum_by-append, sum_by-cons}
 use Rattle.te_model.specs.declared.network.Network.{Network}
 use Rattle.te_model.specs.declared.route.PairRoutes.{PairRoutes}
@@ -9,10 +10,13 @@ use Rattle.te_model.specs.declared.units.TheConstants.{SHARE_UNIT}
 use Rattle.te_model.specs.PathRouting.{IsPathRouting, IsPathSplit}
 use Rattle.te_model.specs.Path.{routes_at}
 use Rattle.te_model.proofs.Conditionals.{if_equal, if_other}
+use Rattle.te_model.specs.Counting.{sum_below}
+use Rattle.te_model.proofs.Sums.{sum_below-same}
 use Rattle.update_plan.specs.declared.path.UpdatePath.{UpdatePath}
-use Rattle.update_plan.specs.Paths.{ArePaths, AreSideBySide, no_update}
-use Rattle.update_plan.specs.Stages.{weight_at_stage}
+use Rattle.update_plan.specs.Paths.{ArePaths, AreSideBySide, no_update, update_at}
+use Rattle.update_plan.specs.Stages.{AreWholeWeights, weight_at_stage}
 use Rattle.update_plan.proofs.PlanPaths.{split_at}
+use Rattle.update_plan.proofs.RoutingLoads.{sums_all}
 
 -- paths of another pair count for nothing
 of_other : (c j n p : ℕ) (own : List UpdatePath) → (n ≡ p → ⊥) → All (λ u. (u.pair ≡ n) × (1 ≤ u.before + u.after)) own →
@@ -82,3 +86,15 @@ whole_weight net c j (suc n) p before after paths old new same le below (earlier
           in
           omega (arith, ap (sum_by f) is, sum_by-append f earlier own, none_yet c j n p before after earlier (omega (arith, ge)) rest, last)
     ]
+
+-- the weights of each pair at a stage
+pub whole_weights : (steps stage : ℕ) (paths : List UpdatePath) (weights : List ℕ) → stage ≤ steps → weights ≡ map (weight_at_stage steps stage) paths →
+    AreWholeWeights paths steps weights
+whole_weights steps stage paths weights le are net before after old new same sides p below =
+    let f : UpdatePath → ℕ = λ u. if u.pair == p then (steps - stage) * u.before + stage * u.after else 0 in
+    let terms = sum_below-same (length paths) (λ k. if (update_at paths k).pair == p then slice_index weights k else 0) (λ k. f (update_at paths k))
+    (λ k inside. ap (λ (w : ℕ). if (update_at paths k).pair == p then w else 0)
+    (ap (λ (l : List ℕ). slice_index l k) are ∙ get_or-map (weight_at_stage steps stage) paths k no_update 0 inside))
+    in
+    let whole : (steps - stage) * SHARE_UNIT + stage * SHARE_UNIT ≡ steps * SHARE_UNIT = omega (arith, le) in
+    terms ∙ (sums_all f paths ∙ (whole_weight net (steps - stage) stage (length before) p before after paths old new same (omega arith) below sides ∙ whole))

@@ -3,7 +3,7 @@ use Rattle.std.proofs.Common.{◌⊎◌, inl, inr, ◌≡◌, ℕ, suc, ◌+◌,
 use Rattle.std.specs.Prelude.{IsTrue, if◌then◌else◌}
 use Rattle.std.specs.List.{AllPairs}
 use Rattle.std.proofs.lemmas.Bool.{and_parts, cases_lt, false≢true, lt-ltb, ltb-true, or_cases, or_left, or_right}
-use Rattle.std.proofs.lemmas.List.{take_all}
+use Rattle.std.proofs.lemmas.List.{length_push, take_all}
 use Rattle.std.proofs.lemmas.List.Elements.{All-get_or, All-nil, All-push, All-weaker}
 use Rattle.std.proofs.lemmas.List.Quantifiers.{all_pairs_push}
 use Rattle.std.proofs.lemmas.List.Sums.{sum_by_more, sum_by_push}
@@ -27,6 +27,7 @@ pub record HasWalked (weight : UpdatePath → ℕ) (xs : List PathShare) (i : �
 pub record IsWalked (p : ℕ) (old new : List PathShare) (i j : ℕ) (paths : List UpdatePath) : Type 0 where
   pub ascending : AllPairs (λ u v. IsTrue (list_below u.links v.links)) paths
   pub own : All (λ u. (u.pair ≡ p) × (1 ≤ u.before + u.after)) paths
+  pub few : length paths ≤ i + j
   pub before : HasWalked (λ u. u.before) old i paths
   pub after : HasWalked (λ u. u.after) new j paths
 
@@ -41,6 +42,7 @@ pub walked_none : (p : ℕ) (before after : List PathShare) → IsWalked p befor
 walked_none p before after = record {
   ascending = λ a b d lt below. absurd (omega (arith, below));
   own = All-nil (λ (u : UpdatePath). (u.pair ≡ p) × (1 ≤ u.before + u.after));
+  few = omega arith;
   before = walked_no (λ u. u.before) before;
   after = walked_no (λ u. u.after) after;
 }
@@ -105,6 +107,7 @@ walk_before : (p : ℕ) (before after : List PathShare) (i j : ℕ) (own : List 
 walk_before p before after i j own u asc some i_in first pair links weight none walked = record {
   ascending = ascending_push own (links_at before i) u links (walked.before.below i_in) walked.ascending;
   own = owned p own u pair (omega (arith, weight, weight_some before i i_in some)) walked.own;
+  few = omega (arith, length_push own u, walked.few);
   before = taken (λ v. v.before) before i own u asc i_in links weight walked.before;
   after = kept (λ v. v.after) after j own u none (λ j_in. subst (λ l. list_below l (links_at after j) ≡ true) (sym links) (first j_in)) walked.after;
 }
@@ -117,6 +120,7 @@ walk_after : (p : ℕ) (before after : List PathShare) (i j : ℕ) (own : List U
 walk_after p before after i j own u asc some j_in first pair links weight none walked = record {
   ascending = ascending_push own (links_at after j) u links (walked.after.below j_in) walked.ascending;
   own = owned p own u pair (omega (arith, weight, weight_some after j j_in some)) walked.own;
+  few = omega (arith, length_push own u, walked.few);
   before = kept (λ v. v.before) before i own u none (λ i_in. subst (λ l. list_below l (links_at before i) ≡ true) (sym links) (first i_in)) walked.before;
   after = taken (λ v. v.after) after j own u asc j_in links weight walked.after;
 }
@@ -129,6 +133,7 @@ walk_both : (p : ℕ) (before after : List PathShare) (i j : ℕ) (own : List Up
 walk_both p before after i j own u asc asc' some i_in j_in same pair links weight weight' walked = record {
   ascending = ascending_push own (links_at before i) u links (walked.before.below i_in) walked.ascending;
   own = owned p own u pair (omega (arith, weight, weight_some before i i_in some)) walked.own;
+  few = omega (arith, length_push own u, walked.few);
   before = taken (λ v. v.before) before i own u asc i_in links weight walked.before;
   after = taken (λ v. v.after) after j own u asc' j_in (links ∙ same) weight' walked.after;
 }

@@ -1,9 +1,10 @@
 -- What is answered of two certificates and a matrix: a plan, or why there is none.
-use Rattle.std.specs.Prelude.{◌≡◌, ◌≢◌, ◌⊎◌, ℕ, List, [], ◌∷◌, ◌++◌, codes, map}
+use Rattle.std.specs.Prelude.{◌≡◌, ◌≢◌, ◌⊎◌, ◌<◌, ℕ, List, length, [], ◌∷◌, ◌++◌, codes, map}
 use Rattle.std.specs.Fmt.{decimal}
 use Rattle.te_model.specs.declared.certificate.Head.{Head}
 use Rattle.te_model.specs.declared.route.Pair.{Pair}
 use Rattle.te_model.specs.declared.route.PairRoutes.{PairRoutes}
+use Rattle.te_model.specs.Validity.{IsValidHead}
 use Rattle.update_plan.specs.declared.path.UpdatePlan.{UpdatePlan}
 use Rattle.update_plan.specs.Plan.{IsPlanOf, LacksSlackOn}
 use Rattle.update_plan.specs.Text.{plan_text}
@@ -49,6 +50,12 @@ IsUpdateText old new pairs demand status text =
     ⊎ ((old.network ≡ new.network) × (¬ HavePairs old new pairs) × (status ≡ 1) × (text ≡ no_pairs_line))
     ⊎ ((old.network ≡ new.network) × HavePairs old new pairs
     × (IsPlanText old new demand status text ⊎ IsNoSlackText old new demand status text))
+
+-- The text of a plan of two valid heads is short.
+abbrev pub PlanTextsAreShort : Type 0
+PlanTextsAreShort =
+    (old new : Head) (demand : List ℕ) (plan : UpdatePlan) → IsValidHead old → IsValidHead new → old.network ≡ new.network →
+    length new.routes ≡ length old.routes → IsPlanOf old.network old.routes new.routes demand plan → length (plan_text plan) < 700000000
 
 -- There is one answer.
 abbrev pub OneUpdateText : Type 0

@@ -1,5 +1,5 @@
 -- The loads by each kind of weight, and the tests of links by them.
-use Rattle.std.specs.Prelude.{◌≡◌, ℕ, ◌-◌, ◌*◌, ◌<◌, ◌≤◌, All, IsTrue, List, length, slice_index}
+use Rattle.std.specs.Prelude.{◌≡◌, ℕ, ◌-◌, ◌*◌, ◌^◌, ◌<◌, ◌≤◌, All, IsTrue, List, length, slice_index}
 use Rattle.te_model.specs.declared.network.Network.{Network}
 use Rattle.te_model.specs.declared.units.TheConstants.{SHARE_UNIT}
 use Rattle.te_model.specs.Network.{link_count, capacity_of}
@@ -23,10 +23,15 @@ weight_of Decline u = u.before - u.after
 abbrev pub load_of : Network → List ℕ → List UpdatePath → WeightKind → ℕ → ℕ
 load_of net demand paths kind e = load_by (update_of net demand paths) (λ k. weight_of kind (update_at paths k)) e
 
+-- the links whose numbers have more than 32 bits, which no path holds, have no load
+abbrev pub IsFreeBeyond : List ℕ → Type 0
+IsFreeBeyond loads = (e : ℕ) → 2 ^ 32 ≤ e → slice_index loads e ≡ 0
+
 -- one load for each link
 pub record AreLoadsOf (net : Network) (demand : List ℕ) (paths : List UpdatePath) (kind : WeightKind) (loads : List ℕ) : Type 0 where
   pub count : length loads ≡ link_count net
   pub each : (e : ℕ) → slice_index loads e ≡ load_of net demand paths kind e
+  pub beyond : IsFreeBeyond loads
 
 -- a path of one of so many pairs, over different links of the network, with weights of at most one million
 pub record IsUpdatePath (net : Network) (pairs : ℕ) (u : UpdatePath) : Type 0 where
@@ -48,9 +53,14 @@ pub record AreLinkLoads (net : Network) (demand : List ℕ) (paths : List Update
   pub growth : AreLoadsOf net demand paths Growth loads.growth
   pub decline : AreLoadsOf net demand paths Decline loads.decline
 
+-- one load for each of so many links
+pub record AreForLinks (count : ℕ) (loads : List ℕ) : Type 0 where
+  pub count_is : length loads ≡ count
+  pub beyond : IsFreeBeyond loads
+
 -- one load of each kind for each of so many links
-pub record HasCounts (count : ℕ) (loads : LinkLoads) : Type 0 where
-  pub before : length loads.before ≡ count
-  pub after : length loads.after ≡ count
-  pub growth : length loads.growth ≡ count
-  pub decline : length loads.decline ≡ count
+pub record HasLoads (count : ℕ) (loads : LinkLoads) : Type 0 where
+  pub before : AreForLinks count loads.before
+  pub after : AreForLinks count loads.after
+  pub growth : AreForLinks count loads.growth
+  pub decline : AreForLinks count loads.decline

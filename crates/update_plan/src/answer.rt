@@ -36,8 +36,8 @@ fn no_slack_line(alloc: Global, link: u32) -> Result<Vec<u8>, Memory>
 /// matrix of the declared pairs: `no network` where the networks differ, else `no pairs` where the pairs do, else `no slack at
 /// link E`, each with status 1; else the text of the plan with status 0.
 ///
-/// The routes of each head are a routing of its network, as those of valid heads are, and the matrix has a demand of at most 2^32 for each declared pair. `Memory` comes where memory is
-/// wanting.
+/// The routes of each head are a routing of its network, as those of valid heads are, and the matrix has a demand of at most
+/// 2^32 for each declared pair. `Memory` comes where memory is wanting.
 pub fn update_text(
     alloc: Global,
     old: &Head,

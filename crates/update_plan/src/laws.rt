@@ -1,5 +1,5 @@
 //! Laws of safe updates. Each is the contract of a function that does nothing.
-ghost use Rattle.update_plan.specs.Answer.{OneUpdateText};
+ghost use Rattle.update_plan.specs.Answer.{OneUpdateText, PlanTextsAreShort};
 ghost use Rattle.update_plan.specs.Laws.{LoadsAreOfRoutings, OneListOfPaths, SafeByEnds, SafeByQuotients, SafeByStages, SafeForMore, SafeWithSlack};
 
 /// Safe is one test for each link and stage.
@@ -40,4 +40,9 @@ pub fn loads_are_of_routings()
 /// There is one answer on an update: it is a function of the two heads, the declared pairs and the matrix.
 pub fn one_update_text()
     ensures { OneUpdateText }
+{}
+
+/// The text of a plan between the routings of two valid heads has fewer than 700,000,000 bytes.
+pub fn plan_texts_are_short()
+    ensures { PlanTextsAreShort }
 {}

@@ -1,9 +1,9 @@
 //! Updates from one routing to another that overload no link: plans in steps, inside which each path has moved or not.
 #![tactic(auto)]
 
-pub mod laws;
 mod answer;
 mod fault;
+pub mod laws;
 mod loads;
 mod path;
 mod planning;

@@ -43,7 +43,8 @@ fn add_along(loads: &mut [u128], links: &[u32], amount: u128)
     requires links { All (λ h. h < length loads.old) links.now }
     requires distinct { IsTrue (is_distinct links.now) }
     requires room { (e : ℕ) → slice_index loads.old e + amount < 2 ^ 128 }
-    ensures { (e : ℕ) → slice_index loads.new e ≡ slice_index loads.old e + amount_on links.now amount e }
+    ensures added { (e : ℕ) → slice_index loads.new e ≡ slice_index loads.old e + amount_on links.now amount e }
+    ensures wide { (e : ℕ) → 2 ^ 32 ≤ e → slice_index loads.new e ≡ slice_index loads.old e }
 {
     for h in links {
         loads[*h as usize] += amount;

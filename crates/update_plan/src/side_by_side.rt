@@ -15,6 +15,7 @@ use te_model::{Items, Memory, PairRoutes, PathShare};
 /// Whether path `i` is there, and path `j` of the others does not come before it.
 fn comes_next(paths: &[PathShare], i: usize, others: &[PathShare], j: usize) -> bool
     ensures next { result ≡ comes_next paths.now i others.now j }
+    ensures inside { IsTrue result → i < length paths.now }
     ensures fits { IsTrue result → i < 2 ^ 64 - 1 }
 {
     i < paths.len()
@@ -34,12 +35,7 @@ fn next_weight(paths: &[PathShare], i: usize, others: &[PathShare], j: usize) ->
 }
 
 /// The links of the next path.
-fn next_links<'a>(
-    before: &'a [PathShare],
-    i: usize,
-    after: &'a [PathShare],
-    j: usize,
-) -> &'a [u32]
+fn next_links<'a>(before: &'a [PathShare], i: usize, after: &'a [PathShare], j: usize) -> &'a [u32]
     requires { IsTrue (comes_next before.now i after.now j) ⊎ (j < length after.now) }
     ensures { result.now ≡ (if comes_next before.now i after.now j then links_at before.now i else links_at after.now j) }
 {

@@ -1,8 +1,9 @@
 //! The least number of steps: a quotient for each link, and the greatest of these.
 ghost use Rattle.std.specs.Prelude.{◌≡◌, ◌↔◌, ◌*◌, ◌≤◌, ℕ, IfOk, IfErr};
+ghost use Rattle.te_model.specs.declared.units.TheConstants.{SHARE_UNIT};
 ghost use Rattle.te_model.specs.Network.{link_count};
 ghost use Rattle.update_plan.specs.Laws.{AreEnough};
-ghost use Rattle.update_plan.specs.Loads.{HasCounts};
+ghost use Rattle.update_plan.specs.Loads.{HasLoads};
 ghost use Rattle.update_plan.specs.Steps.{IsFirstWithoutSteps, IsStepCount};
 ghost use Rattle.update_plan.specs.declared.path.TheConstants.{MAX_STEPS};
 
@@ -36,9 +37,15 @@ fn steps_on(whole: u128, before: u128, after: u128, growth: u128, decline: u128)
     growing.max(shrinking).max(1)
 }
 
+fn in_millionths(capacity: u64) -> u128
+    ensures { result ≡ SHARE_UNIT * capacity }
+{
+    u128::from(SHARE_UNIT) * u128::from(capacity)
+}
+
 /// The least number of steps of all links, or the first link that has none up to 1000.
 pub fn least_steps(net: &Network, loads: &LinkLoads) -> Result<u32, u32>
-    requires { HasCounts (link_count net.now) loads.now }
+    requires { HasLoads (link_count net.now) loads.now }
     ensures steps { IfOk result (IsStepCount net.now loads.now) }
     ensures none { IfErr result (IsFirstWithoutSteps net.now loads.now) }
 {
@@ -49,7 +56,7 @@ pub fn least_steps(net: &Network, loads: &LinkLoads) -> Result<u32, u32>
     let decline = loads.decline.as_slice();
     let mut most = 1;
     for h in 0..links.len() {
-        let whole = u128::from(SHARE_UNIT) * u128::from(links[h].capacity);
+        let whole = in_millionths(links[h].capacity);
         let steps = steps_on(whole, before[h], after[h], growth[h], decline[h]);
         if steps > u128::from(MAX_STEPS) {
             return Err(h as u32);

@@ -45,7 +45,11 @@ fn path_line(alloc: Global, path: &UpdatePath) -> Result<NumLine, Memory>
     })
 }
 
-fn add_path_lines(alloc: Global, lines: &mut Vec<NumLine>, paths: &[UpdatePath]) -> Result<(), Memory>
+fn add_path_lines(
+    alloc: Global,
+    lines: &mut Vec<NumLine>,
+    paths: &[UpdatePath],
+) -> Result<(), Memory>
     ensures { OnOk result (lines.new.items ≡ lines.old.items ++ map path_line paths.now) }
 {
     for path in paths {

@@ -3,6 +3,7 @@ use Rattle.std.proofs.lemmas.List.{take_all}
 use Rattle.std.proofs.lemmas.List.Elements.{All-get_or}
 use Rattle.te_model.specs.Path.{amount_on}
 use Rattle.te_model.proofs.Amounts.{amount_on-next, amount_step}
+use Rattle.update_plan.proofs.LoadSums.{none_beyond}
 use Rattle.update_plan.proofs.loads.add_along.Goals as goal
 
 pub overflow_add-loads : goal.overflow_add-loads
@@ -20,8 +21,15 @@ loop-h-preserved c e =
     amount_step c.args.loads.now c.loop-h.loads path c.args.amount i e (c.loop-h.invariant e) c.requires.distinct c.loop-h-test.true
     (omega (arith, inside, c.loop-h.auto.loads))
 
-pub returns : goal.returns
-returns c e =
+pub returns-clause-added : goal.returns-clause-added
+returns-clause-added c e =
     let path = c.args.links.now in
     let all = take_all c.loop-h.h-index path (omega (arith, c.loop-h-test.false)) in
     c.loop-h.invariant e ∙ ap (λ (l : List ℕ). slice_index c.args.loads.now e + amount_on l c.args.amount e) all
+
+pub returns-clause-wide : goal.returns-clause-wide
+returns-clause-wide c e wide =
+    let path = c.args.links.now in
+    let all = take_all c.loop-h.h-index path (omega (arith, c.loop-h-test.false)) in
+    let added = c.loop-h.invariant e ∙ ap (λ (l : List ℕ). slice_index c.args.loads.now e + amount_on l c.args.amount e) all in
+    omega (arith, added, none_beyond path c.args.amount e (λ k below. omega (arith, c.type_inv.links k)) wide)
