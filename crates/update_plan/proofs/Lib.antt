@@ -1,0 +1,12 @@
+pub mod Safe
+pub mod Walking
+pub mod RoutingLoads
+pub mod PlanPaths
+pub mod LeastSteps
+pub mod OneList
+pub mod LoadSums
+pub mod StageWeights
+pub mod OneAnswer
+pub mod StepCounts
+pub mod ValidHeads
+pub mod PlanSizes

@@ -1,0 +1,10 @@
+pub mod Update
+pub mod Paths
+pub mod Laws
+pub mod Walk
+pub mod Plan
+pub mod Loads
+pub mod Steps
+pub mod Stages
+pub mod Text
+pub mod Answer
