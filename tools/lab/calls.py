@@ -165,6 +165,8 @@ BOTH_WAYS = "source,target,capacity,cost\na,b,10,1\nb,a,10,1\n"
 TO_C = "step,source,target,demand\n0,a,c,10\n0,b,c,10\n1,a,c,7\n"
 # The same without step 1.
 TENS = "step,source,target,demand\n0,a,c,10\n0,b,c,10\n"
+# A link from each of three nodes to each.
+EACH_TO_EACH = "source,target,capacity,cost\na,b,10,1\na,c,10,1\nb,a,10,1\nb,c,10,1\nc,a,10,1\nc,b,10,1\n"
 # Demands from a to b and back.
 EXCHANGE = "step,source,target,demand\n0,a,b,1\n0,b,a,1\n"
 
@@ -178,6 +180,9 @@ PUBLISHED = [
         ['{"topology":"t","matrices":"m","publish":"ecmp"}', "source,target,capacity,cost\na,b,10,1\na,b,30,1\n", DEMAND], 0,
         "\n0 1 2\n500000 1 0\n500000 1 1\nset all\nratio 2000000\n",
     ),
+    # Over each of three nodes, and the heaviest of these paths alone.
+    (['{"topology":"t","matrices":"m","publish":"valiant","budget":32}', EACH_TO_EACH, DEMAND], 0, "\npairs 1\n0 1 2\n666667 1 0\n333333 2 1 5\nset all\n"),
+    (['{"topology":"t","matrices":"m","publish":"valiant","budget":1}', EACH_TO_EACH, DEMAND], 0, "\npairs 1\n0 1 1\n1000000 1 0\nset all\n"),
     # The trees of the default scheme have one path for each pair.
     (['{"topology":"t","matrices":"m"}', BOTH_WAYS, EXCHANGE], 0, "\n0 1 1\n1000000 1 0\n1 0 1\n1000000 1 1\nset all\nratio "),
     ([MARGIN_OF_ONE, TRIANGLE_NET, TO_C], 0, "\nset margin 1 1\nbase 10 10\nratio "),
@@ -208,6 +213,10 @@ UNPUBLISHED = [
     ([SPF, LINE, "step,source,target,demand\n0,c,a,1\n0,b,a,1\n"], 7, "no path: b a\n"),
     # So they are whichever scheme is published.
     *[([SPF.replace("spf", scheme), LINE, DEMAND + "0,c,a,1\n0,b,a,1\n"], 7, "no path: b a\n") for scheme in ("ecmp", "ksp", "racke")],
+    (
+        ['{"topology":"t","matrices":"m","publish":"valiant"}', "source,target,capacity,cost\na,b,10,1\nb,a,10,1\nc,b,10,1\n",
+         "step,source,target,demand\n0,a,c,1\n"], 7, "no path: a c\n",
+    ),
     # A plan that is refused needs no topology, and a topology that is refused no matrices.
     (["{}"], 3, "refused: p: missing topology\n"),
     (['{"topology":"t"}'], 3, "refused: p: missing matrices\n"),
@@ -220,6 +229,7 @@ UNPUBLISHED = [
     (['{"topology":"t","matrices":"m","recovery":"hope"}'], 3, "refused: p: range of recovery\n"),
     (['{"topology":"t","matrices":"m","schemes":["spf","best"]}'], 3, "refused: p: scheme name of schemes\n"),
     (['{"topology":"t","matrices":"m","publish":"smore"}'], 3, "refused: p: scheme name of publish\n"),
+    (['{"topology":"t","matrices":"m","publish":"Valiant"}'], 3, "refused: p: scheme name of publish\n"),
     (['{"topology":"t","matrices":"m","margin":[2,1],"envelope":true}'], 3, "refused: p: range of envelope\n"),
     (['{"topology":"t","matrices":"m","margin":[2,1],"envelope":1}'], 3, "refused: p: kind of envelope\n"),
     ([SPF, "source,target,capacity,cost\n"], 3, "refused: t: empty\n"),
@@ -279,6 +289,10 @@ REPORTS = [
     ([KEEP, WAYS, THERE_AND_BACK, "from,to,link\n0,0,4\n"], 0, COLUMNS + "ksp,0,17,12,0,0,5,600000,600000,-\nksp,total,17,12,0,0,5,600000,600000,-\n"),
     ([SCALE, WAYS, THERE_AND_BACK, "from,to,link\n0,0,0\n0,0,1\n"], 0, COLUMNS + "ksp,0,17,0,0,0,17,0,600000,-\nksp,total,17,0,0,0,17,0,600000,-\n"),
     ([REROUTE, WAYS, THERE_AND_BACK, "from,to,link\n0,0,0\n0,0,2\n"], 0, COLUMNS + "ksp,0,17,0,0,0,17,0,0,-\nksp,total,17,0,0,0,17,0,0,-\n"),
+    (
+        ['{"topology":"t","matrices":"m","schemes":["valiant"]}', EACH_TO_EACH, "step,source,target,demand\n0,a,b,5\n"], 0,
+        COLUMNS + "valiant,0,5,5,0,0,0,300000,333334,-\nvaliant,total,5,5,0,0,0,300000,333334,-\n",
+    ),
     # Traffic without a path is lost, and needs no failure file.
     (
         ['{"topology":"t","matrices":"m","schemes":["spf"]}',

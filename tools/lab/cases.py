@@ -171,6 +171,7 @@ PLANS = [
     ("a scheme with capitals", member('"schemes":["SPF"]'), "refused: plan.json: scheme name of schemes", ["the name is spf"]),
     ("raecke", member('"schemes":["spf","raecke"]'), "refused: plan.json: scheme name of schemes", ["the name is racke"]),
     ("optimal", member('"schemes":["optimal"]'), "refused: plan.json: scheme name of schemes", ["the name is mcf"]),
+    ("vlb", member('"schemes":["vlb"]'), "refused: plan.json: scheme name of schemes", ["the name is valiant"]),
     ("smore is published", member('"publish":"smore"'), "refused: plan.json: scheme name of publish", ["follows each matrix"]),
     ("schemes that are no list", member('"schemes":"spf"'), "refused: plan.json: kind of schemes", ["a list of 1 to 16"]),
     ("k of 64", member('"k":64'), "refused: plan.json: range of k", ["from 1 to 32"]),

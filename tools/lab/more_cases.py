@@ -172,7 +172,7 @@ PLANS = [
     ("a number with a fraction", member('"k":4.0'), "refused: plan.json: kind of k", ["4.0, has a fraction"]),
     ("a number with an exponent", member('"seed":1e3'), "refused: plan.json: kind of seed", ["1e3, is written with an exponent"]),
     ("two files in a list", plan('{"topology":["net.csv"],"matrices":"tm.csv"}'), "refused: plan.json: kind of topology", ['["net.csv"], is a list']),
-    ("schemes of all", member('"schemes":["all"]'), "refused: plan.json: scheme name of schemes", ["leave the key out for all six"]),
+    ("schemes of all", member('"schemes":["all"]'), "refused: plan.json: scheme name of schemes", ["leave the key out for the six"]),
     ("no scheme", member('"schemes":[]'), "refused: plan.json: range of schemes", ["is an empty list"]),
     ("a scheme with a letter that only looks alike", member('"schemes":["sp\u0192","r\u0430cke"]'), "refused: plan.json: scheme name of schemes", ["is no scheme"]),
     ("racke with a Cyrillic letter", member('"publish":"r\u0430cke"'), "refused: plan.json: scheme name of publish", ["the name is racke", "CYRILLIC"]),

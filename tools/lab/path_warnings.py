@@ -11,13 +11,15 @@ def path_warnings(plan, net, series, publish):
     """The warning of a plan whose published scheme has pairs with more paths than the budget.
 
     `publish` gives the certificate of a plan of this name as text: None where it is not made in time, and an empty one where none is made.
-    It is itself None where the program is not to be asked: then only `ecmp` is counted.
+    It is itself None where the program is not to be asked: then only `ecmp` and `valiant` are counted.
     """
     most = {"spf": 1, "ksp": plan.k, "racke": plan.trees}.get(plan.publish)
     if most is not None and most <= plan.budget or not (plan.publish in plan.schemes or plan.names_publish):
         return []
     if plan.publish == "ecmp":
         counts = ecmp_counts(net, series.pairs, plan.budget)
+    elif plan.publish == "valiant":
+        counts = valiant_counts(net, series.pairs)
     elif publish is None:
         return []
     else:
@@ -115,3 +117,33 @@ def paths_of_split(links, costs, source, target):
             flow[number] -= units
         paths.append((units, path))
     return paths
+
+
+def valiant_counts(net, pairs):
+    """For each pair the paths of `valiant`."""
+    toward = [first_links(net, target) for target in range(len(net.nodes))]
+    counts = []
+    for source, target in pairs:
+        detours = {detour(toward, source, middle, target) for middle in range(len(net.nodes))}
+        counts.append(len(detours - {None}))
+    return counts
+
+
+def first_links(net, target):
+    """For each other node that reaches the target the first link of its least path by cost, with the head of that link."""
+    links = next_links(net, costs_to(net, target))
+    return {node: links[node][0] for node in links if node != target}
+
+
+def detour(toward, source, middle, target):
+    """The links of the least path to the middle node and of the one on from there, without loops; None where one of the two is missing."""
+    walk = [(None, source)]
+    for end in (middle, target):
+        while walk[-1][1] != end:
+            link = toward[end].get(walk[-1][1])
+            if link is None:
+                return None
+            nodes = [node for _, node in walk]
+            # A node that is met again ends a loop.
+            walk = walk[: nodes.index(link[1]) + 1] if link[1] in nodes else [*walk, link]
+    return tuple(number for number, _ in walk[1:])

@@ -22,7 +22,7 @@ VALUES = {
     "seed": "a whole number from 0 to 18446744073709551615, without quotes",
     "envelope": "true or false, without quotes; true is for the matrices between the least and the greatest demand of each pair, and not beside a margin",
 }
-OTHER_NAMES = {"raecke": "racke", "räcke": "racke", "optimal": "mcf", "opt": "mcf", "semimcf": "smore", "semimcfraecke": "smore", "ospf": "spf", "shortest": "spf"}
+OTHER_NAMES = {"raecke": "racke", "räcke": "racke", "optimal": "mcf", "opt": "mcf", "semimcf": "smore", "semimcfraecke": "smore", "ospf": "spf", "shortest": "spf", "vlb": "valiant"}
 OTHER_KEYS = {"demands": "matrices", "traffic": "matrices", "network": "topology", "net": "topology", "scheme": "schemes", "paths": "k"}
 LEAST_PLAN = '{"topology": "net.csv", "matrices": "tm.csv"}'
 # What the reader of JSON in Python finds, what that means, and what to do.
@@ -125,7 +125,7 @@ def text_words(key, value, said, takes):
         alike = plain_text(bare).lower()
         return f"{said} is no recovery" + (f": the name is {alike}" if alike in RECOVERIES else ""), takes
     if key == "schemes":
-        return f"{said} is a text and no list", f'write ["{bare.lower()}"]; {takes}' if bare.lower() in SCHEMES else f"leave the key out for all six; {takes}"
+        return f"{said} is a text and no list", f'write ["{bare.lower()}"]; {takes}' if bare.lower() in SCHEMES else f"leave the key out for the six of a plan without it; {takes}"
     return f"{said} is a text, of the wrong kind", takes
 
 
@@ -138,7 +138,7 @@ def scheme_words(key, value, takes):
     near = [] if name else difflib.get_close_matches(alike, SCHEMES, 1, 0.7)
     why = f": {look_alikes(bad)}" if look_alikes(bad) else ""
     if bad.lower() in ("all", "*") and key == "schemes":
-        return f"{shown(in_json(bad))} is no scheme", f"leave the key out for all six; {takes}"
+        return f"{shown(in_json(bad))} is no scheme", f"leave the key out for the six of a plan without it; {takes}"
     hint = f" here: the name is {name}{why}" if name else f" (is it {near[0]}?)" if near else ""
     return f"{shown(in_json(bad))} is no scheme{hint}", takes
 

@@ -3,8 +3,9 @@ import json
 
 from .faults import Fault
 
-SCHEMES = ("spf", "ecmp", "ksp", "mcf", "racke", "smore")
-OBLIVIOUS = ("spf", "ecmp", "ksp", "racke")
+DEFAULT_SCHEMES = ("spf", "ecmp", "ksp", "mcf", "racke", "smore")
+SCHEMES = (*DEFAULT_SCHEMES, "valiant")
+OBLIVIOUS = ("spf", "ecmp", "ksp", "racke", "valiant")
 RECOVERIES = ("none", "scale", "bypass", "reroute")
 KEYS = ("topology", "matrices", "failures", "schemes", "recovery", "publish", "margin", "k", "budget", "trees", "seed", "envelope")
 COUNTS = {"k": (1, 32), "budget": (1, 32), "trees": (1, 16), "seed": (0, 2**64 - 1)}
@@ -30,7 +31,7 @@ class Plan:
     def __init__(self, members, twice):
         self.topology, self.matrices = members["topology"], members["matrices"]
         self.failures = members.get("failures")
-        self.schemes = members.get("schemes", list(SCHEMES))
+        self.schemes = members.get("schemes", list(DEFAULT_SCHEMES))
         self.recovery = members.get("recovery", "none")
         self.publish, self.names_publish = members.get("publish", "racke"), "publish" in members
         self.k, self.budget = members.get("k", 4), members.get("budget", 4)

@@ -1,11 +1,12 @@
 """What tools/explain warns of, and what it does not: plans over six equal ways from one node to another, and reports."""
+import itertools
 import json
 import os
 import tempfile
 
 from . import program
 from .inputs import read_matrices, read_topology
-from .path_warnings import counts_in, ecmp_counts, path_warnings
+from .path_warnings import counts_in, ecmp_counts, path_warnings, valiant_counts
 from .plans import read_plan
 from .warnings import report_warnings, warnings
 
@@ -53,6 +54,17 @@ def ways_of_ecmp():
     return faults
 
 
+def ways_of_valiant():
+    """The detours of a scheme that is published with a smaller budget: one for each node between, loops cut; and a pair without a path."""
+    net, series = files_of()
+    said = "keeps the 4 heaviest paths of a pair (the key budget), and valiant has more for 2 of 2 pairs, up to 6"
+    faults = differences(path_warnings(plan_of(publish="valiant"), net, series, None), said)
+    faults += differences(path_warnings(plan_of(publish="valiant", budget=6), net, series, None))
+    wide, declared = files_of("source,target,capacity,cost\n" + "".join(f"s,m{it},1,1\nm{it},t,1,1\n" for it in range(40)), "step,source,target,demand\n0,s,t,1\n0,t,s,1\n")
+    said = "valiant has more for 1 of 2 pairs, up to 40: what is published is another routing than the one that run reports; the greatest budget is 32"
+    return faults + differences(path_warnings(plan_of(publish="valiant", budget=32), wide, declared, None), said)
+
+
 def ways_in_certificates():
     """Where the program tells the paths, and where it makes no certificate, or none in time."""
     net, series = files_of()
@@ -79,9 +91,9 @@ def answer(words, members):
 
 
 def counts_of_program():
-    """The paths of `ecmp` are as many as the program publishes, on networks of one cost."""
+    """The paths of `ecmp` and `valiant` are as many as the program publishes, on networks of one cost."""
     faults = []
-    for name in ("abilene", "backbone"):
+    for name, scheme in itertools.product(("abilene", "backbone"), ("ecmp", "valiant")):
         folder = os.path.join(program.TOP, "examples", name)
         with open(os.path.join(folder, "net.csv"), "rb") as file:
             rows = [line.rsplit(",", 1)[0] for line in file.read().decode().split("\n")[1:] if line]
@@ -90,12 +102,13 @@ def counts_of_program():
         topology = "source,target,capacity,cost\n" + "".join(f"{row},1\n" for row in rows)
         net, series = files_of(topology, demands)
         with tempfile.TemporaryDirectory() as place:
-            for file_name, text in (("n", topology), ("m", demands), ("p", '{"topology":"n","matrices":"m","publish":"ecmp","budget":32}')):
+            for file_name, text in (("n", topology), ("m", demands), ("p", f'{{"topology":"n","matrices":"m","publish":"{scheme}","budget":32}}')):
                 with open(os.path.join(place, file_name), "w", encoding="utf-8") as file:
                     file.write(text)
             published = counts_in(program.answer(["publish", "p"], place).out)
-        if ecmp_counts(net, series.pairs, 0) != published:
-            faults.append(f"{name}: {ecmp_counts(net, series.pairs, 0)} in place of {published}")
+        counts = ecmp_counts(net, series.pairs, 0) if scheme == "ecmp" else valiant_counts(net, series.pairs)
+        if counts != published:
+            faults.append(f"{scheme} on {name}: {counts} in place of {published}")
     return faults
 
 
@@ -115,7 +128,8 @@ def warnings_of_program():
 CASES = [
     ("coarse units", units),
     ("paths of ecmp beyond the budget", ways_of_ecmp),
+    ("paths of valiant beyond the budget", ways_of_valiant),
     ("paths of a certificate beyond the budget", ways_in_certificates),
     ("few paths of smore", few_paths_of_smore),
 ]
-CASES_OF_PROGRAM = [("as many paths of ecmp as are published", counts_of_program), ("paths and reports of the program", warnings_of_program)]
+CASES_OF_PROGRAM = [("as many paths of ecmp and valiant as are published", counts_of_program), ("paths and reports of the program", warnings_of_program)]

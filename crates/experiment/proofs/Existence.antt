@@ -22,7 +22,7 @@ use Rattle.traffic_matrix.specs.declared.series.Series.{Series}
 use Rattle.traffic_matrix.specs.Limits.{IsSeries}
 use Rattle.plan.specs.declared.experiment.Experiment.{Experiment}
 use Rattle.plan.specs.declared.scheme_name.SchemeName.{SchemeName}
-use Rattle.plan.specs.declared.scheme_name.SchemeName.TheVariants.{Spf, Ecmp, Ksp, Mcf, Racke, Smore}
+use Rattle.plan.specs.declared.scheme_name.SchemeName.TheVariants.{Spf, Ecmp, Ksp, Mcf, Racke, Smore, Valiant}
 use Rattle.plan.specs.Plan.{InRange}
 use Rattle.plan.specs.Words.{is_oblivious}
 use Rattle.series_simulation.specs.declared.step_row.StepRow.{StepRow}
@@ -46,6 +46,7 @@ kept_routing plan Ksp oblivious net pairs p is = (p.routing.routes, refl, is.rou
 kept_routing plan Mcf oblivious net pairs p is = absurd (false≢true oblivious)
 kept_routing plan Racke oblivious net pairs p is = (p.routing.routes, refl, is.routing.routing)
 kept_routing plan Smore oblivious net pairs p is = absurd (false≢true oblivious)
+kept_routing plan Valiant oblivious net pairs p is = (p.routing.routes, refl, is.routing)
 
 -- the file of a certificate of the heaviest paths of a routing
 pub made_file_exists : (net : Network) (pairs : List Pair) (budget : ℕ) (routes : List PairRoutes) (set : DemandSet) →

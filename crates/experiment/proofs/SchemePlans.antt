@@ -23,12 +23,15 @@ use Rattle.racke_mix.specs.declared.racke.RackePlan.{RackePlan}
 use Rattle.racke_mix.specs.Racke.{IsRackePlan}
 use Rattle.racke_mix.proofs.Existence.{racke_plans_exist}
 use Rattle.semi_oblivious.proofs.AdaptedRoutings.{adapted_routings_exist, fixed_routings_exist}
+use Rattle.valiant_mix.specs.Valiant.{IsValiantSplit}
+use Rattle.valiant_mix.specs.declared.valiant.ValiantPlan.{ValiantPlan}
+use Rattle.valiant_mix.proofs.Splits.{valiant_splits_exist, within_format}
 use Rattle.plan.specs.declared.experiment.Experiment.{Experiment}
 use Rattle.plan.specs.declared.scheme_name.SchemeName.{SchemeName}
-use Rattle.plan.specs.declared.scheme_name.SchemeName.TheVariants.{Spf, Ecmp, Ksp, Mcf, Racke, Smore}
+use Rattle.plan.specs.declared.scheme_name.SchemeName.TheVariants.{Spf, Ecmp, Ksp, Mcf, Racke, Smore, Valiant}
 use Rattle.plan.specs.Plan.{InRange}
 use Rattle.series_simulation.specs.Laws.{HasPlans, HasRoutings}
-use Rattle.experiment.specs.Schemes.{SchemeMeaning, ecmp_paths, flow_scheme, ksp_paths, meaning_of, racke_scheme, rule_scheme, semi_scheme, spf_paths}
+use Rattle.experiment.specs.Schemes.{SchemeMeaning, ecmp_paths, flow_scheme, ksp_paths, meaning_of, racke_scheme, rule_scheme, semi_scheme, spf_paths, valiant_paths}
 
 -- a scheme has plans, and a routing of each matrix by each plan
 pub record CanRoute (scheme : SchemeMeaning) : Type 0 where
@@ -110,3 +113,7 @@ name_routings plan range Mcf = flow_routings
 name_routings plan range Racke = racke_routings plan.trees plan.seed range.trees_low range.trees_high
 name_routings plan range Smore =
     semi_routings plan.trees plan.seed plan.budget range.trees_low range.trees_high range.budget_low range.budget_high
+name_routings plan range Valiant =
+    rule_routings (λ (p : ValiantPlan). p.routing.routes) (λ r. (record { routing = r }, refl)) valiant_paths IsValiantSplit (omega arith)
+    (λ net formed. routings_by_rules_exist IsValiantSplit valiant_paths net (λ pair is has.
+    let (paths, by) = valiant_splits_exist net formed pair is has in (paths, within_format net pair paths formed by)))

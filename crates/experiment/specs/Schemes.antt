@@ -20,11 +20,13 @@ use Rattle.racke_mix.specs.Racke.{IsRackePlan, IsRackeRouting}
 use Rattle.racke_mix.specs.declared.racke.RackePlan.{RackePlan}
 use Rattle.semi_oblivious.specs.Semi.{AreFixed, IsAdapted}
 use Rattle.semi_oblivious.specs.declared.semi.SemiPlan.{SemiPlan}
+use Rattle.valiant_mix.specs.Valiant.{IsValiantSplit}
+use Rattle.valiant_mix.specs.declared.valiant.ValiantPlan.{ValiantPlan}
 use Rattle.failure.specs.declared.outage.Failures.{Failures}
 use Rattle.traffic_matrix.specs.declared.series.Series.{Series}
 use Rattle.plan.specs.declared.experiment.Experiment.{Experiment}
 use Rattle.plan.specs.declared.scheme_name.SchemeName.{SchemeName}
-use Rattle.plan.specs.declared.scheme_name.SchemeName.TheVariants.{Spf, Ecmp, Ksp, Mcf, Racke, Smore}
+use Rattle.plan.specs.declared.scheme_name.SchemeName.TheVariants.{Spf, Ecmp, Ksp, Mcf, Racke, Smore, Valiant}
 use Rattle.series_simulation.specs.declared.step_row.StepRow.{StepRow}
 use Rattle.series_simulation.specs.Rows.{AreStepRows}
 
@@ -46,6 +48,9 @@ racke_paths = 16
 
 abbrev pub smore_paths : ℕ
 smore_paths = 32
+
+abbrev pub valiant_paths : ℕ
+valiant_paths = 128
 
 -- what a scheme promises: the greatest number of paths of a pair, of which network and pairs a plan is, how a plan, demands, a routing
 -- and a note stand to one another, the lower bound that a note states, and the routes that a plan keeps for every matrix, if it does
@@ -118,6 +123,7 @@ meaning_of Ksp plan = rule_scheme (λ (p : KspPlan). p.routing.routes) ksp_paths
 meaning_of Mcf plan = flow_scheme
 meaning_of Racke plan = racke_scheme plan.trees plan.seed
 meaning_of Smore plan = semi_scheme plan.trees plan.seed plan.budget
+meaning_of Valiant plan = rule_scheme (λ (p : ValiantPlan). p.routing.routes) valiant_paths IsValiantSplit
 
 -- the routes that a plan of the network and the pairs keeps for every matrix, which a scheme that adapts to the matrix does not
 pub record IsKeptRouting (scheme : SchemeMeaning) (net : Network) (pairs : List Pair) (routes : List PairRoutes) : Type 0 where

@@ -23,6 +23,7 @@ use scheme::{Oblivious, SchemeFault, Spf};
 use std::alloc::Global;
 use te_model::{Certificate, DemandSet, Network, Pairs};
 use traffic_matrix::Series;
+use valiant_mix::Valiant;
 
 /// The file of a certificate.
 fn file_of(alloc: Global, certificate: &Certificate) -> Result<Vec<u8>, SchemeFault>
@@ -92,6 +93,7 @@ pub fn certificate_file(
             };
             scheme_file(alloc, &scheme, network, pairs, set, plan.budget)
         }
+        SchemeName::Valiant => scheme_file(alloc, &Valiant, network, pairs, set, plan.budget),
         // A plan publishes an oblivious scheme.
         SchemeName::Mcf | SchemeName::Smore => unreachable!(),
     }

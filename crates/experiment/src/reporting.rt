@@ -25,6 +25,7 @@ use series_simulation::{Preparation, StepRow, prepare_connected, row_of};
 use std::alloc::Global;
 use te_model::{Memory, Network};
 use traffic_matrix::Series;
+use valiant_mix::Valiant;
 
 /// Writes the line of a step, and takes the step into the total.
 fn add_row(text: &mut Vec<u8>, total: &mut Figures, word: &str, row: &StepRow) -> Result<(), Memory>
@@ -139,6 +140,7 @@ fn lines_by_name(
             let scheme = Semi { base, budget };
             lines_of(alloc, &scheme, word, network, series, failures, recovery)
         }
+        SchemeName::Valiant => lines_of(alloc, &Valiant, word, network, series, failures, recovery),
     }
 }
 

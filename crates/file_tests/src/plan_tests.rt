@@ -16,7 +16,7 @@ const PLANS: &[Planned] = &[
     // Nothing but the two files.
     Planned(
         r#"{"topology":"t","matrices":"m"}"#,
-        &SchemeName::ALL,
+        &SchemeName::DEFAULT,
         false,
         (Recovery::Keep, SchemeName::Racke, None, false),
         (4, 4, 8, 0),
@@ -30,7 +30,7 @@ const PLANS: &[Planned] = &[
     ),
     Planned(
         r#"{"envelope":true,"topology":"t","matrices":"m"}"#,
-        &SchemeName::ALL,
+        &SchemeName::DEFAULT,
         false,
         (Recovery::Keep, SchemeName::Racke, None, true),
         (4, 4, 8, 0),
@@ -38,7 +38,7 @@ const PLANS: &[Planned] = &[
     // A key that stands twice, first with a fault.
     Planned(
         r#"{"topology":"t","matrices":"m","k":0,"k":32}"#,
-        &SchemeName::ALL,
+        &SchemeName::DEFAULT,
         false,
         (Recovery::Keep, SchemeName::Racke, None, false),
         (32, 4, 8, 0),
@@ -46,7 +46,7 @@ const PLANS: &[Planned] = &[
     // No envelope, beside a margin.
     Planned(
         r#"{"topology":"t","matrices":"m","envelope":false,"margin":[2,1]}"#,
-        &SchemeName::ALL,
+        &SchemeName::DEFAULT,
         false,
         (Recovery::Keep, SchemeName::Racke, Some((2, 1)), false),
         (4, 4, 8, 0),

@@ -15,7 +15,7 @@ use Rattle.plan.specs.declared.reader.Choices.{Choices}
 use Rattle.plan.specs.declared.reader.Counts.{Counts}
 use Rattle.plan.specs.Words.{key_word, is_oblivious}
 use Rattle.plan.specs.Values.{text_value, number_within, margin_of, envelope_value, recovery_of, publish_of, schemes_of}
-use Rattle.plan.specs.Plan.{with_value, json_of, knows_all, required_value, optional, some_of, failures_name, files_of, all_schemes, choices_of, count_of_key, numbers_of, envelope_at, experiment_of, plan_of_object, plan_of_known_keys, plan_of_value, plan_of, InRange}
+use Rattle.plan.specs.Plan.{with_value, json_of, knows_all, required_value, optional, some_of, failures_name, files_of, default_schemes, choices_of, count_of_key, numbers_of, envelope_at, experiment_of, plan_of_object, plan_of_known_keys, plan_of_value, plan_of, InRange}
 use Rattle.plan.specs.Laws.{PlansAreInRange}
 use Rattle.plan.proofs.ValueRanges.{given, text-range, IsBetween, number-range, IsMargin, margin-range, envelope-range, publish-range, AreFew, schemes-range}
 
@@ -67,8 +67,8 @@ record AreChoices (c : Choices) : Type 0 where
   publish : is_oblivious c.publish ≡ true
   margin : IfSome c.margin IsMargin
 
-few-schemes : (d : Data) → IfOk (optional all_schemes schemes_of (get (key_word key.Schemes) d)) AreFew
-few-schemes d = either all_schemes schemes_of (get (key_word key.Schemes) d) AreFew (omega arith, omega arith) schemes-range
+few-schemes : (d : Data) → IfOk (optional default_schemes schemes_of (get (key_word key.Schemes) d)) AreFew
+few-schemes d = either default_schemes schemes_of (get (key_word key.Schemes) d) AreFew (omega arith, omega arith) schemes-range
 
 published : (d : Data) → IfOk (optional scheme.Racke publish_of (get (key_word key.Publish) d)) (λ s. is_oblivious s ≡ true)
 published d = either scheme.Racke publish_of (get (key_word key.Publish) d) (λ s. is_oblivious s ≡ true) refl publish-range
@@ -81,7 +81,7 @@ margin-there d =
 choices-range : (d : Data) → IfOk (choices_of d) AreChoices
 unfolding choices_of
 choices-range d =
-    after (optional all_schemes schemes_of (get (key_word key.Schemes) d)) _ AreFew AreChoices (few-schemes d)
+    after (optional default_schemes schemes_of (get (key_word key.Schemes) d)) _ AreFew AreChoices (few-schemes d)
     (λ s few. after-any (optional recovery.Keep recovery_of (get (key_word key.Recovery) d)) _ AreChoices
     (λ r. after (optional scheme.Racke publish_of (get (key_word key.Publish) d)) _ (λ s. is_oblivious s ≡ true) AreChoices (published d)
     (λ p oblivious. after (optional None (λ v. some_of (margin_of v)) (get (key_word key.Margin) d)) _ (λ o. IfSome o IsMargin) AreChoices (margin-there d)

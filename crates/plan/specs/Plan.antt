@@ -53,12 +53,13 @@ files_of topology matrices d =
     with_value (failures_name d) (λ f.
     Ok (record { topology = t; matrices = m; failures = f }))))
 
-abbrev pub all_schemes : List SchemeName
-all_schemes = scheme.Spf ∷ scheme.Ecmp ∷ scheme.Ksp ∷ scheme.Mcf ∷ scheme.Racke ∷ scheme.Smore ∷ []
+-- what a plan without a list of schemes compares
+abbrev pub default_schemes : List SchemeName
+default_schemes = scheme.Spf ∷ scheme.Ecmp ∷ scheme.Ksp ∷ scheme.Mcf ∷ scheme.Racke ∷ scheme.Smore ∷ []
 
 unfoldable pub choices_of : Data → Result Choices PlanFault
 choices_of d =
-    with_value (optional all_schemes schemes_of (get (key_word key.Schemes) d)) (λ s.
+    with_value (optional default_schemes schemes_of (get (key_word key.Schemes) d)) (λ s.
     with_value (optional recovery.Keep recovery_of (get (key_word key.Recovery) d)) (λ r.
     with_value (optional scheme.Racke publish_of (get (key_word key.Publish) d)) (λ p.
     with_value (optional None (λ v. some_of (margin_of v)) (get (key_word key.Margin) d)) (λ m.

@@ -16,6 +16,7 @@ scheme_word scheme.Ksp = codes "ksp"
 scheme_word scheme.Mcf = codes "mcf"
 scheme_word scheme.Racke = codes "racke"
 scheme_word scheme.Smore = codes "smore"
+scheme_word scheme.Valiant = codes "valiant"
 
 -- the scheme that is named so
 abbrev pub scheme_named : List ℕ → Option SchemeName
@@ -26,6 +27,7 @@ scheme_named text =
     else if bytes_eq text (scheme_word scheme.Mcf) then Some scheme.Mcf
     else if bytes_eq text (scheme_word scheme.Racke) then Some scheme.Racke
     else if bytes_eq text (scheme_word scheme.Smore) then Some scheme.Smore
+    else if bytes_eq text (scheme_word scheme.Valiant) then Some scheme.Valiant
     else None
 
 -- the schemes whose routing is the same for every matrix
@@ -36,6 +38,7 @@ is_oblivious scheme.Ksp = true
 is_oblivious scheme.Mcf = false
 is_oblivious scheme.Racke = true
 is_oblivious scheme.Smore = false
+is_oblivious scheme.Valiant = true
 
 -- the recovery of a word
 abbrev pub recovery_named : List ℕ → Option Recovery

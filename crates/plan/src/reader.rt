@@ -188,7 +188,7 @@ fn read_choices(alloc: Global, value: &Value) -> Result<Choices, PlanFault>
 {
     let schemes = match value.get(Key::Schemes.word()) {
         Some(list) => read_schemes(alloc, list)?,
-        None => Items::new(Vec::from_slice(alloc, &SchemeName::ALL)?),
+        None => Items::new(Vec::from_slice(alloc, &SchemeName::DEFAULT)?),
     };
     let recovery = match value.get(Key::Recovery.word()) {
         Some(name) => read_recovery(name)?,

@@ -18,11 +18,13 @@ pub enum SchemeName {
     Racke,
     /// `smore`: rates adapted on the fixed paths of `racke`.
     Smore,
+    /// `valiant`: even parts by way of every node.
+    Valiant,
 }
 
 impl SchemeName {
-    /// Every scheme, in the order in which a report without a list of schemes has them.
-    pub const ALL: [SchemeName; 6] = [
+    /// What a plan without a list of schemes compares, in this order.
+    pub const DEFAULT: [SchemeName; 6] = [
         SchemeName::Spf,
         SchemeName::Ecmp,
         SchemeName::Ksp,
@@ -43,6 +45,7 @@ impl SchemeName {
             SchemeName::Mcf => "mcf",
             SchemeName::Racke => "racke",
             SchemeName::Smore => "smore",
+            SchemeName::Valiant => "valiant",
         }
     }
 
@@ -62,6 +65,8 @@ impl SchemeName {
             Some(SchemeName::Racke)
         } else if text == "smore" {
             Some(SchemeName::Smore)
+        } else if text == "valiant" {
+            Some(SchemeName::Valiant)
         } else {
             None
         }
@@ -72,7 +77,11 @@ impl SchemeName {
         ensures { result ≡ is_oblivious self }
     {
         match self {
-            SchemeName::Spf | SchemeName::Ecmp | SchemeName::Ksp | SchemeName::Racke => true,
+            SchemeName::Spf
+            | SchemeName::Ecmp
+            | SchemeName::Ksp
+            | SchemeName::Racke
+            | SchemeName::Valiant => true,
             SchemeName::Mcf | SchemeName::Smore => false,
         }
     }

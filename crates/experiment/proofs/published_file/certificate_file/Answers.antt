@@ -1,5 +1,5 @@
 use Rattle.std.proofs.Common.{refl}
-use Rattle.plan.specs.declared.scheme_name.SchemeName.TheVariants.{Spf, Ecmp, Ksp, Racke}
+use Rattle.plan.specs.declared.scheme_name.SchemeName.TheVariants.{Spf, Ecmp, Ksp, Racke, Valiant}
 use Rattle.te_model.specs.Network.{node_count}
 use Rattle.series_simulation.proofs.SeriesLemmas.{series_pairs}
 use Rattle.experiment.proofs.ByName.{file_by_name}
@@ -53,3 +53,15 @@ pub returns-in-Racke-clause-published : goal.returns-in-Racke-clause-published
 returns-in-Racke-clause-published c =
     file_by_name Racke c.args.plan.now c.args.network.now c.args.series.now c.in_ok-set.set (λ p. p.routing.routes) (λ p. refl) c.in-Racke.is c.in_ok-set.ensures
     (λ file. file.items) c.scheme_file-in-Racke.result c.scheme_file-in-Racke.ensures.file
+
+pub scheme_file-requires-in-Valiant-clause-pairs : goal.scheme_file-requires-in-Valiant-clause-pairs
+scheme_file-requires-in-Valiant-clause-pairs c = series_pairs c.args.network.now c.args.series.now c.requires.network c.requires.series
+
+pub scheme_file-requires-in-Valiant-clause-set : goal.scheme_file-requires-in-Valiant-clause-set
+scheme_file-requires-in-Valiant-clause-set c =
+    rw c.in_ok-set.ensures (set_within (node_count c.args.network.now) c.args.plan.now c.args.series.now c.requires.plan c.requires.series)
+
+pub returns-in-Valiant-clause-published : goal.returns-in-Valiant-clause-published
+returns-in-Valiant-clause-published c =
+    file_by_name Valiant c.args.plan.now c.args.network.now c.args.series.now c.in_ok-set.set (λ p. p.routing.routes) (λ p. refl) c.in-Valiant.is
+    c.in_ok-set.ensures (λ file. file.items) c.scheme_file-in-Valiant.result c.scheme_file-in-Valiant.ensures.file

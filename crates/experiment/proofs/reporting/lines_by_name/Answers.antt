@@ -1,4 +1,4 @@
-use Rattle.plan.specs.declared.scheme_name.SchemeName.TheVariants.{Spf, Ecmp, Ksp, Mcf, Racke, Smore}
+use Rattle.plan.specs.declared.scheme_name.SchemeName.TheVariants.{Spf, Ecmp, Ksp, Mcf, Racke, Smore, Valiant}
 use Rattle.experiment.proofs.ByName.{lines_by_word}
 use Rattle.experiment.proofs.reporting.lines_by_name.Goals as goal
 
@@ -31,3 +31,8 @@ pub returns-in-Smore : goal.returns-in-Smore
 returns-in-Smore c =
     lines_by_word c.args.name Smore c.args.plan.now c.args.network.now c.args.series.now c.args.failures.now c.word-word.result.now c.in-Smore.is
     c.word-word.ensures.word (λ text. text.items) c.lines_of-in-Smore.result c.lines_of-in-Smore.ensures
+
+pub returns-in-Valiant : goal.returns-in-Valiant
+returns-in-Valiant c =
+    lines_by_word c.args.name Valiant c.args.plan.now c.args.network.now c.args.series.now c.args.failures.now c.word-word.result.now c.in-Valiant.is
+    c.word-word.ensures.word (λ text. text.items) c.lines_of-in-Valiant.result c.lines_of-in-Valiant.ensures

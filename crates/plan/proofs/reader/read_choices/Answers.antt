@@ -7,7 +7,7 @@ use Rattle.plan.specs.declared.recovery.Recovery.TheVariants as recovery
 use Rattle.plan.specs.declared.scheme_name.SchemeName.TheVariants as scheme
 use Rattle.plan.specs.Words.{key_word}
 use Rattle.plan.specs.Values.{schemes_of, recovery_of, publish_of, margin_of}
-use Rattle.plan.specs.Plan.{optional, some_of, all_schemes, choices_of}
+use Rattle.plan.specs.Plan.{optional, some_of, default_schemes, choices_of}
 use Rattle.plan.proofs.PlanLemmas.{there, absent}
 use Rattle.plan.proofs.reader.read_choices.Goals as goal
 use Rattle.plan.proofs.reader.read_choices.Goals.{in-Some+in_ok-schemes-in-Some, in-None+in_ok-from_slice-in-None}
@@ -20,10 +20,10 @@ unfolding choices_of
 returns-clause-choices c =
     let d = view c.args.value.now in
     let margin_read = λ (v : Data). some_of (margin_of v) in
-    let schemes : optional all_schemes schemes_of (get (key_word key.Schemes) d) ≡ Ok c.match-get.schemes =
+    let schemes : optional default_schemes schemes_of (get (key_word key.Schemes) d) ≡ Ok c.match-get.schemes =
     elim c.match-get.branch [
-      | in-Some+in_ok-schemes-in-Some w ↦ rw w.schemes-is (there all_schemes schemes_of c.word.result.now _ d _ _ c.word.ensures w.in-Some.ensures w.in_ok-schemes-in-Some.ensures.schemes)
-      | in-None+in_ok-from_slice-in-None w ↦ rw (w.schemes-is, w.new-schemes.ensures, w.in_ok-from_slice-in-None.ensures.items) (absent all_schemes schemes_of c.word.result.now _ d c.word.ensures w.in-None.ensures)
+      | in-Some+in_ok-schemes-in-Some w ↦ rw w.schemes-is (there default_schemes schemes_of c.word.result.now _ d _ _ c.word.ensures w.in-Some.ensures w.in_ok-schemes-in-Some.ensures.schemes)
+      | in-None+in_ok-from_slice-in-None w ↦ rw (w.schemes-is, w.new-schemes.ensures, w.in_ok-from_slice-in-None.ensures.items) (absent default_schemes schemes_of c.word.result.now _ d c.word.ensures w.in-None.ensures)
     ] in
     let recovers : optional recovery.Keep recovery_of (get (key_word key.Recovery) d) ≡ Ok c.match-get-2.recovery =
     elim c.match-get-2.branch [
