@@ -12,13 +12,13 @@ use Rattle.block_reader.specs.declared.stream_fault.StreamFault.TheVariants as f
 use Rattle.block_reader.specs.Blocks.{HasRead, IsReaderOf, IsTextOf, IsFaultOf, name_of, lent_block, last_link, noted_fault}
 use Rattle.ratio_checker.specs.declared.feed.Feed.{Feed}
 use Rattle.ratio_checker.specs.Feeds.{StandsFor, head_of_feed, next_link}
-use Rattle.te_command.specs.declared.answer.Fault.{Fault}
-use Rattle.te_command.specs.declared.answer.Fault.TheVariants.{Refused, Read, Memory}
+use Rattle.command_frame.specs.declared.answer.Fault.{Fault}
+use Rattle.command_frame.specs.declared.answer.Fault.TheVariants.{Refused, Read, Memory}
 use Rattle.te_command.specs.CertificateFile.{certificates, shape_reason, rule_reason}
 use Rattle.te_ports.specs.Shown.{Shown}
-use Rattle.te_command.specs.Outcome.{KeepsDepot, ReadsFile}
+use Rattle.command_frame.specs.Outcome.{KeepsDepot, ReadsFile}
 use Rattle.te_command.specs.Blocks.{IsFed, IsFedWhole, ReadsOn, IsAnswerTo, FeedsFile, link_after}
-use Rattle.te_command.proofs.Following.{both}
+use Rattle.command_frame.proofs.Following.{both}
 
 follows_after : (before : Option ℕ) (link : ℕ) → IsTrue (follows before link) → link_after before ≤ link
 follows_after None link is = omega arith

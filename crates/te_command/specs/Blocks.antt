@@ -10,12 +10,12 @@ use Rattle.block_reader.specs.declared.stream_fault.StreamFault.TheVariants as f
 use Rattle.block_reader.specs.Blocks.{HasRead, IsFaultOf, IsTextOf, last_link}
 use Rattle.ratio_checker.specs.declared.feed.Feed.{Feed}
 use Rattle.ratio_checker.specs.Feeds.{StandsFor, next_link}
-use Rattle.te_command.specs.declared.answer.Fault.{Fault}
-use Rattle.te_command.specs.declared.answer.Fault.TheVariants.{Read, Memory}
-use Rattle.te_command.specs.Reading.{too_long}
+use Rattle.command_frame.specs.declared.answer.Fault.{Fault}
+use Rattle.command_frame.specs.declared.answer.Fault.TheVariants.{Read, Memory}
+use Rattle.command_frame.specs.Reading.{too_long}
 use Rattle.te_command.specs.CertificateFile.{certificates, shape_reason, rule_reason}
 use Rattle.te_ports.specs.Shown.{Shown}
-use Rattle.te_command.specs.Outcome.{KeepsDepot, ReadsFile, IsRefusal}
+use Rattle.command_frame.specs.Outcome.{KeepsDepot, ReadsFile, IsRefusal}
 
 -- the least link that may follow this one
 abbrev pub link_after : Option ℕ → ℕ

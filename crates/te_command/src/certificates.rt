@@ -4,10 +4,9 @@ ghost use Rattle.te_ports.specs.Record.{pass};
 ghost use Rattle.te_command.specs.Blocks.{FeedsFile, IsFedWhole, IsAnswerTo, ReadsOn};
 ghost use Rattle.te_ports.specs.Shown.{shown_by};
 
-use crate::answer::Fault;
-use crate::files::{refuse, too_long};
-use crate::refusal::Refusal;
+use crate::reasons::CertificateReason;
 use block_reader::{BlockReader, StreamFault};
+use command_frame::{Fault, refuse, too_long};
 use ratio_checker::Feed;
 use std::alloc::Global;
 use te_ports::Depot;
@@ -18,8 +17,8 @@ fn answer_to(alloc: Global, file: &str, fault: StreamFault) -> Fault
 {
     match fault {
         StreamFault::TooLong => too_long(alloc, file),
-        StreamFault::Shape(line) => refuse(alloc, file, Refusal::Shape(line)),
-        StreamFault::Rule(rule) => refuse(alloc, file, Refusal::Rule(rule)),
+        StreamFault::Shape(line) => refuse(alloc, file, &CertificateReason::Shape(line)),
+        StreamFault::Rule(rule) => refuse(alloc, file, &CertificateReason::Rule(rule)),
         StreamFault::Failed => Fault::Read,
         StreamFault::Memory => Fault::Memory,
     }
