@@ -1,24 +1,30 @@
--- What holds of the words of the arguments.
+-- The clauses of `run` for the words of the arguments.
 use Rattle.std.proofs.Common.{◌≡◌, ◌⊎◌, ℕ, List, [], map, drop, inl, subst, string_bytes, Result, IfOk, IfErr}
 use Rattle.std.proofs.lemmas.Result.{IfOk-weaker, IfErr-weaker}
 use Rattle.std.specs.declared.string.String.{String}
 use Rattle.std.specs.declared.alloc.Global.{Global}
+use Rattle.te_ports.specs.Shown.{Shown}
+use Rattle.command_frame.specs.Table.{TableOf}
+use Rattle.command_frame.specs.Run.{Change}
+use Rattle.command_frame.specs.Clauses.{RunOf, HasNoMemoryForWords}
 
 abbrev Strings : Type 0
 Strings = List (String Global)
 
-of_equal : (Runs : List (List ℕ) → Type 0) (given words : Strings) → given ≡ words → Runs (map string_bytes given) → Runs (map string_bytes words)
-of_equal Runs given words same runs = subst (λ (strings : Strings). Runs (map string_bytes strings)) same runs
+run_of_equal : {Command : Type 0} (table : TableOf Command) (given words : Strings) (old new : Shown) (result : ℕ) (out err : Change) → given ≡ words →
+    RunOf table (map string_bytes given) old new result out err → RunOf table (map string_bytes words) old new result out err
+run_of_equal table given words old new result out err same runs = subst (λ (strings : Strings). RunOf table (map string_bytes strings) old new result out err) same runs
 
 -- the words are those after the first argument
-pub of_given : {A E : Type 0} (args : Result A E) (strings : A → Strings) (words : Strings) (Runs : List (List ℕ) → Type 0) (Short : Type 0) →
-    IfOk args (λ given. words ≡ drop 1 (strings given)) → Runs (map string_bytes words) →
-    IfOk args (λ given. Runs (map string_bytes (drop 1 (strings given))) ⊎ Short)
-of_given args strings words Runs Short are runs =
-    IfOk-weaker args _ _ (λ given same. inl (of_equal Runs words (drop 1 (strings given)) same runs)) are
+pub run_of_given : {A E Command : Type 0} (table : TableOf Command) (args : Result A E) (strings : A → Strings) (words : Strings) (old new : Shown) (result : ℕ) (out err : Change) →
+    IfOk args (λ given. words ≡ drop 1 (strings given)) → RunOf table (map string_bytes words) old new result out err →
+    IfOk args (λ given. RunOf table (map string_bytes (drop 1 (strings given))) old new result out err ⊎ HasNoMemoryForWords old new result out err)
+run_of_given table args strings words old new result out err are runs =
+    IfOk-weaker args _ _ (λ given same. inl (run_of_equal table words (drop 1 (strings given)) old new result out err same runs)) are
 
 -- there are none, where the arguments are no text
-pub of_none : {A E : Type 0} (args : Result A E) (P : E → Type 0) (words : Strings) (Runs : List (List ℕ) → Type 0) →
-    IfErr args (λ fault. P fault → words ≡ []) → Runs (map string_bytes words) → IfErr args (λ fault. P fault → Runs [])
-of_none args P words Runs are runs =
-    IfErr-weaker args _ _ (λ fault none is. of_equal Runs words [] (none is) runs) are
+pub run_of_none : {A E Command : Type 0} (table : TableOf Command) (args : Result A E) (P : E → Type 0) (words : Strings) (old new : Shown) (result : ℕ) (out err : Change) →
+    IfErr args (λ fault. P fault → words ≡ []) → RunOf table (map string_bytes words) old new result out err →
+    IfErr args (λ fault. P fault → RunOf table [] old new result out err)
+run_of_none table args P words old new result out err are runs =
+    IfErr-weaker args _ _ (λ fault none is. run_of_equal table words [] old new result out err (none is) runs) are

@@ -1,17 +1,18 @@
 -- How the answer of a command comes from the reading of one file and the rest.
-use Rattle.std.proofs.Common.{◌≡◌, ◌≤◌, ℕ, List, [], length, Result, Ok, Err, inl, inr, refl, sym, ◌∙◌, subst, arith}
-use Rattle.std.specs.Prelude.{IfOk, IfErr}
+use Rattle.std.proofs.Common.{◌≡◌, ◌≤◌, ℕ, List, [], length, Option, Some, None, Result, Ok, Err, inl, inr, refl, sym, ◌∙◌, subst, arith}
+use Rattle.std.specs.Prelude.{IfOk, IfErr, IfSome, IsSomeAnd}
 use Rattle.te_ports.specs.Ports.{Rose}
 use Rattle.te_ports.specs.Record.{Read as FileRead, pass, nothing, IsRead}
 use Rattle.te_ports.proofs.Giving.{adds_none, adds_then}
 use Rattle.command_frame.specs.declared.answer.Answer.{Answer}
 use Rattle.command_frame.specs.declared.answer.Fault.{Fault}
 use Rattle.command_frame.specs.declared.answer.Fault.TheVariants.{Refused, Read, Memory}
+use Rattle.command_frame.specs.declared.kind.BytesFault.TheVariants as bytes_fault
 use Rattle.command_frame.specs.Files.{Passes, given_passes}
 use Rattle.command_frame.specs.Reading.{Kind, Answers, Reading, answers, reads, GivesIn, MeansAfter, ReadFailedAfter}
 use Rattle.command_frame.specs.Order.{ReadsAlong}
 use Rattle.te_ports.specs.Shown.{Shown}
-use Rattle.command_frame.specs.Outcome.{KeepsDepot, ReadsBytesOf, ReadsFile, Meant, OnRead, Follows, status_of, answer_text}
+use Rattle.command_frame.specs.Outcome.{KeepsDepot, ReadsBytes, IsRefusal, ReadsBytesOf, ReadsFile, Meant, OnRead, Follows, status_of, answer_text}
 
 -- a file gives a value, and what follows is meant, or failed, after it
 pub meant_on : (A : Type 0) (kind : Kind A) (file : List ℕ) (next : A → Reading) (value : A) (passes : Passes) (before now : List FileRead)
@@ -105,3 +106,16 @@ pub ends_or_falls_short : (a : Answers) (s : Shown) (result : Result Answer Faul
     IfErr result (λ fault. fault ≡ Memory) → Follows (answers a) s s result
 ends_or_falls_short a s (Ok answer) is short = ends a s answer is
 ends_or_falls_short a s (Err fault) is short = subst (λ f. Follows (answers a) s s (Err f)) (sym short) (falls_short (answers a) s)
+
+-- the bytes of a file are refused in the words that the refusal shows, and the line says so
+pub refused_bytes : {A R : Type 0} (shown : R → Option (List ℕ)) (kind : Kind A) (file bytes : List ℕ) (refusal : R) (fault : Fault) →
+    ReadsBytes {A = A} shown kind bytes (Err (bytes_fault.Refused refusal)) → IfSome (shown refusal) (λ words. IsRefusal file words fault) →
+    ReadsBytesOf kind file bytes (Err fault)
+refused_bytes {A = A} shown kind file bytes refusal fault refused says = go (shown refusal) fault refused says
+  where
+    go : (o : Option (List ℕ)) (f : Fault) → IsSomeAnd o (λ words. kind.gives bytes (Err words)) → IfSome o (λ words. IsRefusal file words f) →
+        ReadsBytesOf kind file bytes (Err f)
+    go None f none says = absurd none
+    go (Some words) (Refused line) gives is = (words, gives, is)
+    go (Some words) Read gives none = absurd none
+    go (Some words) Memory gives is = tt

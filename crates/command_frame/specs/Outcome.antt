@@ -1,5 +1,5 @@
 -- What the functions of the program answer of the files that they read.
-use Rattle.std.specs.Prelude.{◌≡◌, ◌≢◌, ◌≤◌, ◌⊎◌, ℕ, ◌↔◌, List, Bool, IsTrue, string_bytes, Option, Some, None, Result, Ok, Err}
+use Rattle.std.specs.Prelude.{◌≡◌, ◌≢◌, ◌≤◌, ◌⊎◌, ℕ, List, string_bytes, IsSomeAnd, Option, Some, None, Result, Ok, Err}
 use Rattle.std.specs.Io.KnownBytes.{append_known}
 use Rattle.te_ports.specs.Ports.{Rose, AppendsPart}
 use Rattle.te_ports.specs.Record.{Read as FileRead, Adds, Pass, pass, IsBegun, IsReadInPart}
@@ -75,8 +75,7 @@ OnRead (Err Memory) P = Unit {0}
 -- the bytes give the value, or are refused in the words that the refusal shows
 abbrev pub ReadsBytes : {A R : Type 0} → (R → Option (List ℕ)) → Kind A → List ℕ → Result A (BytesFault R) → Type 0
 ReadsBytes shown kind bytes (Ok value) = kind.gives bytes (Ok value)
-ReadsBytes shown kind bytes (Err (bytes_fault.Refused refusal)) =
-    (words : List ℕ) × (shown refusal ≡ Some words) × kind.gives bytes (Err words)
+ReadsBytes shown kind bytes (Err (bytes_fault.Refused refusal)) = IsSomeAnd (shown refusal) (λ words. kind.gives bytes (Err words))
 ReadsBytes shown kind bytes (Err bytes_fault.Memory) = Unit {0}
 
 -- the line refuses the file in these words, where there is memory for it
@@ -122,6 +121,6 @@ pub record Follows (reading : Reading) (old new : Shown) (result : Result Answer
 
 -- the answer of the command of the words, or these are no form of one and nothing is read
 abbrev pub AnswersWords : {Command : Type 0} → TableOf Command → List (List ℕ) → Shown → Shown → Option (Result Answer Fault) → Type 0
-AnswersWords table words old new None = (table.command_of words ≡ None) × (new ≡ old)
+AnswersWords {Command} table words old new None = (table.command_of words ≡ None) × (new ≡ old)
 AnswersWords {Command} table words old new (Some result) =
     (command : Command) × (table.command_of words ≡ Some command) × Follows (reading_in table command) old new result

@@ -1,5 +1,5 @@
 //! Reading a file of any kind: the value that it gives, or the line that refuses it.
-ghost use Rattle.std.specs.Prelude.{◌≡◌, ◌≤◌, ℕ, List, Some, length, IfOk};
+ghost use Rattle.std.specs.Prelude.{◌≤◌, length, IfOk, IfSome};
 ghost use Rattle.command_frame.specs.Reading.{too_long};
 ghost use Rattle.te_ports.specs.Shown.{shown_by};
 ghost use Rattle.command_frame.specs.Outcome.{IsRefusal, ReadsBytesOf, ReadsFile};
@@ -35,8 +35,8 @@ pub fn too_long(alloc: Global, file: &str) -> Fault
 }
 
 /// The fault of a file whose bytes are refused, in the words that the refusal shows.
-pub fn refuse<R: Display>(alloc: Global, file: &str, refusal: &R) -> Fault
-    ensures { (words : List ℕ) → R.output refusal.now ≡ Some words → IsRefusal file.now words result }
+pub fn refuse<R: Display + Copy>(alloc: Global, file: &str, refusal: R) -> Fault
+    ensures { IfSome (R.output refusal) (λ words. IsRefusal file.now words result) }
 {
     match format!(in alloc; "refused: {file}: {refusal}\n") {
         Ok(line) => Fault::Refused(line),
@@ -58,7 +58,7 @@ fn value_of<K: FileKind>(
 {
     match kind.read(alloc, bytes) {
         Ok(value) => Ok(value),
-        Err(BytesFault::Refused(refusal)) => Err(refuse(alloc, file, &refusal)),
+        Err(BytesFault::Refused(refusal)) => Err(refuse(alloc, file, refusal)),
         Err(BytesFault::Memory) => Err(Fault::Memory),
     }
 }

@@ -22,7 +22,7 @@ pub trait FileKind {
     type Value;
 
     /// Why one is refused. It shows as the words after the file's name.
-    type Refusal: Display;
+    type Refusal: Display + Copy;
 
     /// What it is read against may be used.
     ghost is_ready: { Self → Type 0 };

@@ -17,8 +17,8 @@ fn answer_to(alloc: Global, file: &str, fault: StreamFault) -> Fault
 {
     match fault {
         StreamFault::TooLong => too_long(alloc, file),
-        StreamFault::Shape(line) => refuse(alloc, file, &CertificateReason::Shape(line)),
-        StreamFault::Rule(rule) => refuse(alloc, file, &CertificateReason::Rule(rule)),
+        StreamFault::Shape(line) => refuse(alloc, file, CertificateReason::Shape(line)),
+        StreamFault::Rule(rule) => refuse(alloc, file, CertificateReason::Rule(rule)),
         StreamFault::Failed => Fault::Read,
         StreamFault::Memory => Fault::Memory,
     }
