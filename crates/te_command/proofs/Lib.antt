@@ -1,5 +1,6 @@
 pub mod Plans
 pub mod Verdict
+pub mod Streaming
 pub mod Feeding
 pub mod Regular
 pub mod PlanFiles

@@ -53,3 +53,12 @@ FeedsFile file old new (Ok feed) =
     (head : Head) × (blocks : List Block) × StandsFor feed head blocks
     × ReadsFile certificates file old new (Ok (record { head = head; blocks = blocks }))
 FeedsFile file old new (Err fault) = ReadsFile certificates file old new (Err fault)
+
+-- this is the head of a certificate whose text is all that reads gave
+abbrev pub IsHeadOf : Pass → Head → Type 0
+IsHeadOf gave head = (blocks : List Block) × IsTextOf gave head blocks
+
+-- it is the head of the certificate that the file gives, or the file is refused or not read
+abbrev pub HeadsFile : List ℕ → Shown → Shown → Result Head Fault → Type 0
+HeadsFile file old new (Ok head) = (blocks : List Block) × ReadsFile certificates file old new (Ok (record { head = head; blocks = blocks }))
+HeadsFile file old new (Err fault) = ReadsFile certificates file old new (Err fault)

@@ -1,12 +1,9 @@
 //! The kinds of files that the commands read.
-ghost use Rattle.std.specs.Prelude.{◌≡◌, ◌≤◌, ◌^◌, ℕ, List, length, IfOk, IsTrue};
+ghost use Rattle.std.specs.Prelude.{◌≤◌, IsTrue};
 ghost use Rattle.te_model.specs.Network.{is_well_formed, link_count, node_count};
 ghost use Rattle.te_model.specs.Validity.{IsValid};
 ghost use Rattle.traffic_matrix.specs.Limits.{IsSeries};
 ghost use Rattle.plan.specs.Plan.{InRange};
-ghost use Rattle.te_ports.specs.Limit.{IsLimit};
-ghost use Rattle.command_frame.specs.Reading.{Kind};
-ghost use Rattle.command_frame.specs.Outcome.{ReadsBytes};
 
 use crate::reasons::{CertificateReason, FailureReason, MatrixReason, PlanReason, TopologyReason};
 use cert_text::CertFault;
