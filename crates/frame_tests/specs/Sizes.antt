@@ -32,10 +32,10 @@ command_of [] = None
 command_of (word ∷ []) = None
 command_of (word ∷ file ∷ []) = if bytes_eq word (codes "tally") then Some (tally file) else None
 command_of (word ∷ first ∷ second ∷ []) = if bytes_eq word (codes "same") then Some (same first second) else None
-command_of (word ∷ first ∷ as ∷ second ∷ []) = if bytes_eq word (codes "is") && bytes_eq as (codes "as") then Some (same first second) else None
-command_of (word ∷ first ∷ how ∷ as ∷ second ∷ []) =
-    if bytes_eq word (codes "is") && (bytes_eq how (codes "exactly") && bytes_eq as (codes "as")) then Some (same first second) else None
-command_of (word ∷ first ∷ how ∷ as ∷ second ∷ more ∷ words) = None
+command_of (word ∷ first ∷ join ∷ second ∷ []) = if bytes_eq word (codes "is") && bytes_eq join (codes "as") then Some (same first second) else None
+command_of (word ∷ first ∷ how ∷ join ∷ second ∷ []) =
+    if bytes_eq word (codes "is") && (bytes_eq how (codes "exactly") && bytes_eq join (codes "as")) then Some (same first second) else None
+command_of (word ∷ first ∷ how ∷ join ∷ second ∷ more ∷ words) = None
 
 abbrev pub entry_of : Command → Entry
 entry_of (tally file) = record {

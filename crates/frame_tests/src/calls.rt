@@ -31,7 +31,7 @@ fn leaves(alloc: Global, words: &[&str], status: u8, out: &str, err: &str) -> Re
 }
 
 #[test]
-fn forms_of_two_to_five_words(rt: TestRuntime) -> Result<(), Fail> {
+fn forms_of_two_to_five_words(rt: HostRuntime) -> Result<(), Fail> {
     let alloc = rt.alloc();
     assert!(rt; leaves(alloc, &["tally", "a"], 0, "3\n", "")?);
     assert!(rt; leaves(alloc, &["same", "a", "b"], 0, "same\n", "")?);
@@ -41,7 +41,7 @@ fn forms_of_two_to_five_words(rt: TestRuntime) -> Result<(), Fail> {
 }
 
 #[test]
-fn faults_have_their_statuses(rt: TestRuntime) -> Result<(), Fail> {
+fn faults_have_their_statuses(rt: HostRuntime) -> Result<(), Fail> {
     let alloc = rt.alloc();
     assert!(rt; leaves(alloc, &["tally"], 2, "", "usage\n")?);
     assert!(rt; leaves(alloc, &["tally", "d"], 3, "", "refused: d: rule W1 at 0\n")?);
