@@ -1,5 +1,5 @@
 -- What `run` promises of an answer and of a refusal.
-use Rattle.std.proofs.Common.{◌≡◌, ◌≢◌, ℕ, List, [], inl, Option, Some, ap, ◌∙◌, subst, arith}
+use Rattle.std.proofs.Common.{◌≡◌, ◌≢◌, ℕ, List, [], inl, Option, Some, subst, arith}
 use Rattle.te_ports.specs.Ports.{Rose}
 use Rattle.te_ports.specs.Record.{Adds}
 use Rattle.command_frame.specs.declared.answer.Answer.{Answer}

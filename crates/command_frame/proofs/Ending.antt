@@ -1,11 +1,10 @@
 -- What holds of each command's answers, and of the kinds of its files, holds of what files mean.
 use Rattle.std.proofs.Common.{◌≡◌, ◌≢◌, ◌≤◌, ◌<◌, ◌⊎◌, ℕ, List, length, Option, Some, Result, Ok, Err, inl, inr, refl, sym, ap, ◌∙◌, subst, arith}
 use Rattle.std.proofs.lemmas.Bool.{cases_lt}
-use Rattle.te_ports.specs.Limit.{IsLimit}
 use Rattle.te_ports.specs.Record.{Read, Pass, pass}
 use Rattle.command_frame.specs.Files.{Passes, told_passes}
 use Rattle.command_frame.specs.Sound.{AtEnd, IsRegular, AreRegular, IsSound, HasText, HasOneText}
-use Rattle.command_frame.specs.Reading.{Kind, Answers, Reading, answers, reads, GivesIn, RefusedIn, MeansAfter, MeansStatusAfter, ProvesAfter, IsTold, refused_line, too_long}
+use Rattle.command_frame.specs.Reading.{Kind, Reading, answers, reads, GivesIn, RefusedIn, MeansAfter, MeansStatusAfter, ProvesAfter, IsTold, refused_line, too_long}
 
 -- what the text at status 0 proves
 pub proved : (Form : ℕ → List ℕ → Type 0) (r : Reading) (passes : Passes) (before : List Read) (text : List ℕ) → AtEnd r (IsSound Form) →

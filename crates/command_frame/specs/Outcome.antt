@@ -2,7 +2,7 @@
 use Rattle.std.specs.Prelude.{◌≡◌, ◌≢◌, ◌≤◌, ◌⊎◌, ℕ, List, string_bytes, IsSomeAnd, Option, Some, None, Result, Ok, Err}
 use Rattle.std.specs.Io.KnownBytes.{append_known}
 use Rattle.te_ports.specs.Ports.{Rose, AppendsPart}
-use Rattle.te_ports.specs.Record.{Read as FileRead, Adds, Pass, pass, IsBegun, IsReadInPart}
+use Rattle.te_ports.specs.Record.{Adds, Pass, pass, IsBegun, IsReadInPart}
 use Rattle.te_ports.specs.Shown.{Shown}
 use Rattle.command_frame.specs.declared.answer.Answer.{Answer}
 use Rattle.command_frame.specs.declared.answer.Answer.TheVariants.{Done, No, NoPath}
@@ -11,7 +11,7 @@ use Rattle.command_frame.specs.declared.answer.Fault.TheVariants.{Refused, Read,
 use Rattle.command_frame.specs.declared.kind.BytesFault.{BytesFault}
 use Rattle.command_frame.specs.declared.kind.BytesFault.TheVariants as bytes_fault
 use Rattle.command_frame.specs.Files.{Passes, span, given_passes, given_files}
-use Rattle.command_frame.specs.Reading.{Kind, Answers, Reading, answers, refused_line, GivesIn, RefusedIn, Means, ReadFailed}
+use Rattle.command_frame.specs.Reading.{Kind, Reading, answers, refused_line, GivesIn, RefusedIn, Means, ReadFailed}
 use Rattle.command_frame.specs.Order.{ReadsAlong}
 use Rattle.command_frame.specs.Table.{TableOf, reading_in}
 use Rattle.command_frame.specs.Run.{Change, Says, message}

@@ -1,6 +1,5 @@
 -- A table of commands: the words that ask for each, and what each reads and answers.
-use Rattle.std.specs.Prelude.{◌≡◌, ℕ, List, Option, Some, None, Result}
-use Rattle.te_ports.specs.Shown.{Shown}
+use Rattle.std.specs.Prelude.{◌≡◌, ℕ, List, Option, Some}
 use Rattle.command_frame.specs.Reading.{Reading, IsTold}
 use Rattle.command_frame.specs.Sound.{AtEnd, AreRegular, IsSound, HasText, HasOneText}
 

@@ -1,7 +1,7 @@
 -- The table of the test commands is sound.
 use Rattle.std.proofs.Common.{◌≡◌, ◌⊎◌, ◌≤◌, ◌<◌, ℕ, List, ◌∷◌, [], ◌++◌, codes, inl, inr, refl, sym, ◌∙◌, arith}
 use Rattle.std.proofs.lemmas.Bool.{cases_lt}
-use Rattle.command_frame.specs.Sound.{IsRegular, IsSound, HasText, HasOneText}
+use Rattle.command_frame.specs.Sound.{IsRegular, IsSound, HasText}
 use Rattle.command_frame.specs.Table.{IsSoundEntry, IsSoundTable}
 use Rattle.frame_tests.specs.SizeFile.{sizes, size_of, size_limits}
 use Rattle.frame_tests.specs.Sizes.{Command, tally, same, tally_of, sameness_of, entry_of, commands}

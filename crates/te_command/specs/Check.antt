@@ -7,7 +7,7 @@ use Rattle.te_model.specs.declared.demand.DemandSet.TheVariants.{All, Margin, Bo
 use Rattle.te_model.specs.declared.network.Network.{Network}
 use Rattle.te_model.specs.Inequalities.{LinkFailure, first_failure, Holds}
 use Rattle.te_model.specs.Ratio.{IsObliviousRatio}
-use Rattle.command_frame.specs.Reading.{Answers, Reading, answers, reads}
+use Rattle.command_frame.specs.Reading.{Answers, answers, reads}
 use Rattle.command_frame.specs.Table.{Entry}
 use Rattle.te_command.specs.CertificateFile.{certificates}
 use Rattle.te_command.specs.TopologyFile.{topologies}
