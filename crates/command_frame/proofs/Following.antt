@@ -1,5 +1,8 @@
 -- How the answer of a command comes from the reading of one file and the rest.
-use Rattle.std.proofs.Common.{◌≡◌, ◌≤◌, ℕ, List, [], length, Option, Some, None, Result, Ok, Err, inl, inr, refl, sym, ◌∙◌, subst, arith}
+use Rattle.std.proofs.Common.{◌≡◌, ◌≤◌, ℕ, List, [], ◌∷◌, codes, string_bytes, length, Option, Some, None, Result, Ok, Err, inl, inr, refl, sym, ◌∙◌, subst, arith}
+use Rattle.std.specs.Fmt.{◌++?◌}
+use Rattle.std.specs.declared.string.String.{String}
+use Rattle.std.specs.declared.alloc.Global.{Global}
 use Rattle.std.specs.Prelude.{IfOk, IfErr, IfSome, IsSomeAnd}
 use Rattle.te_ports.specs.Ports.{Rose}
 use Rattle.te_ports.specs.Record.{Read as FileRead, pass, nothing, IsRead}
@@ -119,3 +122,14 @@ refused_bytes {A = A} shown kind file bytes refusal fault refused says = go (sho
     go (Some words) (Refused line) gives is = (words, gives, is)
     go (Some words) Read gives none = absurd none
     go (Some words) Memory gives is = tt
+
+-- the line is that of the words that the refusal shows, or memory is short for it
+pub refusal_shown : (shown : Option (List ℕ)) (file : List ℕ) (line : String Global) →
+    IfSome (Some (codes "refused: ") ++? Some file ++? Some (codes ": ") ++? shown ++? Some (10 ∷ [])) (λ bytes. string_bytes line ≡ bytes) →
+    IfSome shown (λ words. IsRefusal file words (Refused line))
+refusal_shown None file line is = tt
+refusal_shown (Some words) file line is = is
+
+pub memory_shown : (shown : Option (List ℕ)) (file : List ℕ) → IfSome shown (λ words. IsRefusal file words Memory)
+memory_shown None file = tt
+memory_shown (Some words) file = tt
