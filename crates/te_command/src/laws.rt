@@ -10,7 +10,6 @@ ghost use Rattle.te_command.specs.Run.{OfToldCommand};
 ghost use Rattle.te_command.specs.Converted.{AreConverted, SayYesAlike};
 
 use crate::words::Commands;
-use command_frame::laws;
 
 /// The told files of a command mean one status, those of the command of some words a text, and those of a command of a certificate no
 /// other one.
@@ -26,7 +25,7 @@ pub fn told_files_mean_one_answer()
     ensures one_text { (command : Command) → (content : List ℕ → Option (List ℕ)) → (s : ℕ) → (t : ℕ) → (a : List ℕ) → (b : List ℕ) →
         IsOfCertificate command → Means (reading_of command) (told_files content) s a → Means (reading_of command) (told_files content) t b → a ≡ b }
 {
-    laws::told_files_mean_one_answer(&Commands)
+    command_frame::laws::told_files_mean_one_answer(&Commands)
 }
 
 /// What the told files of a command mean at status 0 proves what its text says.
@@ -34,7 +33,7 @@ pub fn told_yes_is_a_proof()
     ensures { (command : Command) → (content : List ℕ → Option (List ℕ)) → (text : List ℕ) →
         Means (reading_of command) (told_files content) 0 text → Proves (reading_of command) (told_files content) text }
 {
-    laws::told_yes_is_a_proof(&Commands)
+    command_frame::laws::told_yes_is_a_proof(&Commands)
 }
 
 /// `check` says of the file that `convert` made what it says of the one that was converted: no by the same inequality, or yes
@@ -56,7 +55,7 @@ pub fn told_files_are_read()
         IsTold (reading_of command) content → (status : ℕ) → (text : List ℕ) →
         Means (reading_of command) (given_files made) status text → Means (reading_of command) (told_files content) status text }
 {
-    laws::told_files_are_read(&Commands)
+    command_frame::laws::told_files_are_read(&Commands)
 }
 
 /// And what told files mean is what some reads of them give, so that there are reads that give each meaning.
@@ -65,7 +64,7 @@ pub fn told_files_can_be_read()
         Means (reading_of command) (told_files content) status text → (before : List Read) →
         (now : List Read) × Adds content before now × Means (reading_of command) (given_files (span before now)) status text }
 {
-    laws::told_files_can_be_read(&Commands)
+    command_frame::laws::told_files_can_be_read(&Commands)
 }
 
 /// Of any reads, a file that is told and gives a value is never the one that is refused.
@@ -74,7 +73,7 @@ pub fn accepted_files_are_not_refused()
         (text : List ℕ) → Means (reading_of command) (given_files made) 3 text →
         RefusesUntold (reading_of command) (given_files made) content text }
 {
-    laws::accepted_files_are_not_refused(&Commands)
+    command_frame::laws::accepted_files_are_not_refused(&Commands)
 }
 
 /// Of any reads, a failed read of `check` is one of a file that its words name, even where the certificate is untold.
@@ -97,7 +96,7 @@ pub fn next_read_is_one()
         (one : Read) → (other : Read) → ReadsAlong (reading_of command) before (before ++ front ++ one ∷ rest) →
         ReadsAlong (reading_of command) start (start ++ front ++ other ∷ last) → (one.name ≡ other.name) × (one.at ≡ other.at) }
 {
-    laws::next_read_is_one(&Commands)
+    command_frame::laws::next_read_is_one(&Commands)
 }
 
 /// What the reads of a call mean does not depend on the reads before it: what is proved of one depot holds of each other one that gave the
@@ -111,5 +110,5 @@ pub fn reads_mean_one_answer()
     ensures one_text { (command : Command) → (made : Span) → (s : ℕ) → (t : ℕ) → (a : List ℕ) → (b : List ℕ) → IsOfCertificate command →
         Means (reading_of command) (given_files made) s a → Means (reading_of command) (given_files made) t b → a ≡ b }
 {
-    laws::reads_mean_one_answer(&Commands)
+    command_frame::laws::reads_mean_one_answer(&Commands)
 }
