@@ -1,5 +1,5 @@
 //! The test commands, and their table.
-ghost use Rattle.std.specs.Prelude.{◌≡◌, IfOk, map, string_bytes};
+ghost use Rattle.std.specs.Prelude.{◌≡◌, [], ◌∷◌, IfOk, map, string_bytes};
 ghost use Rattle.std.specs.Option.{option_map};
 ghost use Rattle.te_ports.specs.Shown.{shown_by};
 ghost use Rattle.command_frame.specs.Outcome.{Follows, status_of, answer_text};
@@ -107,16 +107,78 @@ fn command_of(words: &[String]) -> Option<Command<'_>>
     ensures { option_map command_meant result ≡ command_of (map string_bytes words.now) }
 {
     match words {
-        [word, file] if word == "tally" => Some(Command::Tally(file.as_str())),
-        [word, first, second] if word == "same" => {
-            Some(Command::Same(first.as_str(), second.as_str()))
+        [word, file] => command_with_one(word.as_str(), file.as_str()),
+        [word, first, second] => command_with_two(word.as_str(), first.as_str(), second.as_str()),
+        [word, first, join, second] => {
+            command_with_three(
+                word.as_str(),
+                first.as_str(),
+                join.as_str(),
+                second.as_str(),
+            )
         }
-        [word, first, join, second] if word == "is" && join == "as" => {
-            Some(Command::Same(first.as_str(), second.as_str()))
-        }
-        [word, first, how, join, second] if word == "is" && how == "exactly" && join == "as" => {
-            Some(Command::Same(first.as_str(), second.as_str()))
-        }
+        [word, first, how, join, second] => command_with_four(
+            word.as_str(),
+            first.as_str(),
+            how.as_str(),
+            join.as_str(),
+            second.as_str(),
+        ),
         _ => None,
+    }
+}
+
+// The command of a word and one more.
+fn command_with_one<'a>(word: &str, file: &'a str) -> Option<Command<'a>>
+    ensures { option_map command_meant result ≡ command_of (word.now ∷ file.now ∷ []) }
+{
+    if word == "tally" {
+        Some(Command::Tally(file))
+    } else {
+        None
+    }
+}
+
+// The command of a word and two more.
+fn command_with_two<'a>(word: &str, first: &'a str, second: &'a str) -> Option<Command<'a>>
+    ensures { option_map command_meant result ≡ command_of (word.now ∷ first.now ∷ second.now ∷ []) }
+{
+    if word == "same" {
+        Some(Command::Same(first, second))
+    } else {
+        None
+    }
+}
+
+// The command of a word and three more.
+fn command_with_three<'a>(
+    word: &str,
+    first: &'a str,
+    join: &str,
+    second: &'a str,
+) -> Option<Command<'a>>
+    ensures { option_map command_meant result ≡ command_of (word.now ∷ first.now ∷ join.now ∷ second.now ∷ []) }
+{
+    if word == "is" && join == "as" {
+        Some(Command::Same(first, second))
+    } else {
+        None
+    }
+}
+
+// The command of a word and four more.
+fn command_with_four<'a>(
+    word: &str,
+    first: &'a str,
+    how: &str,
+    join: &str,
+    second: &'a str,
+) -> Option<Command<'a>>
+    ensures { option_map command_meant result ≡ command_of (word.now ∷ first.now ∷ how.now ∷ join.now ∷ second.now ∷ []) }
+{
+    if word == "is" && how == "exactly" && join == "as" {
+        Some(Command::Same(first, second))
+    } else {
+        None
     }
 }
