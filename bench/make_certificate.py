@@ -48,52 +48,56 @@ def distances(nodes, weights, src):
     return best
 
 
-def main():
-    draw = random.Random(int(sys.argv[2]) if len(sys.argv) > 2 else 1)
-    format_number = int(sys.argv[3]) if len(sys.argv) > 3 else 1
-    nodes = NODES_OF_FORMAT[format_number]
+def write(out, draw, format_number, nodes):
+    """Writes a certificate of this format, which holds, for a network of so many nodes and eight links for each of them."""
+    line = lambda *words: print(*words, file=out)
     capacities = [draw.randint(1, 100) * 1000 for _ in range(nodes * STEPS)]
     weights = [draw.randint(2**20, 2**28) for _ in capacities]
     potential = [distances(nodes, weights, v) for v in range(nodes)]
     pairs = [(s, t) for s in range(nodes) for t in range(nodes) if s != t]
     shares = [[0] * len(pairs) for _ in capacities]
+    line("yates-ratio", format_number)
+    line("nodes", nodes)
+    for v in range(nodes):
+        line(f"n{v}")
+    line("links", len(capacities))
+    for v in range(nodes):
+        for step in range(1, STEPS + 1):
+            line(v, (v + step) % nodes, capacities[link(nodes, v, step)], draw.randint(1, 10))
+    line("pairs", len(pairs))
+    for p, (s, t) in enumerate(pairs):
+        paths = paths_of(draw, nodes, s, t)
+        line(s, t, len(paths))
+        for k, links in enumerate(paths):
+            weight = UNIT // len(paths) + (UNIT % len(paths) if k == 0 else 0)
+            line(weight, len(links), *links)
+            for h in links:
+                shares[h][p] += weight
+    line("set margin 2 1" if format_number == 1 else "set box")
+    for bound in ("base",) if format_number == 1 else ("lower", "upper"):
+        line(bound, *[0] * len(pairs))
+    weighted = sum(c * w for c, w in zip(capacities, weights))
+    b = 4096
+    line("ratio", max(-(-UNIT * weighted // (b * c)) for c in capacities))
+    line("blocks", len(capacities))
+    rows = [" ".join(map(str, [v] + potential[v])) for v in range(nodes)]
+    for e in range(len(capacities)):
+        line(e, UNIT, b, nodes)
+        line(*weights)
+        for row in rows:
+            line(row)
+        want = [-(-b * share // UNIT) - potential[s][t] for share, (s, t) in zip(shares[e], pairs)]
+        added = [draw.getrandbits(34) for _ in want]
+        line("plus", *[max(x, 0) + k for x, k in zip(want, added)])
+        line("minus", *[max(-x, 0) + k for x, k in zip(want, added)])
+    line("end")
+
+
+def main():
+    draw = random.Random(int(sys.argv[2]) if len(sys.argv) > 2 else 1)
+    format_number = int(sys.argv[3]) if len(sys.argv) > 3 else 1
     with open(sys.argv[1], "w") as out:
-        line = lambda *words: print(*words, file=out)
-        line("yates-ratio", format_number)
-        line("nodes", nodes)
-        for v in range(nodes):
-            line(f"n{v}")
-        line("links", len(capacities))
-        for v in range(nodes):
-            for step in range(1, STEPS + 1):
-                line(v, (v + step) % nodes, capacities[link(nodes, v, step)], draw.randint(1, 10))
-        line("pairs", len(pairs))
-        for p, (s, t) in enumerate(pairs):
-            paths = paths_of(draw, nodes, s, t)
-            line(s, t, len(paths))
-            for k, links in enumerate(paths):
-                weight = UNIT // len(paths) + (UNIT % len(paths) if k == 0 else 0)
-                line(weight, len(links), *links)
-                for h in links:
-                    shares[h][p] += weight
-        line("set margin 2 1" if format_number == 1 else "set box")
-        for bound in ("base",) if format_number == 1 else ("lower", "upper"):
-            line(bound, *[0] * len(pairs))
-        weighted = sum(c * w for c, w in zip(capacities, weights))
-        b = 4096
-        line("ratio", max(-(-UNIT * weighted // (b * c)) for c in capacities))
-        line("blocks", len(capacities))
-        rows = [" ".join(map(str, [v] + potential[v])) for v in range(nodes)]
-        for e in range(len(capacities)):
-            line(e, UNIT, b, nodes)
-            line(*weights)
-            for row in rows:
-                line(row)
-            want = [-(-b * share // UNIT) - potential[s][t] for share, (s, t) in zip(shares[e], pairs)]
-            added = [draw.getrandbits(34) for _ in want]
-            line("plus", *[max(x, 0) + k for x, k in zip(want, added)])
-            line("minus", *[max(-x, 0) + k for x, k in zip(want, added)])
-        line("end")
+        write(out, draw, format_number, NODES_OF_FORMAT[format_number])
 
 
 if __name__ == "__main__":

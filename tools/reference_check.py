@@ -1,10 +1,14 @@
 #!/usr/bin/env python3
-"""The answer of `yates check CERT`, worked out by a program of its own, for comparison with the proved one.
+"""The answer of `yates check`, worked out by a program of its own, for comparison with the proved one.
 
-usage: reference_check.py FILE      prints what `yates check FILE` has to print, and ends with its status
+usage: reference_check.py CERT                        prints what `yates check CERT` has to print, and ends with its status
+       reference_check.py CERT TOPOLOGY               the same of `yates check CERT TOPOLOGY`
+       reference_check.py --set CERT [TOPOLOGY]       says below a yes what the set holds, and the bounds of each pair
 
 It follows docs/FORMATS.md (grammar, rules, texts) and docs/DEFINITIONS.md (the four inequalities), and shares no code
-with the crates. It is slow and plain on purpose.
+with the crates. It is slow and plain on purpose. The bounds of a pair are those of its demand, up to one factor that all
+demands have in common, with `-` where there is none. CERT alone needs no other file than this one; a topology and --set
+need those of lab/ too.
 """
 import re
 import sys
@@ -22,6 +26,10 @@ FORMATS = {
 
 class ShapeFault(Exception):
     """The number of the first line that leaves the grammar."""
+
+
+class Refused(Exception):
+    """What is written to standard error in place of an answer, and the status."""
 
 
 class Lines:
@@ -77,9 +85,8 @@ class Lines:
         return self.numbers(self.tokens(), count)
 
 
-def read(data):
-    """The certificate that the bytes spell, whatever the rules say of it."""
-    lines = Lines(data)
+def read_head(lines):
+    """What stands before the ratio: the network, the routing and the set."""
     first = lines.take()
     cert = {"format": next((number for number, limits in FORMATS.items() if limits[0] == first), None)}
     if cert["format"] is None:
@@ -95,46 +102,57 @@ def read(data):
     links = lines.count(b"links", 1, most_links)
     cert["links"] = [lines.row(4) for _ in range(links)]
     pairs = lines.count(b"pairs", 0, most_pairs)
-    cert["pairs"] = []
-    for _ in range(pairs):
-        src, dst, count = lines.row(3)
-        if not 1 <= count <= most_paths:
-            raise lines.fault()
-        paths = []
-        for _ in range(count):
-            row = lines.row(None)
-            if len(row) < 2 or not 1 <= row[1] <= most_hops or len(row) != 2 + row[1]:
-                raise lines.fault()
-            paths.append((row[0], row[2:]))
-        cert["pairs"].append((src, dst, paths))
-    tokens = lines.tokens()
-    if tokens == [b"set", b"all"]:
-        cert["set"] = None
-    elif cert["format"] == 1 and tokens[:2] == [b"set", b"margin"]:
-        num, den = lines.numbers(tokens[2:], 2)
-        cert["set"] = ("margin", num, den, lines.worded(b"base", pairs))
-    elif cert["format"] == 2 and tokens == [b"set", b"box"]:
-        cert["set"] = ("box", lines.worded(b"lower", pairs), lines.worded(b"upper", pairs))
-    else:
+    cert["pairs"] = [read_pair(lines, most_paths, most_hops) for _ in range(pairs)]
+    cert["set"] = read_set(lines, cert)
+    return cert
+
+
+def read_pair(lines, most_paths, most_hops):
+    src, dst, count = lines.row(3)
+    if not 1 <= count <= most_paths:
         raise lines.fault()
-    cert["ratio"] = lines.worded(b"ratio", 1)[0]
-    blocks = lines.count(b"blocks", 0, most_links)
-    cert["blocks"] = []
-    for _ in range(blocks):
-        link, a, b, rows = lines.row(4)
-        if rows > most_nodes:
+    paths = []
+    for _ in range(count):
+        row = lines.row(None)
+        if len(row) < 2 or not 1 <= row[1] <= most_hops or len(row) != 2 + row[1]:
             raise lines.fault()
-        block = {"link": link, "a": a, "b": b, "weights": lines.row(links)}
-        block["rows"] = []
-        for _ in range(rows):
-            row = lines.row(nodes + 1)
-            block["rows"].append((row[0], row[1:]))
-        if cert["set"]:
-            block["plus"] = lines.worded(b"plus", pairs)
-            block["minus"] = lines.worded(b"minus", pairs)
-        else:
-            block["plus"] = block["minus"] = []
-        cert["blocks"].append(block)
+        paths.append((row[0], row[2:]))
+    return src, dst, paths
+
+
+def read_set(lines, cert):
+    tokens, pairs = lines.tokens(), len(cert["pairs"])
+    if tokens == [b"set", b"all"]:
+        return None
+    if cert["format"] == 1 and tokens[:2] == [b"set", b"margin"]:
+        num, den = lines.numbers(tokens[2:], 2)
+        return "margin", num, den, lines.worded(b"base", pairs)
+    if cert["format"] == 2 and tokens == [b"set", b"box"]:
+        return "box", lines.worded(b"lower", pairs), lines.worded(b"upper", pairs)
+    raise lines.fault()
+
+
+def read_block(lines, cert):
+    nodes, links, pairs = len(cert["names"]), len(cert["links"]), len(cert["pairs"])
+    link, a, b, rows = lines.row(4)
+    if rows > FORMATS[cert["format"]][1]:
+        raise lines.fault()
+    block = {"link": link, "a": a, "b": b, "weights": lines.row(links), "rows": []}
+    for _ in range(rows):
+        row = lines.row(nodes + 1)
+        block["rows"].append((row[0], row[1:]))
+    block["plus"] = lines.worded(b"plus", pairs) if cert["set"] else []
+    block["minus"] = lines.worded(b"minus", pairs) if cert["set"] else []
+    return block
+
+
+def read(data):
+    """The certificate that the bytes spell, whatever the rules say of it."""
+    lines = Lines(data)
+    cert = read_head(lines)
+    cert["ratio"] = lines.worded(b"ratio", 1)[0]
+    blocks = lines.count(b"blocks", 0, FORMATS[cert["format"]][2])
+    cert["blocks"] = [read_block(lines, cert) for _ in range(blocks)]
     if lines.take() != b"end":
         raise lines.fault()
     lines.end()
@@ -151,47 +169,57 @@ def is_path(cert, src, dst, path):
     return node == dst and len(set(visited)) == len(visited)
 
 
+def head_rules(cert):
+    """Rules V1 to V7, each with its places and whether it holds there."""
+    names, links, pairs = cert["names"], cert["links"], cert["pairs"]
+    n = len(names)
+    for v, name in enumerate(names):
+        yield 1, v, name not in names[:v]
+    for h, (tail, head, capacity, cost) in enumerate(links):
+        yield 2, h, tail < n and head < n and tail != head and 1 <= capacity <= 2**32 and 1 <= cost <= 65535
+    for p, (src, dst, _) in enumerate(pairs):
+        yield 3, p, src < n and dst < n and src != dst and (p == 0 or pairs[p - 1][:2] < (src, dst))
+    for p, (src, dst, paths) in enumerate(pairs):
+        yield 4, p, all(is_path(cert, src, dst, path) for _, path in paths)
+    for p, (_, _, paths) in enumerate(pairs):
+        yield 5, p, all(a[1] < b[1] for a, b in zip(paths, paths[1:]))
+    for p, (_, _, paths) in enumerate(pairs):
+        yield 6, p, all(w >= 1 for w, _ in paths) and sum(w for w, _ in paths) == SHARE_UNIT
+    if cert["set"] and cert["set"][0] == "margin":
+        _, num, den, base = cert["set"]
+        yield 7, 0, 1 <= num <= 1000 and 1 <= den <= 1000 and num >= den
+        for p, demand in enumerate(base):
+            yield 7, 1 + p, demand <= 2**32
+    if cert["set"] and cert["set"][0] == "box":
+        for p, (low, high) in enumerate(zip(*cert["set"][1:])):
+            yield 7, 1 + p, low <= high <= 2**52
+
+
+def block_rules(cert):
+    """Rules V8 and V9, in the same way."""
+    n, m, blocks = len(cert["names"]), len(cert["links"]), cert["blocks"]
+    yield 8, 0, cert["ratio"] < 10**19
+    for k, b in enumerate(blocks):
+        above = k == 0 or blocks[k - 1]["link"] < b["link"]
+        yield 8, 1 + k, b["link"] < m and above and b["a"] <= 2**36 and 1 <= b["b"] <= 2**36
+    for k, b in enumerate(blocks):
+        sources = [source for source, _ in b["rows"]]
+        yield 9, k, (
+            all(w <= 2**28 for w in b["weights"])
+            and all(source < n for source in sources)
+            and all(x < y for x, y in zip(sources, sources[1:]))
+            and all(d <= 2**36 for _, row in b["rows"] for d in row)
+            and all(x <= 2**36 for x in b["plus"] + b["minus"])
+        )
+
+
+def first_fault(rules):
+    return next(((rule, place) for rule, place, holds in rules if not holds), None)
+
+
 def first_rule(cert):
     """The failing rule of the least number, at its least place."""
-    names, links, pairs, blocks = cert["names"], cert["links"], cert["pairs"], cert["blocks"]
-    n, m = len(names), len(links)
-
-    def rules():
-        for v, name in enumerate(names):
-            yield 1, v, name not in names[:v]
-        for h, (tail, head, capacity, cost) in enumerate(links):
-            yield 2, h, tail < n and head < n and tail != head and 1 <= capacity <= 2**32 and 1 <= cost <= 65535
-        for p, (src, dst, _) in enumerate(pairs):
-            yield 3, p, src < n and dst < n and src != dst and (p == 0 or pairs[p - 1][:2] < (src, dst))
-        for p, (src, dst, paths) in enumerate(pairs):
-            yield 4, p, all(is_path(cert, src, dst, path) for _, path in paths)
-        for p, (_, _, paths) in enumerate(pairs):
-            yield 5, p, all(a[1] < b[1] for a, b in zip(paths, paths[1:]))
-        for p, (_, _, paths) in enumerate(pairs):
-            yield 6, p, all(w >= 1 for w, _ in paths) and sum(w for w, _ in paths) == SHARE_UNIT
-        if cert["set"] and cert["set"][0] == "margin":
-            _, num, den, base = cert["set"]
-            yield 7, 0, 1 <= num <= 1000 and 1 <= den <= 1000 and num >= den
-            for p, demand in enumerate(base):
-                yield 7, 1 + p, demand <= 2**32
-        if cert["set"] and cert["set"][0] == "box":
-            for p, (low, high) in enumerate(zip(*cert["set"][1:])):
-                yield 7, 1 + p, low <= high <= 2**52
-        yield 8, 0, cert["ratio"] < 10**19
-        for k, b in enumerate(blocks):
-            above = k == 0 or blocks[k - 1]["link"] < b["link"]
-            yield 8, 1 + k, b["link"] < m and above and b["a"] <= 2**36 and 1 <= b["b"] <= 2**36
-        for k, b in enumerate(blocks):
-            sources = [source for source, _ in b["rows"]]
-            yield 9, k, (
-                all(w <= 2**28 for w in b["weights"])
-                and all(source < n for source in sources)
-                and all(x < y for x, y in zip(sources, sources[1:]))
-                and all(d <= 2**36 for _, row in b["rows"] for d in row)
-                and all(x <= 2**36 for x in b["plus"] + b["minus"])
-            )
-
-    return next(((rule, place) for rule, place, holds in rules() if not holds), None)
+    return first_fault(head_rules(cert)) or first_fault(block_rules(cert))
 
 
 def bounds(cert):
@@ -239,39 +267,99 @@ def first_failure(cert):
     return None
 
 
-def check(name, data):
-    """The text that is printed, to standard output or error, and the status."""
-    if len(data) > FORMATS[2 if data.startswith(FORMATS[2][0] + b"\n") else 1][-1]:
-        return "", f"refused: {name}: too long\n", 3
+def limit(data):
+    """How many bytes a certificate may have that begins so."""
+    return FORMATS[2 if data.startswith(FORMATS[2][0] + b"\n") else 1][-1]
+
+
+def judged(cert):
+    """The yes or no line of a certificate that is not refused, and the status."""
+    failed = first_failure(cert)
+    if failed:
+        return "no link %d rule I%d place %d\n" % failed, 1
+    kinds = {"margin": lambda num, den, _: f"margin {num} {den}", "box": lambda *_: "box"}
+    kind = kinds[cert["set"][0]](*cert["set"][1:]) if cert["set"] else "all"
+    return f"yes ratio {cert['ratio']} set {kind}\n", 0
+
+
+def certificate_of(name, data):
+    """The certificate of a file of this name and these bytes that is not refused."""
+    if len(data) > limit(data):
+        raise Refused(f"refused: {name}: too long\n", 3)
     try:
         cert = read(data)
     except ShapeFault as fault:
-        return "", f"refused: {name}: shape at line {fault}\n", 3
+        raise Refused(f"refused: {name}: shape at line {fault}\n", 3) from fault
     broken = first_rule(cert)
     if broken:
-        return "", f"refused: {name}: rule V{broken[0]} at {broken[1]}\n", 3
-    failed = first_failure(cert)
-    if failed:
-        return "no link %d rule I%d place %d\n" % failed, "", 1
-    kinds = {"margin": lambda num, den, _: f"margin {num} {den}", "box": lambda *_: "box"}
-    kind = kinds[cert["set"][0]](*cert["set"][1:]) if cert["set"] else "all"
-    return f"yes ratio {cert['ratio']} set {kind}\n", "", 0
+        raise Refused(f"refused: {name}: rule V{broken[0]} at {broken[1]}\n", 3)
+    return cert
 
 
-def main():
-    if len(sys.argv) != 2:
-        print(__doc__.split("\n\n")[1], file=sys.stderr)
-        return 2
-    name = sys.argv[1]
+def is_network_in(name, cert):
+    """Whether the topology of this file has the nodes and links of the certificate, in their order."""
+    from lab.inputs import INPUT_LIMIT, read_topology  # of a certificate alone this file is all that is needed
+
+    data = bytes_of(name)
+    if len(data) > INPUT_LIMIT:
+        raise Refused(f"refused: {name}: too long\n", 3)
+    net, faults = read_topology(data)
+    if faults:
+        raise Refused(f"refused: {name}: {faults[0].reason}\n", 3)
+    return (net.names, [list(link[:4]) for link in net.links]) == (cert["names"], cert["links"])
+
+
+def set_text(cert):
+    """What the set of a certificate holds, in words, and the bounds of each pair as CSV."""
+    from lab.claim_words import set_lines
+
+    names = [name.decode() for name in cert["names"]]
+    lower, upper = bounds(cert) if cert["set"] else ([0] * len(cert["pairs"]), ["-"] * len(cert["pairs"]))
+    rows = [f"{names[src]},{names[dst]},{low},{high}" for (src, dst, _), low, high in zip(cert["pairs"], lower, upper)]
+    return "".join(f"{line}\n" for line in [*(f"set: {line}" for line in set_lines(cert)), "source,target,lower,upper", *rows])
+
+
+def bytes_of(name):
     try:
         with open(name, "rb") as file:
-            out, err, status = check(name, file.read())
-    except OSError:
-        out, err, status = "", "fault: read\n", 4
+            return file.read()
+    except OSError as error:
+        raise Refused("fault: read\n", 4) from error
+
+
+def check_bytes(name, data):
+    """The texts for standard output and error, and the status, of a certificate of this name and these bytes."""
+    try:
+        line, status = judged(certificate_of(name, data))
+    except Refused as refusal:
+        text, status = refusal.args
+        return "", text, status
+    return line, "", status
+
+
+def check(names, shows_set=False):
+    """The texts for standard output and error, and the status, of a certificate and, if there is one more, a topology."""
+    try:
+        cert = certificate_of(names[0], bytes_of(names[0]))
+        if len(names) == 2 and not is_network_in(names[1], cert):
+            return "no network\n", "", 1
+    except Refused as refusal:
+        text, status = refusal.args
+        return "", text, status
+    line, status = judged(cert)
+    return line + (set_text(cert) if shows_set and status == 0 else ""), "", status
+
+
+def main(words):
+    names = [it for it in words if it != "--set"]
+    if len(names) not in (1, 2) or len(words) - len(names) > 1:
+        print(__doc__.split("\n\n")[1], file=sys.stderr)
+        return 2
+    out, err, status = check(names, shows_set=len(words) > len(names))
     sys.stdout.write(out)
     sys.stderr.write(err)
     return status
 
 
 if __name__ == "__main__":
-    sys.exit(main())
+    sys.exit(main(sys.argv[1:]))

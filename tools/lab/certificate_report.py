@@ -22,17 +22,11 @@ class Report:
         self.line, self.status, self.words, self.is_own = line, status, words, is_own
 
 
-def most_bytes(data):
-    """How long a certificate may be that begins so."""
-    second = reference_check.FORMATS[2]
-    return (second if data.startswith(second[0] + b"\n") else reference_check.FORMATS[1])[-1]
-
-
 def refusal(name, data):
     """The report of a file that is refused, or None; and the certificate where it keeps the grammar."""
     file = f"  file:  {os.path.abspath(name)}"
-    if len(data) > most_bytes(data):
-        words = [file, f"  why:   the file has more than {most_bytes(data)} bytes", "  do:    give the file that publish wrote, which is never too long"]
+    if len(data) > reference_check.limit(data):
+        words = [file, f"  why:   the file has more than {reference_check.limit(data)} bytes", "  do:    give the file that publish wrote, which is never too long"]
         return Report(f"refused: {name}: too long", 3, words), None
     try:
         cert = reference_check.read(data)

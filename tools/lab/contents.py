@@ -25,7 +25,7 @@ FIRST_LINES = [
     (r"from,to,link\Z", "a failure file"),
     (r"scheme,step,offered,", "a report, which run writes and no command reads"),
     (r"step,link,source,target,|source,target,paths,hops,", "a table of tools/links, which no command reads"),
-    (r"fibre,source,target,links\Z", "a list of tools/fibre_cuts, which no command reads"),
+    (r"fibre,source,target,links\Z|step,cut\Z", "a list of tools/fibre_cuts, which no command reads"),
     (r"yes ratio |no link \d|no network\Z", "the answer of check, and not the file that it read"),
     (r"refused: |fault: |no path: ", "a message of the program"),
     (r"<!doctype html|<html", "a page of the web, as where a download leads to a page"),

@@ -16,7 +16,7 @@ case "$1 $2" in
 "version ") echo "rattle-kit-13f logic 0" ;;
 "all check")
     cat "$(dirname "$0")/said"
-    [ -f "$(dirname "$0")/edited" ] && touch src/main.rt
+    [ -f "$(dirname "$0")/edited" ] && echo "// edited" >> src/main.rt
     [ -f "$(dirname "$0")/wait" ] && exec sleep 60; exit "$(cat "$(dirname "$0")/status")" ;;
 "run --")
     mkdir -p out
@@ -131,7 +131,7 @@ def other_words_of_a_kit():
 
 
 def edited_while_it_is_built():
-    """A source that is edited during the build is newer than the program, so the next call builds again."""
+    """A source that is edited during the build is not that of the program, so the next call builds again."""
     with tempfile.TemporaryDirectory() as folder:
         place = Place(folder)
         place.write("../kit/edited", "")
@@ -139,7 +139,7 @@ def edited_while_it_is_built():
         os.remove(os.path.join(place.kit, "edited"))
         _, again, _ = place.launch("check", "c")
         _, then, _ = place.launch("check", "c")
-        return differences(again, r"^yates: crates/yates/src/main\.rt is newer than the program") + [f"a third build: {then!r}"] * (then != "")
+        return differences(again, r"^yates: crates/yates/src/main\.rt is not as it was when the program was built") + [f"a third build: {then!r}"] * (then != "")
 
 
 def failing_build():
@@ -149,15 +149,48 @@ def failing_build():
         return faults + differences(err, r"^yates: not built: a crate was not proved; crates/yates/out/build\.log says why$") + [f"status {status}"] * (status != 70)
 
 
-def newer_sources():
+def changed_sources():
+    """What counts is what the sources say, and not their times."""
     with tempfile.TemporaryDirectory() as folder:
         place = Place(folder)
         place.launch("check", "c")
-        place.touch("crates/bench/src/main.rt", 1)
+        place.write("crates/bench/src/main.rt", "// edited")
         _, beside, _ = place.launch("check", "c")
         place.touch("crates/low/src/lib.rt", 2)
+        _, touched, _ = place.launch("check", "c")
+        faults = [f"a crate that the program does not stand on: {beside!r}"] * (beside != "") + [f"a newer source: {touched!r}"] * (touched != "")
+        place.write("crates/low/src/lib.rt", "// edited")
+        place.touch("crates/low/src/lib.rt", -1_000_000)
         _, below, _ = place.launch("check", "c")
-        return [f"a crate that the program does not stand on: {beside!r}"] * (beside != "") + differences(below, r"^yates: crates/low/src/lib\.rt is newer than the program")
+        faults += differences(below, r"^yates: crates/low/src/lib\.rt is not as it was when the program was built, so", "^yates: proved and built")
+        os.remove(os.path.join(place.top, "crates/low/src/lib.rt"))
+        return faults + differences(place.launch("check", "c")[1], r"^yates: crates/low/src/lib\.rt is not as it was")
+
+
+def copied_repository():
+    """A copy runs what was built: with the times of the files, or with new ones."""
+    faults = []
+    for copy in (shutil.copy2, shutil.copy):
+        with tempfile.TemporaryDirectory() as folder:
+            place = Place(folder)
+            place.launch("check", "c")
+            before, place.top = place.top, os.path.join(folder, "a copy")
+            shutil.copytree(before, place.top, copy_function=copy)
+            got = place.launch("check", "c"), place.launch("check", "c")
+            faults += [f"{got}"] * (got != (("yes\n", "", 0),) * 2)
+    return faults
+
+
+def without_digests():
+    """Of a program that another build made, times say whether a source is newer."""
+    with tempfile.TemporaryDirectory() as folder:
+        place = Place(folder)
+        place.launch("check", "c")
+        os.remove(os.path.join(place.top, "crates/yates/out/sources.sha256"))
+        _, same, _ = place.launch("check", "c")
+        place.touch("crates/low/src/lib.rt", 2)
+        _, newer, _ = place.launch("check", "c")
+        return [f"no source is newer: {same!r}"] * (same != "") + differences(newer, r"^yates: crates/low/src/lib\.rt is newer than the program")
 
 
 def words_of_no_form():
@@ -214,7 +247,9 @@ CASES = [
     ("a build that fails", failing_build),
     ("other words of a kit", other_words_of_a_kit),
     ("an edit during the build", edited_while_it_is_built),
-    ("sources that are newer", newer_sources),
+    ("sources that change", changed_sources),
+    ("a copy of a repository", copied_repository),
+    ("a program without digests", without_digests),
     ("words of no form", words_of_no_form),
     ("an interrupted build", interrupted_build),
     ("no kit", no_kit),

@@ -24,7 +24,7 @@ def loaded(folder):
         with open(name, "wb") as file:
             file.write(data)
     build = types.SimpleNamespace(
-        LOG=log, KIT_RT="/no/such/rt", crates_of_program=lambda: {"yates": ["low", "csv"], "low": []}, newer_source=lambda _: None
+        LOG=log, KIT_RT="/no/such/rt", crates_of_program=lambda: {"yates": ["low", "csv"], "low": []}, change_since=lambda _: None
     )
     tool.loaded = lambda _: build
     tool.program = types.SimpleNamespace(PROGRAM=built, TOP=TOP, is_built=lambda: True)
@@ -50,7 +50,7 @@ def refusals():
         ("another version", lambda tool, build: setattr(tool, "git", None), "CITATION.cff has the version"),
         ("not committed", lambda tool, build: setattr(tool, "git", lambda *_: " M README.md"), "not all is committed: M README.md"),
         ("no program", lambda tool, build: setattr(tool.program, "is_built", lambda: False), "is not built"),
-        ("an old program", lambda tool, build: setattr(build, "newer_source", lambda _: "crates/low/src/lib.rt"), "is newer than the program"),
+        ("an old program", lambda tool, build: setattr(build, "change_since", lambda _: "a source is another"), "a source is another: ./yates builds it again"),
         ("no log", lambda tool, build: os.remove(build.LOG), "there is no log"),
         ("a log of another program", lambda tool, build: open(tool.program.PROGRAM, "ab").write(b"#\n"), "does not say that this program was proved"),
     ]:

@@ -102,7 +102,7 @@ fn count_lines(alloc: Global, bytes: &[u8]) -> Result<usize, TableFault> {
 // Whether as many lines are handed out as stand between the first line and the end.
 fn has_its_lines(alloc: Global, bytes: &[u8]) -> bool {
     let ends = bytes.iter().filter(|b| **b == b'\n').count();
-    matches!(count_lines(alloc, bytes), Ok(count) if count + 2 == ends)
+    matches!(count_lines(alloc, bytes), Ok(count) if ends.checked_sub(2) == Some(count))
 }
 
 // Whether the table is printed as it was read.
