@@ -11,7 +11,7 @@ use Rattle.command_frame.specs.declared.answer.Fault.TheVariants.{Refused, Read,
 use Rattle.command_frame.specs.declared.kind.BytesFault.{BytesFault}
 use Rattle.command_frame.specs.declared.kind.BytesFault.TheVariants as bytes_fault
 use Rattle.command_frame.specs.Files.{Passes, span, given_passes, given_files}
-use Rattle.command_frame.specs.Reading.{Kind, Reading, answers, refused_line, GivesIn, RefusedIn, Means, ReadFailed}
+use Rattle.command_frame.specs.Reading.{Kind, Reading, refused_line, GivesIn, RefusedIn, Means, ReadFailed}
 use Rattle.command_frame.specs.Order.{ReadsAlong}
 use Rattle.command_frame.specs.Table.{TableOf, reading_in}
 use Rattle.command_frame.specs.Run.{Change, Says, message}

@@ -1,9 +1,8 @@
 //! Laws of what the commands of a table mean. A law of the definitions is the contract of a function that does nothing.
-ghost use Rattle.std.specs.Prelude.{◌≡◌, ◌⊎◌, ℕ, List, ◌∷◌, ◌++◌, Option};
-ghost use Rattle.te_ports.specs.Ports.{Rose};
+ghost use Rattle.std.specs.Prelude.{◌≡◌, ℕ, List, ◌∷◌, ◌++◌, Option};
 ghost use Rattle.te_ports.specs.Record.{Read, Adds};
 ghost use Rattle.command_frame.specs.Files.{Span, span, given_files, told_files, known_files};
-ghost use Rattle.command_frame.specs.Reading.{IsTold, Means, MeansStatus, Proves, ReadFailed, RefusesUntold};
+ghost use Rattle.command_frame.specs.Reading.{IsTold, Means, MeansStatus, Proves, RefusesUntold};
 ghost use Rattle.command_frame.specs.Order.{ReadsAlong, AsksNext};
 ghost use Rattle.command_frame.specs.Table.{OfToldWords, reading_in};
 
