@@ -8,7 +8,7 @@ ghost use Rattle.command_frame.specs.declared.answer.Fault.TheVariants.{Memory a
 ghost use Rattle.te_ports.specs.Shown.{shown_by};
 ghost use Rattle.command_frame.specs.Reading.{answers};
 ghost use Rattle.te_command.specs.Report.{report_of};
-ghost use Rattle.te_command.specs.Commands.{with_failures};
+ghost use Rattle.te_command.specs.PlanReading.{with_failures};
 ghost use Rattle.command_frame.specs.Outcome.{Follows, status_of, answer_text};
 
 use crate::inputs::{Inputs, inputs_in, outages_in};
