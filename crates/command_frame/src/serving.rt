@@ -4,6 +4,7 @@ ghost use Rattle.std.specs.IoError.{error_kind};
 ghost use Rattle.std.specs.Vec.Iter.{into_iter_items};
 ghost use Rattle.te_ports.specs.Shown.{shown_by};
 ghost use Rattle.command_frame.specs.Run.{change};
+ghost use Rattle.command_frame.specs.Table.{IsSoundTable};
 ghost use Rattle.command_frame.specs.Clauses.{RunOf, HasNoMemoryForWords};
 
 use crate::answer::Fault;
@@ -54,6 +55,8 @@ pub fn serve<T: Table, D: Depot, O: Sink, E: Sink>(
     out: &mut O,
     err: &mut E,
 ) -> u8
+    requires { IsSoundTable T.table }
+
     // The clauses of `run` hold of the arguments but the first, or memory is short for them.
     ensures words { IfOk args (λ given.
         RunOf T.table (map string_bytes (drop 1 (into_iter_items given)))

@@ -1,7 +1,7 @@
 //! What a program gives of its commands.
 ghost use Rattle.std.specs.Prelude.{map, string_bytes};
 ghost use Rattle.te_ports.specs.Shown.{shown_by};
-ghost use Rattle.command_frame.specs.Table.{TableOf, IsSoundTable};
+ghost use Rattle.command_frame.specs.Table.{TableOf};
 ghost use Rattle.command_frame.specs.Outcome.{AnswersWords};
 
 use crate::answer::{Answer, Fault};
@@ -25,7 +25,4 @@ pub trait Table {
     ) -> Option<Result<Answer, Fault>>
         ensures { AnswersWords table (map string_bytes words.now) (shown_by D.content D.gave D.faults depot.old)
             (shown_by D.content D.gave D.faults depot.new) result };
-
-    /// The files of the commands are read in one way, and their answers are sound.
-    ghost sound: { IsSoundTable table };
 }

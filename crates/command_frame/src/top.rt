@@ -4,7 +4,7 @@ ghost use Rattle.te_ports.specs.Ports.{Rose};
 ghost use Rattle.te_ports.specs.Record.{Adds};
 ghost use Rattle.command_frame.specs.Files.{span, known_files, told_files};
 ghost use Rattle.command_frame.specs.Reading.{Means, MeansStatus, ReadFailed};
-ghost use Rattle.command_frame.specs.Table.{OfWords, OfToldWords, reading_in};
+ghost use Rattle.command_frame.specs.Table.{IsSoundTable, OfWords, OfToldWords, reading_in};
 ghost use Rattle.command_frame.specs.Run.{texts, change, Answered, WritesMeant, SaysMeant, WritesProof, WritesPartMeant, HasForm, ReadsInOrder, IsOrFails, GivesOrMemory, Written, Steady, Later};
 
 use crate::table::Table;
@@ -34,6 +34,9 @@ pub fn run<T: Table, D: Depot, O: Sink, E: Sink>(
     out: &mut O,
     err: &mut E,
 ) -> u8
+    // The files of the commands are read in one way, and their answers are sound.
+    requires { IsSoundTable T.table }
+
     // 2 exactly where the words are no form of a command.
     ensures usage { (result ≡ 2) ↔ (T.table.command_of (texts words.now) ≡ None) }
 

@@ -9,8 +9,8 @@ returns-clause-next g c = λ command before front rest one along.
 
 pub returns-clause-one : goal.returns-clause-one
 returns-clause-one g c = λ command before now name other at place asks again.
-    asks_once (reading_in g.T.Table.table command) before now name other at place (g.met.T.Table.sound.entries command).regular asks again
+    asks_once (reading_in g.T.Table.table command) before now name other at place (c.requires.entries command).regular asks again
 
 pub returns-clause-alike : goal.returns-clause-alike
 returns-clause-alike g c = λ command before start front rest last one other along also.
-    asked_alike (reading_in g.T.Table.table command) before start front rest last one other (g.met.T.Table.sound.entries command).regular along also
+    asked_alike (reading_in g.T.Table.table command) before start front rest last one other (c.requires.entries command).regular along also

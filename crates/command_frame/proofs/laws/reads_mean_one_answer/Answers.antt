@@ -10,8 +10,8 @@ returns-clause-after_others g c = λ command before other reads s text means.
 
 pub returns-clause-one : goal.returns-clause-one
 returns-clause-one g c = λ command made s t a b means also.
-    means_one_status (g.T.Table.table.entry_of command).may_answer (reading_in g.T.Table.table command) made.before made.now s t a b (g.met.T.Table.sound.entries command).regular (g.met.T.Table.sound.entries command).sound means also
+    means_one_status (g.T.Table.table.entry_of command).may_answer (reading_in g.T.Table.table command) made.before made.now s t a b (c.requires.entries command).regular (c.requires.entries command).sound means also
 
 pub returns-clause-one_text : goal.returns-clause-one_text
 returns-clause-one_text g c = λ command made s t a b one means also.
-    means_one_text (reading_in g.T.Table.table command) made.before made.now s t a b (g.met.T.Table.sound.entries command).regular ((g.met.T.Table.sound.entries command).one_text one) means also
+    means_one_text (reading_in g.T.Table.table command) made.before made.now s t a b (c.requires.entries command).regular ((c.requires.entries command).one_text one) means also
