@@ -6,12 +6,12 @@ use Rattle.te_model.specs.Upgrade.{box_of, upgraded_certificate}
 use Rattle.te_model.proofs.Upgrading.{failures_kept}
 use Rattle.cert_text.proofs.Laws.{one_spelling}
 use Rattle.text_size.proofs.ValidSizes.{fits_file}
-use Rattle.te_command.specs.Files.{told_files}
-use Rattle.te_command.specs.Reading.{Means}
+use Rattle.command_frame.specs.Files.{told_files}
+use Rattle.command_frame.specs.Reading.{Means}
 use Rattle.te_command.specs.Check.{IsVerdict, yes_line}
 use Rattle.te_command.specs.Commands.{check, convert, reading_of}
 use Rattle.te_command.specs.Converted.{SayYesAlike}
-use Rattle.te_command.proofs.Ending.{some_once}
+use Rattle.command_frame.proofs.Ending.{some_once}
 use Rattle.te_command.proofs.Converting.{spells_upgraded}
 
 no_kept : (c : Certificate) (line : List ℕ) → IsVerdict c 1 line → IsVerdict (upgraded_certificate c) 1 line

@@ -7,9 +7,10 @@ use Rattle.te_model.specs.Text.{Spells, text as text_of}
 use Rattle.te_model.specs.Upgrade.{box_of, upgraded_certificate}
 use Rattle.te_model.proofs.UpgradeValid.{valid_kept}
 use Rattle.text_size.proofs.ValidSizes.{fits_file}
-use Rattle.te_command.specs.Convert.{conversion_of}
-use Rattle.te_command.specs.Form.{IsConverted}
-use Rattle.te_command.proofs.Ending.{IsSound, HasOneText, HasText}
+use Rattle.command_frame.specs.Table.{IsSoundEntry}
+use Rattle.te_command.specs.Convert.{conversion_of, IsConverted, convert_entry}
+use Rattle.te_command.proofs.Regular.{certificates_regular}
+use Rattle.command_frame.specs.Sound.{IsSound, HasOneText, HasText}
 
 box_once : (set : DemandSet) → box_of (box_of set) ≡ box_of set
 box_once All = refl
@@ -41,7 +42,7 @@ is_converted c bytes file spells is =
       answer = λ name. inr (upgraded_certificate c, [], (file, refl, fits, spelled), ((refl, is ∙ ap text_of (sym (upgraded_once c))), tt));
     }
 
-pub conversion_sound : (bytes : List ℕ) (c : Certificate) → Spells bytes c → IsSound (λ s file. (s ≡ 0) × IsConverted file) (conversion_of c)
+conversion_sound : (bytes : List ℕ) (c : Certificate) → Spells bytes c → IsSound (λ s file. (s ≡ 0) × IsConverted file) (conversion_of c)
 conversion_sound bytes c spells = record {
   once = λ s t p q. p ∙ sym q;
   some = (0, refl);
@@ -51,8 +52,16 @@ conversion_sound bytes c spells = record {
   accepted = λ file is. omega (arith, is.0);
 }
 
-pub conversion_text : (c : Certificate) → HasText (conversion_of c)
+conversion_text : (c : Certificate) → HasText (conversion_of c)
 conversion_text c = (0, text_of (upgraded_certificate c), (refl, refl))
 
-pub conversion_once : (c : Certificate) → HasOneText (conversion_of c)
+conversion_once : (c : Certificate) → HasOneText (conversion_of c)
 conversion_once c = λ s t x y p q. p.1 ∙ sym q.1
+
+pub convert_is_sound : (file : List ℕ) → IsSoundEntry (convert_entry file)
+convert_is_sound file = record {
+  regular = (certificates_regular, λ c. tt);
+  sound = λ bytes c spells. conversion_sound bytes c spells;
+  one_text = λ is bytes c spells. conversion_once c;
+  some_text = λ is bytes c spells. conversion_text c;
+}

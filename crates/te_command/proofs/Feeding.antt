@@ -12,21 +12,17 @@ use Rattle.block_reader.specs.declared.stream_fault.StreamFault.TheVariants as f
 use Rattle.block_reader.specs.Blocks.{HasRead, IsReaderOf, IsTextOf, IsFaultOf, name_of, lent_block, last_link, noted_fault}
 use Rattle.ratio_checker.specs.declared.feed.Feed.{Feed}
 use Rattle.ratio_checker.specs.Feeds.{StandsFor, head_of_feed, next_link}
-use Rattle.te_command.specs.declared.answer.Fault.{Fault}
-use Rattle.te_command.specs.declared.answer.Fault.TheVariants.{Refused, Read, Memory}
+use Rattle.command_frame.specs.declared.answer.Fault.{Fault}
+use Rattle.command_frame.specs.declared.answer.Fault.TheVariants.{Refused, Read, Memory}
 use Rattle.te_command.specs.CertificateFile.{certificates, shape_reason, rule_reason}
 use Rattle.te_ports.specs.Shown.{Shown}
-use Rattle.te_command.specs.Outcome.{KeepsDepot, ReadsFile}
+use Rattle.command_frame.specs.Outcome.{KeepsDepot, ReadsFile}
 use Rattle.te_command.specs.Blocks.{IsFed, IsFedWhole, ReadsOn, IsAnswerTo, FeedsFile, link_after}
-use Rattle.te_command.proofs.Following.{both}
+use Rattle.te_command.proofs.Streaming.{HasReadSoFar, after_more, after_on, after_whole, after_stops, text_file}
 
 follows_after : (before : Option ℕ) (link : ℕ) → IsTrue (follows before link) → link_after before ≤ link
 follows_after None link is = omega arith
 follows_after (Some before) link is = search (rules, tests)
-
--- what is answered is no failed read
-pub ok_read : {A : Type 0} (x : A) → ◌≡◌ {A = Result A StreamFault} (Ok x) (Err faults.Failed) → ⊥
-ok_read x e = cc
 
 -- so far no read failed, and the feed was given what was read
 pub record StandsFed (file : List ℕ) (old new : Shown) (reader : BlockReader) (feed : Feed) : Type 0 where
@@ -44,6 +40,11 @@ fed_valid file old mid reader next feed block s valid same =
     subst (λ h. IsValidBlock h block) (sym s.fed.fed.same)
     (subst (λ b. IsValidBlock s.head b) (sym same) (valid s.head s.fed.read.stands.of_head))
 
+-- and the reader stands after it
+read_so_far : (file : List ℕ) (old new : Shown) (reader : BlockReader) (feed : Feed) (s : StandsFed file old new reader feed) →
+    HasReadSoFar file old new reader s.head s.blocks
+read_so_far file old new reader feed s = record { read = s.fed.read; named = s.named; steady = s.steady; may = s.may }
+
 -- the same after one block more
 pub fed_more : (file : List ℕ) (old mid new : Shown) (reader next : BlockReader) (feed more : Feed) (block : Block) →
     StandsFed file old mid reader feed →
@@ -52,19 +53,20 @@ pub fed_more : (file : List ℕ) (old mid new : Shown) (reader next : BlockReade
     ((head : Head) (blocks : List Block) → StandsFor feed head blocks → StandsFor more head (blocks ++ block ∷ [])) →
     block ≡ lent_block next → last_link next ≡ Some (lent_block next).link → next_link more ≡ block.link + 1 →
     name_of next ≡ name_of reader → new.faults ≡ mid.faults → KeepsDepot mid new → StandsFed file old new next more
-fed_more file old mid new reader next feed more block s handed given same last follows named steady may = record {
-  head = s.head;
-  blocks = s.blocks ++ lent_block next ∷ [];
-  fed = record {
-    read = subst (λ f. HasRead (pass f old.gave new.gave) next s.head (s.blocks ++ lent_block next ∷ [])) s.named
-        (handed old.gave s.head s.blocks (subst (λ f. HasRead (pass f old.gave mid.gave) reader s.head s.blocks) (sym s.named) s.fed.read));
-    fed = subst (λ b. StandsFor more s.head (s.blocks ++ b ∷ [])) same (given s.head s.blocks s.fed.fed);
-    next = follows ∙ ap (λ b. b.link + 1) same ∙ sym (ap link_after last);
-  };
-  named = named ∙ s.named;
-  steady = steady ∙ s.steady;
-  may = both old mid new s.may may;
-}
+fed_more file old mid new reader next feed more block s handed given same last follows named steady may =
+    let on = after_more file old mid new reader next s.head s.blocks (read_so_far file old mid reader feed s) handed named steady may in
+    record {
+      head = s.head;
+      blocks = s.blocks ++ lent_block next ∷ [];
+      fed = record {
+        read = on.read;
+        fed = subst (λ b. StandsFor more s.head (s.blocks ++ b ∷ [])) same (given s.head s.blocks s.fed.fed);
+        next = follows ∙ ap (λ b. b.link + 1) same ∙ sym (ap link_after last);
+      };
+      named = on.named;
+      steady = on.steady;
+      may = on.may;
+    }
 
 -- the block is above those before it
 pub may_follow : (reader next : BlockReader) (feed : Feed) (block : Block) → next_link feed ≡ link_after (last_link reader) → block ≡ lent_block next →
@@ -75,20 +77,10 @@ may_follow reader next feed block at same above =
 -- the file was read to its end
 pub fed_on : (file : List ℕ) (old mid new : Shown) (reader : BlockReader) (feed : Feed) → StandsFed file old mid reader feed →
     new.faults ≡ mid.faults → KeepsDepot mid new → ReadsOn {A = Feed} file old new (Ok feed)
-fed_on file old mid new reader feed s steady may = record {
-  refused = λ fault is. absurd (cc);
-  failed = λ is. absurd (cc);
-  steady = λ other. steady ∙ s.steady;
-  may = both old mid new s.may may;
-}
+fed_on file old mid new reader feed s steady may =
+    after_on feed file old mid new reader s.head s.blocks (read_so_far file old mid reader feed s) steady may
 
 -- or reading of it stopped
-none_or_failed : (o : Option StreamFault) → o ≡ None → o ≡ Some faults.Failed → ⊥
-none_or_failed o none failed = cc
-
-same_fault : {A B : Type 0} (f t : StreamFault) → ◌≡◌ {A = Result A StreamFault} (Err f) (Err t) → ◌≡◌ {A = Result B StreamFault} (Err f) (Err t)
-same_fault f t is = let same : f ≡ t = cc in ap (λ x. Err x) same
-
 pub fed_stops : {A B : Type 0} (file : List ℕ) (old mid new : Shown) (reader : BlockReader) (feed : Feed) (fault : StreamFault) →
     StandsFed file old mid reader feed →
     ((before : List FileRead) (head : Head) (blocks : List Block) → HasRead (pass (name_of reader) before mid.gave) reader head blocks →
@@ -96,51 +88,21 @@ pub fed_stops : {A B : Type 0} (file : List ℕ) (old mid new : Shown) (reader :
     (◌≡◌ {A = Result A StreamFault} (Err fault) (Err faults.Failed) → (noted_fault reader ≡ Some faults.Failed) ⊎ Rose (mid.faults (name_of reader)) (new.faults (name_of reader))) →
     ((◌≡◌ {A = Result A StreamFault} (Err fault) (Err faults.Failed) → ⊥) → new.faults ≡ mid.faults) → KeepsDepot mid new →
     ReadsOn {A = B} file old new (Err fault)
-fed_stops {A} {B} file old mid new reader feed fault s refused failed steady may = record {
-  refused = λ other is.
-      let same : fault ≡ other = cc in
-      subst (IsFaultOf (pass file old.gave new.gave)) same
-      (subst (λ f. IsFaultOf (pass f old.gave new.gave) fault) s.named
-      (refused old.gave s.head s.blocks (subst (λ f. HasRead (pass f old.gave mid.gave) reader s.head s.blocks) (sym s.named) s.fed.read)));
-  failed = λ is. rose (failed (same_fault {A = B} {B = A} fault faults.Failed is));
-  steady = λ other. steady (λ is. other (same_fault {A = A} {B = B} fault faults.Failed is)) ∙ s.steady;
-  may = both old mid new s.may may;
-}
-  where
-    rose : (noted_fault reader ≡ Some faults.Failed) ⊎ Rose (mid.faults (name_of reader)) (new.faults (name_of reader)) → Rose (old.faults file) (new.faults file)
-    rose (inl noted) = absurd (none_or_failed (noted_fault reader) s.fed.read.no_fault noted)
-    rose (inr up) = subst (λ (b : List ℕ → ℕ). Rose (b file) (new.faults file)) s.steady (subst (λ f. Rose (mid.faults f) (new.faults f)) s.named up)
+fed_stops {A} {B} file old mid new reader feed fault s refused failed steady may =
+    after_stops {A = A} {B = B} file old mid new reader s.head s.blocks fault (read_so_far file old mid reader feed s) refused failed steady may
 
 -- at the end of the file the feed was given a certificate
 pub fed_whole : (file : List ℕ) (old mid new : Shown) (reader : BlockReader) (feed : Feed) → StandsFed file old mid reader feed →
     ((before : List FileRead) (head : Head) (blocks : List Block) → HasRead (pass (name_of reader) before mid.gave) reader head blocks →
     IsTextOf (pass (name_of reader) before new.gave) head blocks) →
     IsFedWhole (pass file old.gave new.gave) feed
-fed_whole file old mid new reader feed s whole = (
-  s.head,
-  s.blocks,
-  s.fed.fed,
-  subst (λ f. IsTextOf (pass f old.gave new.gave) s.head s.blocks) s.named
-      (whole old.gave s.head s.blocks (subst (λ f. HasRead (pass f old.gave mid.gave) reader s.head s.blocks) (sym s.named) s.fed.read)),
-)
+fed_whole file old mid new reader feed s whole =
+    (s.head, s.blocks, s.fed.fed, after_whole file old mid new reader s.head s.blocks (read_so_far file old mid reader feed s) whole)
 
 -- which is what the file gives
 pub fed_file : (file : List ℕ) (old new : Shown) (feed : Feed) → ReadsOn {A = Feed} file old new (Ok feed) →
     IsFedWhole (pass file old.gave new.gave) feed → FeedsFile file old new (Ok feed)
-fed_file file old new feed on whole =
-    let text = whole.3 in (
-      whole.0,
-      whole.1,
-      whole.2,
-      record {
-        reads = (text.0, text.1.read, text.1.within, text.2);
-        begun = (text.0, inr text.1.read);
-        part = tt;
-        failed = tt;
-        steady = λ other. on.steady (ok_read feed);
-        may = on.may;
-      },
-    )
+fed_file file old new feed on whole = (whole.0, whole.1, whole.2, text_file feed file old new whole.0 whole.1 on whole.3)
 
 -- a pass at a fault was begun
 begun_of : (p : Pass) (fault : StreamFault) → IsFaultOf p fault → IsBegun p

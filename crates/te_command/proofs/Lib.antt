@@ -1,19 +1,14 @@
-pub mod Following
-pub mod Telling
-pub mod Asking
-pub mod Meaning
 pub mod Plans
 pub mod Verdict
+pub mod Streaming
 pub mod Feeding
-pub mod Ending
 pub mod Regular
+pub mod PlanFiles
+pub mod Checking
 pub mod Converting
 pub mod Alike
+pub mod Publishing
+pub mod Reporting
+pub mod Drawing
 pub mod Table
-pub mod Delivering
-pub mod Answering
-pub mod Running
-pub mod Arguments
-pub mod Refusing
 mod Generating
-mod Texts

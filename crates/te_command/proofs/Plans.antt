@@ -4,23 +4,24 @@ use Rattle.te_model.specs.declared.network.Network.{Network}
 use Rattle.traffic_matrix.specs.declared.series.Series.{Series}
 use Rattle.failure.specs.declared.outage.Failures.{Failures}
 use Rattle.plan.specs.declared.experiment.Experiment.{Experiment}
-use Rattle.te_command.specs.declared.answer.Answer.{Answer}
-use Rattle.te_command.specs.declared.answer.Fault.{Fault}
-use Rattle.te_command.specs.declared.answer.Fault.TheVariants.{Refused, Read, Memory}
+use Rattle.command_frame.specs.declared.answer.Answer.{Answer}
+use Rattle.command_frame.specs.declared.answer.Fault.{Fault}
+use Rattle.command_frame.specs.declared.answer.Fault.TheVariants.{Refused, Read, Memory}
 use Rattle.te_ports.specs.Record.{Read as FileRead}
-use Rattle.te_command.specs.Files.{Passes, given_passes}
-use Rattle.te_command.specs.Reading.{Reading, answers, reads, MeansAfter, ReadFailedAfter}
-use Rattle.te_command.specs.Order.{ReadsAlong}
+use Rattle.command_frame.specs.Files.{Passes, given_passes}
+use Rattle.command_frame.specs.Reading.{Reading, answers, reads, MeansAfter, ReadFailedAfter}
+use Rattle.command_frame.specs.Order.{ReadsAlong}
 use Rattle.te_command.specs.TopologyFile.{topologies}
 use Rattle.te_command.specs.MatrixFile.{matrices}
 use Rattle.failure.specs.Series.{no_failures}
 use Rattle.te_command.specs.FailureFile.{failure_files}
 use Rattle.te_command.specs.PlanFile.{plans}
-use Rattle.te_command.specs.Commands.{with_plan, with_failures}
+use Rattle.te_command.specs.PlanReading.{with_plan, with_failures}
 use Rattle.te_ports.specs.Ports.{Rose}
 use Rattle.te_ports.specs.Shown.{Shown}
-use Rattle.te_command.specs.Outcome.{ReadsFile, GivesPlan, ReadsFailures, Meant, OnRead, Follows, no_answer}
-use Rattle.te_command.proofs.Following.{none_read, meant_on, failed_on, failed_since, both, goes_on, stops}
+use Rattle.command_frame.specs.Outcome.{ReadsFile, Meant, OnRead, Follows}
+use Rattle.te_command.specs.Outcome.{GivesPlan, ReadsFailures, no_answer}
+use Rattle.command_frame.proofs.Following.{none_read, meant_on, failed_on, failed_since, both, goes_on, stops}
 
 -- what is read after a plan, and after its network
 abbrev then_series : (Experiment → Network → Series → Reading) → Experiment → Network → Reading

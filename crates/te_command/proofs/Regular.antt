@@ -8,7 +8,7 @@ use Rattle.cert_text.proofs.Laws.{one_spelling, one_fault, one_rule_fault, spell
 use Rattle.te_command.specs.CertificateFile.{certificates, GivesCertificate, shape_reason, rule_reason}
 use Rattle.te_command.specs.InputFile.{inputs, in_words}
 use Rattle.te_command.specs.Limits.{certificate_limits, input_limits}
-use Rattle.te_command.proofs.Ending.{IsRegular}
+use Rattle.command_frame.specs.Sound.{IsRegular}
 
 fault_once : (bytes x y : List ℕ) → GivesCertificate bytes (Err x) → GivesCertificate bytes (Err y) → x ≡ y
 fault_once bytes x y (inl p) (inl q) = p.2 ∙ ap shape_reason (one_fault bytes p.0 q.0 p.1 q.1) ∙ sym q.2

@@ -7,9 +7,10 @@ use Rattle.te_model.specs.declared.network.Network.{Network}
 use Rattle.te_model.specs.Inequalities.{LinkFailure, first_failure}
 use Rattle.ratio_checker.specs.Finding.{finding_of}
 use Rattle.ratio_checker.specs.declared.finding.Finding.{Finding}
-use Rattle.te_command.specs.declared.answer.Answer.{Answer}
+use Rattle.command_frame.specs.declared.answer.Answer.{Answer}
 use Rattle.te_command.specs.Check.{IsVerdict, IsNetworkVerdict, no_network_line}
-use Rattle.te_command.specs.Outcome.{IsLineOf, status_of, answer_text}
+use Rattle.te_command.specs.Outcome.{IsLineOf}
+use Rattle.command_frame.specs.Outcome.{status_of, answer_text}
 
 -- what the first failure gives
 line_of_failure : (c : Certificate) (failure : Option LinkFailure) (answer : Answer) → first_failure c ≡ failure →

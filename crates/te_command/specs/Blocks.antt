@@ -10,12 +10,12 @@ use Rattle.block_reader.specs.declared.stream_fault.StreamFault.TheVariants as f
 use Rattle.block_reader.specs.Blocks.{HasRead, IsFaultOf, IsTextOf, last_link}
 use Rattle.ratio_checker.specs.declared.feed.Feed.{Feed}
 use Rattle.ratio_checker.specs.Feeds.{StandsFor, next_link}
-use Rattle.te_command.specs.declared.answer.Fault.{Fault}
-use Rattle.te_command.specs.declared.answer.Fault.TheVariants.{Read, Memory}
-use Rattle.te_command.specs.Reading.{too_long}
+use Rattle.command_frame.specs.declared.answer.Fault.{Fault}
+use Rattle.command_frame.specs.declared.answer.Fault.TheVariants.{Read, Memory}
+use Rattle.command_frame.specs.Reading.{too_long}
 use Rattle.te_command.specs.CertificateFile.{certificates, shape_reason, rule_reason}
 use Rattle.te_ports.specs.Shown.{Shown}
-use Rattle.te_command.specs.Outcome.{KeepsDepot, ReadsFile, IsRefusal}
+use Rattle.command_frame.specs.Outcome.{KeepsDepot, ReadsFile, IsRefusal}
 
 -- the least link that may follow this one
 abbrev pub link_after : Option ℕ → ℕ
@@ -53,3 +53,12 @@ FeedsFile file old new (Ok feed) =
     (head : Head) × (blocks : List Block) × StandsFor feed head blocks
     × ReadsFile certificates file old new (Ok (record { head = head; blocks = blocks }))
 FeedsFile file old new (Err fault) = ReadsFile certificates file old new (Err fault)
+
+-- this is the head of a certificate whose text is all that reads gave
+abbrev pub IsHeadOf : Pass → Head → Type 0
+IsHeadOf gave head = (blocks : List Block) × IsTextOf gave head blocks
+
+-- it is the head of the certificate that the file gives, or the file is refused or not read
+abbrev pub HeadsFile : List ℕ → Shown → Shown → Result Head Fault → Type 0
+HeadsFile file old new (Ok head) = (blocks : List Block) × ReadsFile certificates file old new (Ok (record { head = head; blocks = blocks }))
+HeadsFile file old new (Err fault) = ReadsFile certificates file old new (Err fault)

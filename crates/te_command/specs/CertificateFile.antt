@@ -6,7 +6,7 @@ use Rattle.te_model.specs.declared.certificate.RuleFault.{RuleFault}
 use Rattle.te_model.specs.Text.{Spells}
 use Rattle.te_model.specs.Faults.{IsShapeFault, IsRuleFault}
 use Rattle.te_model.specs.FileLimit.{file_limit}
-use Rattle.te_command.specs.Reading.{Kind}
+use Rattle.command_frame.specs.Reading.{Kind}
 
 -- the words for bytes that leave the grammar at a line, and for those that spell what breaks a rule
 abbrev pub shape_reason : ℕ → List ℕ

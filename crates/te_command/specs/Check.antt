@@ -1,5 +1,5 @@
 -- What `check` answers of a certificate, alone and of a network.
-use Rattle.std.specs.Prelude.{◌≡◌, ◌≢◌, ◌⊎◌, ℕ, List, [], ◌∷◌, ◌++◌, codes, Some, None}
+use Rattle.std.specs.Prelude.{◌≡◌, ◌≢◌, ◌≤◌, ◌⊎◌, ℕ, List, [], ◌∷◌, ◌++◌, codes, Some, None}
 use Rattle.std.specs.Fmt.{decimal}
 use Rattle.te_model.specs.declared.certificate.Certificate.{Certificate}
 use Rattle.te_model.specs.declared.demand.DemandSet.{DemandSet}
@@ -7,7 +7,10 @@ use Rattle.te_model.specs.declared.demand.DemandSet.TheVariants.{All, Margin, Bo
 use Rattle.te_model.specs.declared.network.Network.{Network}
 use Rattle.te_model.specs.Inequalities.{LinkFailure, first_failure, Holds}
 use Rattle.te_model.specs.Ratio.{IsObliviousRatio}
-use Rattle.te_command.specs.Reading.{Answers}
+use Rattle.command_frame.specs.Reading.{Answers, answers, reads}
+use Rattle.command_frame.specs.Table.{Entry}
+use Rattle.te_command.specs.CertificateFile.{certificates}
+use Rattle.te_command.specs.TopologyFile.{topologies}
 
 -- the line of a yes: the ratio in millionths, and the demand set
 abbrev pub yes_line : ℕ → DemandSet → List ℕ
@@ -65,4 +68,22 @@ network_verdict_on certificate network = record {
   status = λ status. (line : List ℕ) × IsNetworkVerdict certificate network status line;
   text = IsNetworkVerdict certificate network;
   proves = λ line. (certificate.head.network ≡ network) × IsProof certificate;
+}
+
+-- `check CERT` says yes or no of the certificate, in one text
+abbrev pub check_entry : List ℕ → Entry
+check_entry certificate = record {
+  reading = reads Certificate certificates certificate (λ spelled. answers (verdict_on spelled));
+  may_answer = λ status text. status ≤ 1;
+  has_one_text = Unit {0};
+  in_range = Unit {0};
+}
+
+-- and so does `check CERT TOPOLOGY`
+abbrev pub check_network_entry : List ℕ → List ℕ → Entry
+check_network_entry certificate topology = record {
+  reading = reads Certificate certificates certificate (λ spelled. reads Network topologies topology (λ network. answers (network_verdict_on spelled network)));
+  may_answer = λ status text. status ≤ 1;
+  has_one_text = Unit {0};
+  in_range = Unit {0};
 }

@@ -2,8 +2,8 @@
 use Rattle.std.specs.Prelude.{◌≡◌, ℕ, List, Option, Some}
 use Rattle.te_model.specs.declared.demand.DemandSet.{DemandSet}
 use Rattle.te_model.specs.Upgrade.{box_of}
-use Rattle.te_command.specs.Files.{told_files}
-use Rattle.te_command.specs.Reading.{Means}
+use Rattle.command_frame.specs.Files.{told_files}
+use Rattle.command_frame.specs.Reading.{Means}
 use Rattle.te_command.specs.Check.{yes_line}
 use Rattle.te_command.specs.Commands.{convert, reading_of}
 

@@ -8,7 +8,7 @@ use Rattle.failure.specs.File.{failures_of}
 use Rattle.failure.specs.declared.outage.Failures.{Failures}
 use Rattle.failure.specs.declared.fault.FailureFault.{FailureFault}
 use Rattle.failure.specs.declared.fault.FailureFault.TheVariants.{Header, Fields, Number, NoSuchLink, Interval, Memory}
-use Rattle.te_command.specs.Reading.{Kind}
+use Rattle.command_frame.specs.Reading.{Kind}
 use Rattle.te_command.specs.InputFile.{inputs}
 
 -- the words for a fault

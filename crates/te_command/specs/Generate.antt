@@ -1,8 +1,9 @@
 -- What `gen` answers: the summary of the network that the seed draws. No file is read.
-use Rattle.std.specs.Prelude.{◌≡◌, ℕ, ◌^◌, List, Option, Some, None, ◌&&◌, nat_le, nat_lt, bytes_eq, decimal, if◌then◌else◌}
+use Rattle.std.specs.Prelude.{◌≡◌, ◌≤◌, ℕ, ◌^◌, List, Option, Some, None, ◌&&◌, nat_le, nat_lt, bytes_eq, decimal, if◌then◌else◌}
 use Rattle.std.specs.Str.Parse.{digits_value}
 use Rattle.generation.specs.Summary.{IsSummary, ProvesRatio}
-use Rattle.te_command.specs.Reading.{Answers}
+use Rattle.command_frame.specs.Reading.{Answers, answers}
+use Rattle.command_frame.specs.Table.{Entry}
 
 -- the number of which the word is the decimal, where it is below 2^64
 abbrev pub decimal_number : List ℕ → Option ℕ
@@ -23,4 +24,13 @@ summary_of n seed = record {
   status = λ status. status ≡ 0;
   text = λ status text. (status ≡ 0) × IsSummary n seed text;
   proves = ProvesRatio n seed;
+}
+
+-- `gen NODES SEED` writes a summary of 2 to 64 nodes
+abbrev pub generate_entry : ℕ → ℕ → Entry
+generate_entry n seed = record {
+  reading = answers (summary_of n seed);
+  may_answer = λ status text. status ≡ 0;
+  has_one_text = ⊥;
+  in_range = (2 ≤ n) × (n ≤ 64);
 }

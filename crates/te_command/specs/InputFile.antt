@@ -1,6 +1,6 @@
 -- The files of other kinds than certificates: how long they may be, and what they give by the function that reads them.
 use Rattle.std.specs.Prelude.{◌≡◌, ℕ, List, Result, Ok, Err}
-use Rattle.te_command.specs.Reading.{Kind}
+use Rattle.command_frame.specs.Reading.{Kind}
 
 -- 64 MiB
 abbrev pub input_limit : ℕ

@@ -1,6 +1,3 @@
-pub mod Files
-pub mod Reading
-pub mod Order
 pub mod CertificateFile
 pub mod InputFile
 pub mod Limits
@@ -9,13 +6,13 @@ pub mod MatrixFile
 pub mod FailureFile
 pub mod PlanFile
 pub mod Refusals
+pub mod PlanReading
 pub mod Check
 pub mod Convert
 pub mod Generate
 pub mod Publish
 pub mod Report
 pub mod Commands
-pub mod Form
 pub mod Converted
 pub mod Run
 pub mod Clauses

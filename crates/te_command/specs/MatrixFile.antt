@@ -6,7 +6,7 @@ use Rattle.traffic_matrix.specs.Rows.{series_in}
 use Rattle.traffic_matrix.specs.declared.series.Series.{Series}
 use Rattle.traffic_matrix.specs.declared.fault.MatrixFault.{MatrixFault}
 use Rattle.traffic_matrix.specs.declared.fault.MatrixFault.TheVariants.{Header, Fields, UnknownNode, Number, Order, Repeated, SelfPair, TooManySteps, Memory}
-use Rattle.te_command.specs.Reading.{Kind}
+use Rattle.command_frame.specs.Reading.{Kind}
 use Rattle.te_command.specs.InputFile.{inputs}
 
 -- the words for a fault

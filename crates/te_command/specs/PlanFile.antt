@@ -5,7 +5,7 @@ use Rattle.plan.specs.Words.{key_word}
 use Rattle.plan.specs.declared.experiment.Experiment.{Experiment}
 use Rattle.plan.specs.declared.fault.PlanFault.{PlanFault}
 use Rattle.plan.specs.declared.fault.PlanFault.TheVariants.{NotJson, UnknownKey, Missing, Kind as OfKind, Range, SchemeName, Memory}
-use Rattle.te_command.specs.Reading.{Kind}
+use Rattle.command_frame.specs.Reading.{Kind}
 use Rattle.te_command.specs.InputFile.{inputs}
 
 -- the words for a fault, which name the key

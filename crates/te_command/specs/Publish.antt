@@ -1,5 +1,5 @@
 -- What `publish` answers of a plan on its network and its series: the file of a certificate, or which pair has no path.
-use Rattle.std.specs.Prelude.{◌≡◌, ◌⊎◌, ℕ, List, [], ◌∷◌, ◌++◌, codes}
+use Rattle.std.specs.Prelude.{◌≡◌, ◌≤◌, ◌⊎◌, ℕ, List, [], ◌∷◌, ◌++◌, codes, length, Some}
 use Rattle.te_model.specs.declared.certificate.Certificate.{Certificate}
 use Rattle.te_model.specs.declared.network.Network.{Network}
 use Rattle.te_model.specs.declared.route.Pair.{Pair}
@@ -10,8 +10,12 @@ use Rattle.scheme.specs.Reach.{AllReached, IsFirstWithout}
 use Rattle.traffic_matrix.specs.declared.series.Series.{Series}
 use Rattle.plan.specs.declared.experiment.Experiment.{Experiment}
 use Rattle.experiment.specs.Published.{IsPublished}
-use Rattle.te_command.specs.Reading.{Answers}
-use Rattle.te_command.specs.Check.{IsProof}
+use Rattle.command_frame.specs.Files.{told_files}
+use Rattle.command_frame.specs.Reading.{Answers, answers, Means}
+use Rattle.command_frame.specs.Table.{Entry}
+use Rattle.te_command.specs.CertificateFile.{certificates}
+use Rattle.te_command.specs.Check.{IsProof, yes_line, check_entry}
+use Rattle.te_command.specs.PlanReading.{with_plan}
 
 -- the line of a pair that has no path, by the names of its nodes
 abbrev pub no_path_line : Network → Pair → List ℕ
@@ -49,4 +53,22 @@ publication_of plan network series = record {
   status = IsPublicationStatus network series;
   text = IsPublication plan network series;
   proves = IsProvedFile plan network series;
+}
+
+-- a file to which `check` says yes: it is not too long, proves a ratio, and under any name its answer is the line of that yes
+pub record IsAnsweredYes (bytes : List ℕ) : Type 0 where
+  pub fits : length bytes ≤ certificates.limit bytes
+  pub certificate : Certificate
+  pub spelled : Spells bytes certificate
+  pub proof : IsProof certificate
+  pub answer : (file : List ℕ) →
+      Means (check_entry file).reading (told_files (λ name. Some bytes)) 0 (yes_line certificate.head.ratio certificate.head.set)
+
+-- `publish PLAN` writes a file to which `check` says yes, or names a pair without a path
+abbrev pub publish_entry : List ℕ → Entry
+publish_entry plan = record {
+  reading = with_plan plan (λ named network series. answers (publication_of named network series));
+  may_answer = λ status text. ((status ≡ 0) × IsAnsweredYes text) ⊎ (status ≡ 7);
+  has_one_text = ⊥;
+  in_range = Unit {0};
 }

@@ -5,7 +5,7 @@ use Rattle.te_model.specs.declared.network.Network.{Network}
 use Rattle.topology.specs.Topology.{topology_of}
 use Rattle.topology.specs.declared.fault.TopologyFault.{TopologyFault}
 use Rattle.topology.specs.declared.fault.TopologyFault.TheVariants.{Header, Fields, Name, Number, SelfLink, TooMany, Empty, Memory}
-use Rattle.te_command.specs.Reading.{Kind}
+use Rattle.command_frame.specs.Reading.{Kind}
 use Rattle.te_command.specs.InputFile.{inputs}
 
 -- the words for a fault

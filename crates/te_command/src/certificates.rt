@@ -1,15 +1,15 @@
 //! Reading the file of a certificate one block at a time: what is found of it, or the line that refuses it.
 ghost use Rattle.std.specs.Prelude.{IfOk};
 ghost use Rattle.te_ports.specs.Record.{pass};
-ghost use Rattle.te_command.specs.Blocks.{FeedsFile, IsFedWhole, IsAnswerTo, ReadsOn};
+ghost use Rattle.te_command.specs.Blocks.{FeedsFile, HeadsFile, IsFedWhole, IsHeadOf, IsAnswerTo, ReadsOn};
 ghost use Rattle.te_ports.specs.Shown.{shown_by};
 
-use crate::answer::Fault;
-use crate::files::{refuse, too_long};
-use crate::refusal::Refusal;
+use crate::reasons::CertificateReason;
 use block_reader::{BlockReader, StreamFault};
+use command_frame::{Fault, refuse, too_long};
 use ratio_checker::Feed;
 use std::alloc::Global;
+use te_model::Head;
 use te_ports::Depot;
 
 // What is answered where the file has this fault.
@@ -18,8 +18,8 @@ fn answer_to(alloc: Global, file: &str, fault: StreamFault) -> Fault
 {
     match fault {
         StreamFault::TooLong => too_long(alloc, file),
-        StreamFault::Shape(line) => refuse(alloc, file, Refusal::Shape(line)),
-        StreamFault::Rule(rule) => refuse(alloc, file, Refusal::Rule(rule)),
+        StreamFault::Shape(line) => refuse(alloc, file, CertificateReason::Shape(line)),
+        StreamFault::Rule(rule) => refuse(alloc, file, CertificateReason::Rule(rule)),
         StreamFault::Failed => Fault::Read,
         StreamFault::Memory => Fault::Memory,
     }
@@ -51,6 +51,31 @@ pub fn feed_in<D: Depot>(alloc: Global, depot: &mut D, file: &str) -> Result<Fee
 {
     match feed_blocks(alloc, depot, file) {
         Ok(feed) => Ok(feed),
+        Err(fault) => Err(answer_to(alloc, file, fault)),
+    }
+}
+
+// The head of the file. Each of its blocks is read and judged, and none is kept.
+fn read_head<D: Depot>(alloc: Global, depot: &mut D, file: &str) -> Result<Head, StreamFault>
+    ensures whole { IfOk result (IsHeadOf (pass file.now (D.gave depot.old) (D.gave depot.new))) }
+    ensures reads { ReadsOn file.now (shown_by D.content D.gave D.faults depot.old)
+        (shown_by D.content D.gave D.faults depot.new) result }
+{
+    let (mut reader, head) = BlockReader::open(alloc, depot, file)?;
+    'rest: while reader.next(depot)? {}
+    Ok(head)
+}
+
+/// The head of the certificate that the file of this name gives. The blocks are read and judged one after another, and none
+/// is kept.
+///
+/// `Refused` comes only for bytes that reads of the file gave, and `Read` only where a read of it failed in the call.
+pub fn head_in<D: Depot>(alloc: Global, depot: &mut D, file: &str) -> Result<Head, Fault>
+    ensures { HeadsFile file.now (shown_by D.content D.gave D.faults depot.old)
+        (shown_by D.content D.gave D.faults depot.new) result }
+{
+    match read_head(alloc, depot, file) {
+        Ok(head) => Ok(head),
         Err(fault) => Err(answer_to(alloc, file, fault)),
     }
 }

@@ -6,9 +6,8 @@ ghost use Rattle.plan.specs.Plan.{InRange};
 ghost use Rattle.te_ports.specs.Shown.{shown_by};
 ghost use Rattle.te_command.specs.Outcome.{ReadsInputs, ReadsFailures};
 
-use crate::answer::Fault;
-use crate::files::value_in;
 use crate::kind::{FailureFiles, Matrices, Plans, Topologies};
+use command_frame::{Fault, value_in};
 use failure::Failures;
 use plan::Experiment;
 use std::alloc::Global;

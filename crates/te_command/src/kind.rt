@@ -1,15 +1,13 @@
-//! The kinds of files: how many bytes one may have, what its bytes give, and why they are refused.
-ghost use Rattle.std.specs.Prelude.{◌≡◌, ◌≤◌, ◌^◌, ℕ, List, length, IfOk, IsTrue};
+//! The kinds of files that the commands read.
+ghost use Rattle.std.specs.Prelude.{◌≤◌, IsTrue};
 ghost use Rattle.te_model.specs.Network.{is_well_formed, link_count, node_count};
 ghost use Rattle.te_model.specs.Validity.{IsValid};
 ghost use Rattle.traffic_matrix.specs.Limits.{IsSeries};
 ghost use Rattle.plan.specs.Plan.{InRange};
-ghost use Rattle.te_ports.specs.Limit.{IsLimit};
-ghost use Rattle.te_command.specs.Reading.{Kind};
-ghost use Rattle.te_command.specs.Outcome.{ReadsBytes};
 
-use crate::refusal::{BytesFault, Refusal};
+use crate::reasons::{CertificateReason, FailureReason, MatrixReason, PlanReason, TopologyReason};
 use cert_text::CertFault;
+use command_frame::{BytesFault, FileKind};
 use failure::{FailureFault, Failures};
 use plan::{Experiment, PlanFault, read_plan};
 use std::alloc::Global;
@@ -20,35 +18,6 @@ use traffic_matrix::{MatrixFault, Series};
 /// The greatest file of another kind than a certificate, in bytes.
 const INPUT_LIMIT: u64 = 67_108_864;
 
-/// A kind of files.
-pub trait FileKind {
-    /// What a file of it gives.
-    type Value;
-
-    /// What it is read against may be used.
-    ghost is_ready: { Self → Type 0 };
-
-    /// How long its files may be, and what their bytes give.
-    ghost kind: { Self → Kind Self.Value };
-
-    /// What holds of a value that a file gives.
-    ghost IsSound: { Self → Self.Value → Type 0 };
-
-    /// How many bytes a file may have that begins with these.
-    fn limit(&self, start: &[u8]) -> u64
-        ensures { result ≡ (kind self.now).limit start.now };
-
-    /// What the bytes give.
-    fn read(&self, alloc: Global, bytes: &[u8]) -> Result<Self::Value, BytesFault>
-        requires ready { is_ready self.now }
-        requires few { length bytes.now ≤ (kind self.now).limit bytes.now }
-        ensures reads { ReadsBytes (kind self.now) bytes.now result }
-        ensures sound { IfOk result (IsSound self.now) };
-
-    /// The limit is one for files that are read piece by piece.
-    ghost limited: { (of : Self) → IsLimit (kind of).limit };
-}
-
 /// Certificates. What one gives is valid.
 #[derive(Clone, Copy)]
 pub struct Certificates;
@@ -58,6 +27,8 @@ impl FileKind for Certificates {
     ghost use Rattle.te_command.specs.Limits.{certificate_limits};
 
     type Value = Certificate;
+
+    type Refusal = CertificateReason;
 
     ghost is_ready = { λ _. Unit {0} };
 
@@ -71,11 +42,15 @@ impl FileKind for Certificates {
         file_limit(start)
     }
 
-    fn read(&self, alloc: Global, bytes: &[u8]) -> Result<Certificate, BytesFault> {
+    fn read(
+        &self,
+        alloc: Global,
+        bytes: &[u8],
+    ) -> Result<Certificate, BytesFault<CertificateReason>> {
         match cert_text::read(alloc, bytes) {
             Ok(certificate) => Ok(certificate),
-            Err(CertFault::Shape(line)) => Err(BytesFault::Refused(Refusal::Shape(line))),
-            Err(CertFault::Rule(rule)) => Err(BytesFault::Refused(Refusal::Rule(rule))),
+            Err(CertFault::Shape(line)) => Err(BytesFault::Refused(CertificateReason::Shape(line))),
+            Err(CertFault::Rule(rule)) => Err(BytesFault::Refused(CertificateReason::Rule(rule))),
             Err(CertFault::Memory) => Err(BytesFault::Memory),
         }
     }
@@ -91,6 +66,8 @@ impl FileKind for Topologies {
 
     type Value = Network;
 
+    type Refusal = TopologyReason;
+
     ghost is_ready = { λ _. Unit {0} };
 
     ghost kind = { λ _. topologies };
@@ -103,11 +80,11 @@ impl FileKind for Topologies {
         INPUT_LIMIT
     }
 
-    fn read(&self, alloc: Global, bytes: &[u8]) -> Result<Network, BytesFault> {
+    fn read(&self, alloc: Global, bytes: &[u8]) -> Result<Network, BytesFault<TopologyReason>> {
         match topology::read(alloc, bytes) {
             Ok(network) => Ok(network),
             Err(TopologyFault::Memory) => Err(BytesFault::Memory),
-            Err(fault) => Err(BytesFault::Refused(Refusal::Topology(fault))),
+            Err(fault) => Err(BytesFault::Refused(TopologyReason(fault))),
         }
     }
 }
@@ -124,6 +101,8 @@ impl<'a> FileKind for Matrices<'a> {
 
     type Value = Series;
 
+    type Refusal = MatrixReason;
+
     ghost is_ready = { λ of. IsTrue (is_well_formed of.network.now) };
 
     ghost kind = { λ of. matrices of.network.now };
@@ -136,11 +115,11 @@ impl<'a> FileKind for Matrices<'a> {
         INPUT_LIMIT
     }
 
-    fn read(&self, alloc: Global, bytes: &[u8]) -> Result<Series, BytesFault> {
+    fn read(&self, alloc: Global, bytes: &[u8]) -> Result<Series, BytesFault<MatrixReason>> {
         match traffic_matrix::read(alloc, self.network, bytes) {
             Ok(series) => Ok(series),
             Err(MatrixFault::Memory) => Err(BytesFault::Memory),
-            Err(fault) => Err(BytesFault::Refused(Refusal::Matrices(fault))),
+            Err(fault) => Err(BytesFault::Refused(MatrixReason(fault))),
         }
     }
 }
@@ -158,6 +137,8 @@ impl<'a> FileKind for FailureFiles<'a> {
 
     type Value = Failures;
 
+    type Refusal = FailureReason;
+
     ghost is_ready = { λ of. IsTrue (is_well_formed of.network.now) × IsSeries (node_count of.network.now) of.series.now };
 
     ghost kind = { λ of. failure_files of.network.now of.series.now };
@@ -170,12 +151,12 @@ impl<'a> FileKind for FailureFiles<'a> {
         INPUT_LIMIT
     }
 
-    fn read(&self, alloc: Global, bytes: &[u8]) -> Result<Failures, BytesFault> {
+    fn read(&self, alloc: Global, bytes: &[u8]) -> Result<Failures, BytesFault<FailureReason>> {
         let steps = self.series.steps.as_slice().len() as u32;
         match failure::read(alloc, self.network, steps, bytes) {
             Ok(failures) => Ok(failures),
             Err(FailureFault::Memory) => Err(BytesFault::Memory),
-            Err(fault) => Err(BytesFault::Refused(Refusal::Failures(fault))),
+            Err(fault) => Err(BytesFault::Refused(FailureReason(fault))),
         }
     }
 }
@@ -190,6 +171,8 @@ impl FileKind for Plans {
 
     type Value = Experiment;
 
+    type Refusal = PlanReason;
+
     ghost is_ready = { λ _. Unit {0} };
 
     ghost kind = { λ _. plans };
@@ -202,11 +185,11 @@ impl FileKind for Plans {
         INPUT_LIMIT
     }
 
-    fn read(&self, alloc: Global, bytes: &[u8]) -> Result<Experiment, BytesFault> {
+    fn read(&self, alloc: Global, bytes: &[u8]) -> Result<Experiment, BytesFault<PlanReason>> {
         match read_plan(alloc, bytes) {
             Ok(plan) => Ok(plan),
             Err(PlanFault::Memory) => Err(BytesFault::Memory),
-            Err(fault) => Err(BytesFault::Refused(Refusal::Plan(fault))),
+            Err(fault) => Err(BytesFault::Refused(PlanReason(fault))),
         }
     }
 }

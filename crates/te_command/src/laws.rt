@@ -2,13 +2,14 @@
 ghost use Rattle.std.specs.Prelude.{◌≡◌, ◌⊎◌, ℕ, List, ◌∷◌, ◌++◌, Option};
 ghost use Rattle.te_ports.specs.Ports.{Rose};
 ghost use Rattle.te_ports.specs.Record.{Read, Adds};
-ghost use Rattle.te_command.specs.Files.{Span, span, given_files, told_files, known_files};
-ghost use Rattle.te_command.specs.Reading.{IsTold, Means, MeansStatus, Proves, ReadFailed, RefusesUntold};
-ghost use Rattle.te_command.specs.Order.{ReadsAlong, AsksNext};
-ghost use Rattle.te_command.specs.Commands.{Command, check, check_network, reading_of};
-ghost use Rattle.te_command.specs.Form.{IsOfCertificate};
+ghost use Rattle.command_frame.specs.Files.{Span, span, given_files, told_files, known_files};
+ghost use Rattle.command_frame.specs.Reading.{IsTold, Means, MeansStatus, Proves, ReadFailed, RefusesUntold};
+ghost use Rattle.command_frame.specs.Order.{ReadsAlong, AsksNext};
+ghost use Rattle.te_command.specs.Commands.{Command, check, check_network, reading_of, IsOfCertificate};
 ghost use Rattle.te_command.specs.Run.{OfToldCommand};
 ghost use Rattle.te_command.specs.Converted.{AreConverted, SayYesAlike};
+
+use crate::words::Commands;
 
 /// The told files of a command mean one status, those of the command of some words a text, and those of a command of a certificate no
 /// other one.
@@ -23,13 +24,17 @@ pub fn told_files_mean_one_answer()
         MeansStatus (reading_of command) (told_files content) s → MeansStatus (reading_of command) (told_files content) t → s ≡ t }
     ensures one_text { (command : Command) → (content : List ℕ → Option (List ℕ)) → (s : ℕ) → (t : ℕ) → (a : List ℕ) → (b : List ℕ) →
         IsOfCertificate command → Means (reading_of command) (told_files content) s a → Means (reading_of command) (told_files content) t b → a ≡ b }
-{}
+{
+    command_frame::laws::told_files_mean_one_answer(&Commands)
+}
 
 /// What the told files of a command mean at status 0 proves what its text says.
 pub fn told_yes_is_a_proof()
     ensures { (command : Command) → (content : List ℕ → Option (List ℕ)) → (text : List ℕ) →
         Means (reading_of command) (told_files content) 0 text → Proves (reading_of command) (told_files content) text }
-{}
+{
+    command_frame::laws::told_yes_is_a_proof(&Commands)
+}
 
 /// `check` says of the file that `convert` made what it says of the one that was converted: no by the same inequality, or yes
 /// to the same ratio.
@@ -49,21 +54,27 @@ pub fn told_files_are_read()
     ensures told { (command : Command) → (content : List ℕ → Option (List ℕ)) → (made : Span) → Adds content made.before made.now →
         IsTold (reading_of command) content → (status : ℕ) → (text : List ℕ) →
         Means (reading_of command) (given_files made) status text → Means (reading_of command) (told_files content) status text }
-{}
+{
+    command_frame::laws::told_files_are_read(&Commands)
+}
 
 /// And what told files mean is what some reads of them give, so that there are reads that give each meaning.
 pub fn told_files_can_be_read()
     ensures { (command : Command) → (content : List ℕ → Option (List ℕ)) → (status : ℕ) → (text : List ℕ) →
         Means (reading_of command) (told_files content) status text → (before : List Read) →
         (now : List Read) × Adds content before now × Means (reading_of command) (given_files (span before now)) status text }
-{}
+{
+    command_frame::laws::told_files_can_be_read(&Commands)
+}
 
 /// Of any reads, a file that is told and gives a value is never the one that is refused.
 pub fn accepted_files_are_not_refused()
     ensures { (command : Command) → (content : List ℕ → Option (List ℕ)) → (made : Span) → Adds content made.before made.now →
         (text : List ℕ) → Means (reading_of command) (given_files made) 3 text →
         RefusesUntold (reading_of command) (given_files made) content text }
-{}
+{
+    command_frame::laws::accepted_files_are_not_refused(&Commands)
+}
 
 /// Of any reads, a failed read of `check` is one of a file that its words name, even where the certificate is untold.
 pub fn failed_reads_are_of_named_files()
@@ -84,7 +95,9 @@ pub fn next_read_is_one()
     ensures alike { (command : Command) → (before : List Read) → (start : List Read) → (front : List Read) → (rest : List Read) → (last : List Read) →
         (one : Read) → (other : Read) → ReadsAlong (reading_of command) before (before ++ front ++ one ∷ rest) →
         ReadsAlong (reading_of command) start (start ++ front ++ other ∷ last) → (one.name ≡ other.name) × (one.at ≡ other.at) }
-{}
+{
+    command_frame::laws::next_read_is_one(&Commands)
+}
 
 /// What the reads of a call mean does not depend on the reads before it: what is proved of one depot holds of each other one that gave the
 /// same, be the one in memory and the other that of the system. They mean one status, and those of a command of a certificate one text.
@@ -96,4 +109,6 @@ pub fn reads_mean_one_answer()
         Means (reading_of command) (given_files made) s a → Means (reading_of command) (given_files made) t b → s ≡ t }
     ensures one_text { (command : Command) → (made : Span) → (s : ℕ) → (t : ℕ) → (a : List ℕ) → (b : List ℕ) → IsOfCertificate command →
         Means (reading_of command) (given_files made) s a → Means (reading_of command) (given_files made) t b → a ≡ b }
-{}
+{
+    command_frame::laws::reads_mean_one_answer(&Commands)
+}

@@ -1,4 +1,4 @@
-//! The words for the faults of topologies, matrix files, failure files and plans. No bytes are refused for the want of memory.
+//! Why files are refused: each fault shows as its words. No bytes are refused for the want of memory.
 ghost use Rattle.std.specs.Prelude.{◌≡◌, ◌++◌};
 ghost use Rattle.te_command.specs.TopologyFile.{topology_reason};
 ghost use Rattle.te_command.specs.MatrixFile.{matrices_reason};
@@ -9,8 +9,34 @@ ghost use Rattle.te_command.specs.Refusals.{at_row};
 use failure::FailureFault;
 use plan::PlanFault;
 use std::fmt::{self, Display};
+use te_model::RuleFault;
 use topology::TopologyFault;
 use traffic_matrix::MatrixFault;
+
+/// A fault of a certificate, which shows as its words.
+#[derive(Clone, Copy)]
+pub enum CertificateReason {
+    /// The first line, counted from 1, at which the bytes leave the grammar.
+    Shape(u64),
+    /// The first rule that fails of what the bytes spell.
+    Rule(RuleFault),
+}
+
+impl fmt::Display for CertificateReason {
+    ghost use Rattle.std.specs.Prelude.{Some};
+    ghost use Rattle.te_command.specs.Refusals.{certificate_reason};
+
+    ghost output = { λ reason. Some (certificate_reason reason) };
+
+    fn fmt<W: fmt::Write>(&self, f: &mut fmt::Formatter<W>) -> fmt::Result {
+        match self {
+            CertificateReason::Shape(line) => write!(f, "shape at line {line}"),
+            CertificateReason::Rule(RuleFault { number, place }) => {
+                write!(f, "rule V{number} at {place}")
+            }
+        }
+    }
+}
 
 // Words, and the row that they end in where there is one.
 #[derive(Clone, Copy)]

@@ -2,14 +2,13 @@
 ghost use Rattle.std.specs.Prelude.{◌≡◌, ◌↔◌, ℕ, None};
 ghost use Rattle.te_ports.specs.Ports.{Rose};
 ghost use Rattle.te_ports.specs.Record.{Adds};
-ghost use Rattle.te_command.specs.Files.{span, known_files, told_files};
-ghost use Rattle.te_command.specs.Reading.{Means, MeansStatus, ReadFailed};
+ghost use Rattle.command_frame.specs.Files.{span, known_files, told_files};
+ghost use Rattle.command_frame.specs.Reading.{Means, MeansStatus, ReadFailed};
 ghost use Rattle.te_command.specs.Commands.{command_of, reading_of};
-ghost use Rattle.te_command.specs.Run.{texts, change, OfCommand, OfToldCommand, Answered, WritesMeant, SaysMeant, WritesProof, WritesPartMeant, HasForm, ReadsInOrder, IsOrFails, GivesOrMemory, Written, Steady, Later};
+ghost use Rattle.command_frame.specs.Run.{texts, change, Answered, IsOrFails, GivesOrMemory, Written, Steady, Later};
+ghost use Rattle.te_command.specs.Run.{OfCommand, OfToldCommand, WritesMeant, SaysMeant, WritesProof, WritesPartMeant, HasForm, ReadsInOrder};
 
-use crate::ask::Ask;
-use crate::words::command_of;
-use crate::writing::{deliver, say, say_fault};
+use crate::words::Commands;
 use std::alloc::Global;
 use te_ports::{Depot, Sink};
 
@@ -95,12 +94,5 @@ pub fn run<D: Depot, O: Sink, E: Sink>(
     ensures later { Later (D.faults depot.old) (D.faults depot.new)
         (change O.written O.faults out.old out.new) (change E.written E.faults err.old err.new) }
 {
-    let Some(command) = command_of(words) else {
-        say(err, b"usage\n");
-        return 2;
-    };
-    match command.answer(alloc, depot) {
-        Ok(answer) => deliver(out, err, &answer),
-        Err(fault) => say_fault(err, &fault),
-    }
+    command_frame::run(alloc, &Commands, words, depot, out, err)
 }

@@ -1,12 +1,11 @@
-//! The words of the command line.
+//! The words of the command line, and the table of the commands.
 ghost use Rattle.std.specs.Prelude.{◌≡◌, [], ◌∷◌, map, string_bytes};
 ghost use Rattle.std.specs.Option.{option_map};
 ghost use Rattle.te_command.specs.Commands.{command_of};
 ghost use Rattle.te_command.specs.Asked.{command_meant};
 
-use crate::answer::{Answer, Fault};
-use crate::ask::Ask;
 use crate::commands::{Check, CheckNetwork, Convert, Generate, Publish, RunPlan, generate_of};
+use command_frame::{Answer, Ask, Fault, Table};
 use std::alloc::Global;
 use te_ports::Depot;
 
@@ -34,6 +33,30 @@ impl<'a> Ask for Command<'a> {
             Command::Publish(command) => command.answer(alloc, depot),
             Command::Run(command) => command.answer(alloc, depot),
             Command::Generate(command) => command.answer(alloc, depot),
+        }
+    }
+}
+
+/// The table of the program's commands.
+#[derive(Clone, Copy)]
+pub struct Commands;
+
+impl Table for Commands {
+    ghost use Rattle.te_command.specs.Commands.{Command as CommandMeant, commands};
+
+    ghost Command = { CommandMeant };
+
+    ghost table = { commands };
+
+    fn answer<D: Depot>(
+        &self,
+        alloc: Global,
+        words: &[String],
+        depot: &mut D,
+    ) -> Option<Result<Answer, Fault>> {
+        match command_of(words) {
+            Some(command) => Some(command.answer(alloc, depot)),
+            None => None,
         }
     }
 }

@@ -5,11 +5,11 @@ ghost use Rattle.te_model.specs.declared.certificate.Certificate.{Certificate};
 ghost use Rattle.te_model.specs.declared.certificate.Head.{Head};
 ghost use Rattle.ratio_checker.specs.Feeds.{StandsFor};
 ghost use Rattle.te_command.specs.Check.{IsVerdict, yes_line};
-ghost use Rattle.te_command.specs.Outcome.{IsLineOf, status_of, answer_text};
+ghost use Rattle.command_frame.specs.Outcome.{status_of, answer_text};
+ghost use Rattle.te_command.specs.Outcome.{IsLineOf};
 
-use crate::answer::{Answer, Fault};
-use crate::ask::Ask;
 use crate::certificates::feed_in;
+use command_frame::{Answer, Ask, Fault};
 use ratio_checker::{Feed, Finding};
 use std::alloc::Global;
 use te_model::{DemandSet, Memory};

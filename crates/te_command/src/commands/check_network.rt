@@ -6,14 +6,13 @@ ghost use Rattle.te_model.specs.declared.network.Network.{Network};
 ghost use Rattle.ratio_checker.specs.Feeds.{StandsFor};
 ghost use Rattle.te_ports.specs.Shown.{shown_by};
 ghost use Rattle.te_command.specs.Check.{IsNetworkVerdict, no_network_line};
-ghost use Rattle.te_command.specs.Outcome.{ReadsSame, status_of, answer_text};
+ghost use Rattle.command_frame.specs.Outcome.{status_of, answer_text};
+ghost use Rattle.te_command.specs.Outcome.{ReadsSame};
 
 use super::check::judge;
-use crate::answer::{Answer, Fault};
-use crate::ask::Ask;
 use crate::certificates::feed_in;
-use crate::files::value_in;
 use crate::kind::Topologies;
+use command_frame::{Answer, Ask, Fault, value_in};
 use ratio_checker::Feed;
 use std::alloc::Global;
 use te_model::{Memory, Network, same_network};

@@ -3,13 +3,11 @@ ghost use Rattle.std.specs.Prelude.{◌≡◌, IfOk};
 ghost use Rattle.te_model.specs.Text.{text};
 ghost use Rattle.te_model.specs.Validity.{IsValid};
 ghost use Rattle.te_command.specs.Convert.{conversion_of};
-ghost use Rattle.te_command.specs.Outcome.{status_of, answer_text};
+ghost use Rattle.command_frame.specs.Outcome.{status_of, answer_text};
 
-use crate::answer::{Answer, Fault};
-use crate::ask::Ask;
-use crate::files::value_in;
 use crate::kind::Certificates;
 use cert_text::{print, upgrade};
+use command_frame::{Answer, Ask, Fault, value_in};
 use std::alloc::Global;
 use te_model::{Certificate, Memory};
 use te_ports::Depot;

@@ -3,8 +3,7 @@ ghost use Rattle.std.specs.Prelude.{◌≡◌, ◌≤◌};
 ghost use Rattle.std.specs.Option.{option_map};
 ghost use Rattle.te_command.specs.Generate.{drawn_of, decimal_number};
 
-use crate::answer::{Answer, Fault};
-use crate::ask::Ask;
+use command_frame::{Answer, Ask, Fault};
 use generation::summary;
 use std::alloc::Global;
 use te_ports::Depot;

@@ -3,13 +3,12 @@ ghost use Rattle.std.specs.Prelude.{◌≡◌, ◌≤◌, ◌<◌, IfOk, IfErr, 
 ghost use Rattle.te_model.specs.Network.{is_well_formed, link_count, node_count};
 ghost use Rattle.traffic_matrix.specs.Limits.{IsSeries};
 ghost use Rattle.plan.specs.Plan.{InRange};
-ghost use Rattle.te_command.specs.declared.answer.Fault.TheVariants.{Memory as OutOfMemory};
+ghost use Rattle.command_frame.specs.declared.answer.Fault.TheVariants.{Memory as OutOfMemory};
 ghost use Rattle.te_command.specs.Publish.{IsPublication, no_path_line};
-ghost use Rattle.te_command.specs.Outcome.{status_of, answer_text};
+ghost use Rattle.command_frame.specs.Outcome.{status_of, answer_text};
 
-use crate::answer::{Answer, Fault};
-use crate::ask::Ask;
 use crate::inputs::inputs_in;
+use command_frame::{Answer, Ask, Fault};
 use plan::Experiment;
 use scheme::SchemeFault;
 use std::alloc::Global;

@@ -1,5 +1,5 @@
 use Rattle.std.proofs.lemmas.Result.{err_from_is_err_and}
-use Rattle.te_command.specs.Reading.{answers}
+use Rattle.command_frame.specs.Reading.{answers}
 use Rattle.te_command.specs.Outcome.{no_answer}
 use Rattle.te_command.proofs.Plans.{plan_unread, topology_unread, matrices_unread, all_read}
 use Rattle.te_command.proofs.inputs.inputs_in.Goals as goal

@@ -1,8 +1,8 @@
 use Rattle.std.proofs.Common.{◌⊎◌, ℕ, List, inl, inr}
 use Rattle.te_ports.specs.Ports.{Rose}
 use Rattle.te_ports.specs.Record.{Read}
-use Rattle.te_command.specs.Files.{Passes, given_passes}
-use Rattle.te_command.specs.Reading.{ReadFailedAfter}
+use Rattle.command_frame.specs.Files.{Passes, given_passes}
+use Rattle.command_frame.specs.Reading.{ReadFailedAfter}
 use Rattle.te_command.specs.Commands.{check_network, reading_of}
 use Rattle.te_command.proofs.laws.failed_reads_are_of_named_files.Goals as goal
 

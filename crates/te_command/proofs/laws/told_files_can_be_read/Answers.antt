@@ -1,8 +1,8 @@
-use Rattle.std.proofs.Common.{[]}
-use Rattle.te_command.specs.Commands.{reading_of}
-use Rattle.te_command.proofs.Table.{regular}
-use Rattle.te_command.proofs.Telling.{told_read}
+use Rattle.te_command.proofs.Table.{table_is_sound}
 use Rattle.te_command.proofs.laws.told_files_can_be_read.Goals as goal
 
+pub told_files_can_be_read-requires : goal.told_files_can_be_read-requires
+told_files_can_be_read-requires c = table_is_sound
+
 pub returns : goal.returns
-returns c = λ command content s text means before. told_read (reading_of command) content s text before [] (regular command) means
+returns c = c.told_files_can_be_read.ensures

@@ -1,10 +1,8 @@
-use Rattle.std.proofs.Common.{[]}
-use Rattle.te_command.specs.Files.{told_passes}
-use Rattle.te_command.specs.Commands.{reading_of}
-use Rattle.te_command.specs.Form.{MayAnswer}
-use Rattle.te_command.proofs.Ending.{proved}
-use Rattle.te_command.proofs.Table.{sound}
+use Rattle.te_command.proofs.Table.{table_is_sound}
 use Rattle.te_command.proofs.laws.told_yes_is_a_proof.Goals as goal
 
+pub told_yes_is_a_proof-requires : goal.told_yes_is_a_proof-requires
+told_yes_is_a_proof-requires c = table_is_sound
+
 pub returns : goal.returns
-returns c = λ command content text means. proved (MayAnswer command) (reading_of command) (told_passes content) [] text (sound command) means
+returns c = c.told_yes_is_a_proof.ensures

@@ -1,10 +1,8 @@
-use Rattle.std.specs.Vec.Iter.{into_iter_items}
-use Rattle.te_command.proofs.Arguments.{run_of_given, run_of_none}
+use Rattle.te_command.proofs.Table.{table_is_sound}
 use Rattle.te_command.proofs.serving.serve.Goals as goal
 
-pub returns-in-Ok-clause-words : goal.returns-in-Ok-clause-words
-returns-in-Ok-clause-words g c =
-    run_of_given c.args.args into_iter_items c.in-Ok.words.items _ _ c.run.result _ _ c.in-Ok.ensures.words c.run.ensures
+pub serve-requires : goal.serve-requires
+serve-requires g c = table_is_sound
 
-pub returns-in-Ok-clause-no_text : goal.returns-in-Ok-clause-no_text
-returns-in-Ok-clause-no_text g c = run_of_none c.args.args _ c.in-Ok.words.items _ _ c.run.result _ _ c.in-Ok.ensures.no_text c.run.ensures
+pub returns : goal.returns
+returns g c = c.serve.ensures

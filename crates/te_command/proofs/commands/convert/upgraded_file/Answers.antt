@@ -2,7 +2,7 @@ use Rattle.std.proofs.Common.{ap, ◌∙◌}
 use Rattle.std.proofs.lemmas.Result.{IfOk-weaker}
 use Rattle.te_model.specs.Text.{text}
 use Rattle.te_command.specs.Convert.{conversion_of}
-use Rattle.te_command.specs.Outcome.{status_of, answer_text}
+use Rattle.command_frame.specs.Outcome.{status_of, answer_text}
 use Rattle.te_command.proofs.commands.convert.upgraded_file.Goals as goal
 
 pub returns : goal.returns

@@ -4,12 +4,12 @@ use Rattle.std.proofs.lemmas.Result.{err_from_is_err_and}
 use Rattle.te_model.specs.declared.certificate.Certificate.{Certificate}
 use Rattle.te_model.specs.declared.certificate.Head.{Head}
 use Rattle.te_model.specs.declared.network.Network.{Network}
-use Rattle.te_command.specs.declared.answer.Fault.TheVariants.{Memory}
-use Rattle.te_command.specs.Reading.{answers, reads}
+use Rattle.command_frame.specs.declared.answer.Fault.TheVariants.{Memory}
+use Rattle.command_frame.specs.Reading.{answers, reads}
 use Rattle.te_command.specs.CertificateFile.{certificates}
 use Rattle.te_command.specs.TopologyFile.{topologies}
 use Rattle.te_command.specs.Check.{network_verdict_on}
-use Rattle.te_command.proofs.Following.{goes_on, stops, ends, falls_short}
+use Rattle.command_frame.proofs.Following.{goes_on, stops, ends, falls_short}
 use Rattle.te_command.proofs.commands.check_network.CheckNetworkAsk.answer.Goals as goal
 
 pub returns-in_err-same : goal.returns-in_err-same

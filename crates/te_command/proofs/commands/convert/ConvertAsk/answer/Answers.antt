@@ -1,11 +1,11 @@
 use Rattle.std.proofs.Common.{Ok, Err}
 use Rattle.std.proofs.lemmas.Result.{err_from_is_err_and}
 use Rattle.te_model.specs.declared.certificate.Certificate.{Certificate}
-use Rattle.te_command.specs.declared.answer.Fault.TheVariants.{Memory}
-use Rattle.te_command.specs.Reading.{answers}
+use Rattle.command_frame.specs.declared.answer.Fault.TheVariants.{Memory}
+use Rattle.command_frame.specs.Reading.{answers}
 use Rattle.te_command.specs.CertificateFile.{certificates}
 use Rattle.te_command.specs.Convert.{conversion_of}
-use Rattle.te_command.proofs.Following.{goes_on, ends, falls_short}
+use Rattle.command_frame.proofs.Following.{goes_on, ends, falls_short}
 use Rattle.te_command.proofs.commands.convert.ConvertAsk.answer.Goals as goal
 
 pub returns-in_err-upgraded_file : goal.returns-in_err-upgraded_file

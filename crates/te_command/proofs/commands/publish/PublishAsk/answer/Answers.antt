@@ -1,7 +1,7 @@
 use Rattle.std.proofs.lemmas.Result.{err_from_is_err_and}
-use Rattle.te_command.specs.Reading.{answers}
+use Rattle.command_frame.specs.Reading.{answers}
 use Rattle.te_command.specs.Publish.{publication_of}
-use Rattle.te_command.proofs.Following.{ends_or_falls_short}
+use Rattle.command_frame.proofs.Following.{ends_or_falls_short}
 use Rattle.te_command.proofs.Plans.{plan_stops, plan_goes_on}
 use Rattle.te_command.proofs.commands.publish.PublishAsk.answer.Goals as goal
 

@@ -1,7 +1,7 @@
 use Rattle.std.proofs.lemmas.Result.{err_from_is_err_and}
-use Rattle.te_command.specs.Reading.{answers}
+use Rattle.command_frame.specs.Reading.{answers}
 use Rattle.te_command.specs.Report.{report_of}
-use Rattle.te_command.specs.Commands.{with_failures}
+use Rattle.te_command.specs.PlanReading.{with_failures}
 use Rattle.te_command.proofs.Plans.{plan_stops, plan_goes_on}
 use Rattle.te_command.proofs.commands.run_plan.RunPlanAsk.answer.Goals as goal
 

@@ -1,0 +1,10 @@
+pub mod Ending
+pub mod Telling
+pub mod Following
+pub mod Asking
+pub mod Meaning
+pub mod Refusing
+pub mod Delivering
+pub mod Answering
+pub mod Running
+pub mod Arguments

@@ -1,0 +1,4 @@
+pub mod SizeFile
+pub mod Sizes
+pub mod Asked
+pub mod SoundSizes

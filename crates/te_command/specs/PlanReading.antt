@@ -1,0 +1,23 @@
+-- The files of a plan: the plan is read, its topology and its matrices, and its failures.
+use Rattle.std.specs.Prelude.{ℕ, List, Option, Some, None}
+use Rattle.te_model.specs.declared.network.Network.{Network}
+use Rattle.traffic_matrix.specs.declared.series.Series.{Series}
+use Rattle.failure.specs.Series.{no_failures}
+use Rattle.failure.specs.declared.outage.Failures.{Failures}
+use Rattle.plan.specs.declared.experiment.Experiment.{Experiment}
+use Rattle.command_frame.specs.Reading.{Reading, reads}
+use Rattle.te_command.specs.TopologyFile.{topologies}
+use Rattle.te_command.specs.MatrixFile.{matrices}
+use Rattle.te_command.specs.FailureFile.{failure_files}
+use Rattle.te_command.specs.PlanFile.{plans}
+
+-- a plan is read, then its topology and its matrices
+abbrev pub with_plan : List ℕ → (Experiment → Network → Series → Reading) → Reading
+with_plan file next =
+    reads Experiment plans file (λ plan. reads Network topologies plan.topology (λ network.
+    reads Series (matrices network) plan.matrices (λ series. next plan network series)))
+
+-- a failure file is read, where one is named
+abbrev pub with_failures : Network → Series → Option (List ℕ) → (Failures → Reading) → Reading
+with_failures network series None next = next no_failures
+with_failures network series (Some file) next = reads Failures (failure_files network series) file next
