@@ -6,7 +6,7 @@ import re
 
 # A call: its crate, its name (`read`, `MemSink::put`), what it takes, its clauses, what it answers but `Ok`, and whether it is of a trait.
 Call = collections.namedtuple("Call", "crate name takes clauses answers is_of_trait")
-# A function of a source file: the line of what it stands in, and whether it is a law, which does nothing.
+# A function of a source file: the line of what it stands in, and whether it is a law, which does nothing or cites the law of a crate below.
 Function = collections.namedtuple("Function", "file owner is_public name takes gives clauses is_law")
 
 OF_TESTS = re.compile(r"_tests$|^acceptance$|^sample_networks$")
@@ -17,6 +17,7 @@ OF_MEMORY = ("Memory", "AllocError")
 # The calls that answer a status of the program, and these but for 0.
 OF_STATUS, STATUSES = ("run", "serve"), list("1234567")
 
+OF_LAWS = re.compile(r"(^|/)laws(\.rt)?$")
 OWNER = re.compile(r"(?:pub )?(impl|trait)\b(.*)")
 HEAD = re.compile(r"( *)((?:pub )?)(?:const )?fn (\w+)")
 CLAUSE = re.compile(r" +(requires|ensures)(?: (\w+))? \{")
@@ -103,7 +104,7 @@ def function_of(file, owner, started, head):
     signature = " ".join(it.strip() for it in head[:first]).replace("->", "→").rstrip("{}; ")
     takes, gives = taken_and_given(signature)
     clauses = [it.group(2) or "ensures" for it in marks if it and it.group(1) == "ensures"]
-    is_law = head[-1].endswith("{}") and not gives and "&mut" not in takes
+    is_law = (head[-1].endswith("{}") or OF_LAWS.search(file) is not None) and not gives and "&mut" not in takes
     return Function(file, owner, bool(started.group(2)), started.group(3), takes, gives, clauses, is_law)
 
 
@@ -162,7 +163,8 @@ class PublicCalls:
                 name = None if it.is_law else self.name_of(crate, it)
                 if name:
                     is_of_trait = name.partition("::")[0] in self.traits
-                    self.calls[crate.name, name] = Call(crate.name, name, it.takes, it.clauses, self.answers_of(crate, it), is_of_trait)
+                    answers = STATUSES if it.name in OF_STATUS else self.answers_of(crate, it.gives)
+                    self.calls[crate.name, name] = Call(crate.name, name, it.takes, it.clauses, answers, is_of_trait)
         self.add_clauses_of_traits()
 
     def name_of(self, crate, it):
@@ -187,18 +189,19 @@ class PublicCalls:
                     more = of_trait.get(f"{trait_and_type(it.owner)[0]}::{it.name}", [])
                     self.calls[key] = self.calls[key]._replace(clauses=it.clauses + [clause for clause in more if clause not in it.clauses])
 
-    def answers_of(self, crate, it):
-        """What a function can answer but `Ok`, or but what it was asked for: `None` and `false` in an `Ok` are such answers too."""
-        if it.gives.startswith("io::Result<"):
+    def answers_of(self, crate, gives):
+        """What a function that gives this can answer but `Ok`, or but what it was asked for: `None` and `false` in an `Ok` are such answers too."""
+        if gives.startswith("io::Result<"):
             return ["io::Error"]
-        made = re.match(r"(Result|Option)<(.*)>$", it.gives)
+        made = re.match(r"(Result|Option)<(.*)>$", gives)
         if not made:
-            return STATUSES if it.name in OF_STATUS else ["No"] if "No" in self.variants_of(crate, it.gives) else []
+            variants = self.variants_of(crate, gives)
+            return variants if gives.endswith("Fault") else ["No"] if "No" in variants else []
         if made.group(1) == "Option":
-            return ["Some" if made.group(2).endswith("Fault") else "None"]
+            return ["Some" if made.group(2).endswith("Fault") else "None"] + self.answers_of(crate, made.group(2)) * made.group(2).startswith("Result<")
         good, fault = split_list(made.group(2))
         more = ["None"] if good.startswith("Option<") else ["false"] if good == "bool" else []
-        return more + (self.variants_of(crate, fault) or [fault])
+        return more + (self.variants_of(crate, fault.partition("<")[0]) or [fault])
 
     def variants_of(self, crate, name):
         """The variants of an enum of this crate, or else of another."""
