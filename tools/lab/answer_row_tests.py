@@ -94,6 +94,12 @@ pub fn copy(alloc: Global, kind: &Kind) -> Result<Option<Kind>, AllocError>
     Ok(None)
 }
 """
+LAWS_OF_LOW = """//! Laws.
+/// A law.
+pub fn nothing_is_lost()
+    ensures { ⊤ }
+{}
+"""
 TESTS = """//! Tests.
 #[test]
 fn bytes_are_taken(rt: HostRuntime) {}
@@ -128,9 +134,10 @@ ANSWERS = """# Answers
 """
 FILES = {
     "crates.txt": "low:\nlow_tests: low\nyates: low\n",
-    "crates/low/src/lib.rt": "//! Low.\nmod port;\npub mod kinds;\n\npub use port::{\n    Bytes, Fault, Port, kind_of, kinds_are_one,\n};\npub use kinds::Kind as Sort;\n",
+    "crates/low/src/lib.rt": "//! Low.\nmod port;\npub mod kinds;\npub mod laws;\n\npub use port::{\n    Bytes, Fault, Port, kind_of, kinds_are_one,\n};\npub use kinds::Kind as Sort;\n",
     "crates/low/src/port.rt": PORT,
     "crates/low/src/kinds.rt": KINDS,
+    "crates/low/src/laws.rt": LAWS_OF_LOW,
     "crates/low_tests/src/lib.rt": TESTS,
     "crates/yates/src/main.rt": "pub fn main() -> Option<u8> {\n    None\n}\n",
     "tools/tool": "",
@@ -154,7 +161,7 @@ low kind_of
     clauses: ensures
 """
 ROW_OF_KIND = "| `kind_of` | `None` | `ensures` | exactly where there is no byte | - | `low: kinds_are_one` |\n"
-DOCUMENT, SOURCE = "docs/ANSWERS.md", "crates/low/src/port.rt"
+DOCUMENT, SOURCE, LAWS = "docs/ANSWERS.md", "crates/low/src/port.rt", "crates/low/src/laws.rt"
 
 # What is changed, the file, a piece of it, what stands in its place, and what is told.
 CHANGES = [
@@ -209,6 +216,20 @@ CHANGES = [
         "a law is no law", SOURCE, "⊤ }\n{}\n", "⊤ }\n{\n    copy()\n}\n",
         ["line 12: there is no low: kinds_are_one", "low: kinds_are_one is not among the calls that take no memory"],
     ),
+    (
+        "a fault of a generic type", SOURCE, ") -> Option<Kind>", ") -> Result<Kind, Fault<Self::Kind>>",
+        ["line 12: kind_of does not answer None", "low: kind_of answers Short, which no row says", "low: kind_of answers Memory, which no row says", "line 19: kind_of can answer that memory is short"],
+    ),
+    (
+        "a result that may not be there", SOURCE, ") -> Option<Kind>", ") -> Option<Result<Kind, Fault>>",
+        ["low: kind_of answers Short, which no row says", "low: kind_of answers Memory, which no row says", "line 19: kind_of can answer that memory is short"],
+    ),
+    (
+        "a fault that is given outright", SOURCE, ") -> Option<Kind>", ") -> Fault",
+        ["line 12: kind_of does not answer None", "low: kind_of answers Short, which no row says", "low: kind_of answers Memory, which no row says", "line 19: kind_of can answer that memory is short"],
+    ),
+    ("a law cites that of a crate below", LAWS, "⊤ }\n{}\n", "⊤ }\n{\n    low::kinds_are_one(&Kind)\n}\n", []),
+    ("a law answers", LAWS, "fn nothing_is_lost()", "fn nothing_is_lost() -> bool", ["low: nothing_is_lost is not among the calls that take no memory"]),
 ]
 
 
