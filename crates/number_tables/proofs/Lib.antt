@@ -5,5 +5,7 @@ pub mod Steps
 pub mod Body
 pub mod Whole
 pub mod Printing
-pub mod DueLines
+pub mod FirstUndue
 pub mod PassingLines
+pub mod TakingDue
+pub mod FirstRules

@@ -1,5 +1,6 @@
-//! A law of small files. A law of the definitions is the contract of a function that does nothing.
+//! Laws of small files. A law of the definitions is the contract of a function that does nothing.
 ghost use Rattle.number_tables.specs.Due.{FirstUndueLeaves, OneSmallFault};
+ghost use Rattle.number_tables.specs.Rules.{SearchFindsFirstRule};
 
 /// A table is a small file exactly where each of its lines is due; where one is not, the first such line is the one at
 /// which the bytes leave all files of this kind. Each file that was begun can be ended.
@@ -11,4 +12,10 @@ pub fn first_undue_line_leaves()
 /// it is the line at which they leave the tables, wherever a line that is not due stands.
 pub fn small_files_have_one_fault()
     ensures { OneSmallFault }
+{}
+
+/// The search of rules finds the failing one of the least number, at its least place, and none exactly where all hold. The
+/// search of the rules of a certificate is one of these.
+pub fn search_finds_first_rule()
+    ensures { SearchFindsFirstRule }
 {}
