@@ -4,3 +4,11 @@ pub mod LinkLoads
 pub mod Ratios
 pub mod KeptRules
 pub mod Verdicts
+pub mod PutLines
+pub mod FirstUndue
+pub mod Ending
+pub mod Narrowing
+pub mod OneWitness
+pub mod TakenLines
+pub mod SpelledLines
+pub mod ReadAnswers
