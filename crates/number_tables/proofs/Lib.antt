@@ -7,3 +7,4 @@ pub mod Whole
 pub mod Printing
 pub mod DueLines
 pub mod PassingLines
+pub mod EachFile

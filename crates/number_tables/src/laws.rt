@@ -1,5 +1,5 @@
 //! A law of small files. A law of the definitions is the contract of a function that does nothing.
-ghost use Rattle.number_tables.specs.Due.{FirstUndueLeaves, OneSmallFault};
+ghost use Rattle.number_tables.specs.Due.{SmallFileOrFault, FirstUndueLeaves, OneSmallFault};
 
 /// A table is a small file exactly where each of its lines is due; where one is not, the first such line is the one at
 /// which the bytes leave all files of this kind. Each file that was begun can be ended.
@@ -11,4 +11,9 @@ pub fn first_undue_line_leaves()
 /// it is the line at which they leave the tables, wherever a line that is not due stands.
 pub fn small_files_have_one_fault()
     ensures { OneSmallFault }
+{}
+
+/// Bytes are a small file of a kind, or leave these files at a line.
+pub fn small_file_or_fault()
+    ensures { SmallFileOrFault }
 {}
