@@ -5,6 +5,8 @@ pub mod Feeding
 pub mod Regular
 pub mod PlanFiles
 pub mod Checking
+pub mod WitnessFiles
+pub mod CheckingWitnesses
 pub mod Converting
 pub mod Alike
 pub mod Publishing
