@@ -1,7 +1,7 @@
 //! Small files of words and numbers: what is taken as a table, and at which line other bytes leave the tables.
 use crate::cases::{Case, all_hold};
 use number_tables::spelling::read_and_print;
-use number_tables::{TableFault, TableLines, pass_over_table, table};
+use number_tables::{DueLines, TableFault, TableLines, pass_over_table, table};
 use std::alloc::Global;
 
 // The first line of these tables.
@@ -70,6 +70,37 @@ const FILES: &[File] = &[
     File("end\n", false),
 ];
 
+// The bytes after the first line of a small file: `count` with a number, as many lines of two numbers, and nothing more; and
+// the line at which other bytes leave these files.
+struct DueBody<'a>(&'a str, Option<u64>);
+
+const DUE_BODIES: &[DueBody] = &[
+    DueBody("count 0\nend\n", None),
+    DueBody("count 2\n1 2\n3 4\nend\n", None),
+    DueBody("end\n", Some(2)),
+    DueBody("counts 1\n1 2\nend\n", Some(2)),
+    DueBody("1\n1 2\nend\n", Some(2)),
+    DueBody("count\n1 2\nend\n", Some(2)),
+    DueBody("count 1 1\n1 2\nend\n", Some(2)),
+    DueBody("count 1\n1\nend\n", Some(3)),
+    DueBody("count 1\n1 2 3\nend\n", Some(3)),
+    DueBody("count 1\npair 1 2\nend\n", Some(3)),
+    DueBody("count 2\n1 2\nend\n", Some(4)),
+    DueBody("count 1\n1 2\n3 4\nend\n", Some(4)),
+    // A fault of the table comes first.
+    DueBody("counts 1\n1 2\nend \n", Some(4)),
+];
+
+// Takes the lines of such a file.
+fn pass_due_lines(alloc: Global, bytes: &[u8]) -> Result<(), TableFault> {
+    let mut lines = DueLines::new(alloc, FIRST, bytes)?;
+    let count = lines.number(alloc, b"count")?;
+    for _ in 0..count {
+        lines.numbers(alloc, b"", 2)?;
+    }
+    lines.end(alloc)
+}
+
 // The line at which the bytes leave the tables, and 0 where they are one.
 fn faulty_line(alloc: Global, bytes: &[u8]) -> Option<u64> {
     match table(alloc, FIRST, bytes) {
@@ -126,6 +157,19 @@ impl<'a> Case for Body<'a> {
     }
 }
 
+impl<'a> Case for DueBody<'a> {
+    fn holds(&self, alloc: Global) -> bool {
+        let Ok(file) = format!(in alloc; "yates-x 1\n{}", self.0) else {
+            return false;
+        };
+        match pass_due_lines(alloc, file.as_bytes()) {
+            Ok(()) => self.1.is_none(),
+            Err(TableFault::Shape(line)) => self.1 == Some(line),
+            Err(TableFault::Memory) => false,
+        }
+    }
+}
+
 impl<'a> Case for File<'a> {
     fn holds(&self, alloc: Global) -> bool {
         let line = if self.1 { 0 } else { 1 };
@@ -141,4 +185,9 @@ fn files_have_their_first_line(rt: HostRuntime) {
 #[test]
 fn bodies_are_taken_or_left_at_their_line(rt: HostRuntime) {
     all_hold(&rt, rt.alloc(), BODIES);
+}
+
+#[test]
+fn lines_are_taken_where_they_are_due(rt: HostRuntime) {
+    all_hold(&rt, rt.alloc(), DUE_BODIES);
 }

@@ -11,7 +11,7 @@ use Rattle.number_tables.specs.Leaving.{LeavesAfter, body_lines}
 use Rattle.number_tables.specs.Reading.{begins_with_end, read_line}
 use Rattle.number_tables.specs.Table.{AreLines, file_of, table_lines, table_text}
 use Rattle.number_tables.proofs.Body.{HasRead, nothing_read, one_more_line, fewer_left, stops_at_line, stops_after_end, ends_well}
-use Rattle.number_tables.proofs.DueLines.{first_undue_leaves}
+use Rattle.number_tables.proofs.FirstUndue.{first_undue_leaves}
 use Rattle.number_tables.proofs.Whole.{first_stops, first_end_stops, took_first, lines_after_first, leaves_tables}
 
 -- from a place on, lines whose file it is

@@ -5,6 +5,8 @@ pub mod Steps
 pub mod Body
 pub mod Whole
 pub mod Printing
-pub mod DueLines
+pub mod FirstUndue
 pub mod PassingLines
 pub mod EachFile
+pub mod TakingDue
+pub mod FirstRules

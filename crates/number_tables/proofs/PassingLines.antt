@@ -106,12 +106,12 @@ left_over [] bytes al same more = absurd (let last : begins_with_end bytes ≡ t
 left_over (l ∷ ls) bytes al same more = record { head = l; tail = ls; same = refl; good = al.0; parts = same ∙ append_assoc (line_text l) (10 ∷ []) (file_of (body_lines ls)) }
 
 pub next_is_first : (ls : List NumLine) (p : Place) (l : NumLine) (q : Place) → AreLines ls → p.rest ≡ file_of (body_lines ls) → begins_with_end p.rest ≡ false → read_line p ≡ Ok (l, q)
-    → (more : List NumLine) × (ls ≡ l ∷ more) × (q.rest ≡ file_of (body_lines more))
+    → (more : List NumLine) × (ls ≡ l ∷ more) × (q.rest ≡ file_of (body_lines more)) × (q.line ≡ p.line + 1)
 next_is_first ls p l q al same more e =
     let left = left_over ls p.rest al same more in
     let again = ap (λ (y : List ℕ). read_line (place p.line y)) left.parts ∙ line_again left.head p.line (file_of (body_lines left.tail)) left.good in
     let one : ◌≡◌ {A = NumLine × Place} (l, q) (left.head, place (p.line + 1) (file_of (body_lines left.tail))) = ok_is {A = NumLine × Place} (l, q) (left.head, place (p.line + 1) (file_of (body_lines left.tail))) (sym e ∙ again) in
-    (left.tail, left.same ∙ ap (λ (y : NumLine × Place). y.0 ∷ left.tail) (sym one), ap (λ (y : NumLine × Place). y.1.rest) one)
+    (left.tail, left.same ∙ ap (λ (y : NumLine × Place). y.0 ∷ left.tail) (sym one), ap (λ (y : NumLine × Place). y.1.rest) one, ap (λ (y : NumLine × Place). y.1.line) one)
 
 pub no_next_fault : (ls : List NumLine) (p : Place) (e : Stop) → AreLines ls → p.rest ≡ file_of (body_lines ls) → begins_with_end p.rest ≡ false → Stops e (read_line p) → fault_of e ≡ faults.Memory
 no_next_fault ls p stops.Memory al same more s = refl
@@ -135,7 +135,8 @@ first_ends X first body p mid stops.Memory same room w s = room refl
 first_ends X first body p mid (stops.Shape k) same room w s =
     not_ok (place (p.line + 1) body) k (read_word first p >>= read_line_end) (ap (λ (r : Result Place ℕ). r >>= read_line_end) w ∙ s) (first_read first body p same)
 
-pub behind_it : (first body : List ℕ) (p mid q : Place) → p.rest ≡ (first ++ 10 ∷ []) ++ body → read_word first p ≡ Ok mid → read_line_end mid ≡ Ok q → q.rest ≡ body
+pub behind_it : (first body : List ℕ) (p mid q : Place) → p.rest ≡ (first ++ 10 ∷ []) ++ body → read_word first p ≡ Ok mid → read_line_end mid ≡ Ok q → (q.rest ≡ body) × (q.line ≡ p.line + 1)
 behind_it first body p mid q same w l =
     let read : (read_word first p >>= read_line_end) ≡ Ok q = ap (λ (r : Result Place ℕ). r >>= read_line_end) w ∙ l in
-    ap (λ (y : Place). y.rest) (ok_is q (place (p.line + 1) body) (sym read ∙ first_read first body p same))
+    let one = ok_is q (place (p.line + 1) body) (sym read ∙ first_read first body p same) in
+    (ap (λ (y : Place). y.rest) one, ap (λ (y : Place). y.line) one)

@@ -1,5 +1,5 @@
 -- Small files: tables of which each line says what is due after it.
-use Rattle.std.specs.Prelude.{◌≡◌, ◌↔◌, ℕ, suc, ◌+◌, List, [], ◌∷◌, Bool, IsTrue, ◌&&◌, ◌⊎◌, Option, Some, None, bytes_eq, if◌then◌else◌}
+use Rattle.std.specs.Prelude.{◌≡◌, ◌↔◌, ℕ, suc, ◌+◌, List, [], ◌∷◌, Bool, IsTrue, ◌&&◌, ◌⊎◌, Option, Some, None, bytes_eq, ◌==◌, length, if◌then◌else◌}
 use Rattle.te_model.specs.Faults.{line_ends, LeavesAt}
 use Rattle.number_tables.specs.declared.line.NumLine.{NumLine}
 use Rattle.number_tables.specs.Table.{IsLine, AreLines, table_text}
@@ -8,6 +8,14 @@ use Rattle.number_tables.specs.Table.{IsLine, AreLines, table_text}
 pub data Due : Type 0 where
   done : Due
   line : (word : List ℕ) → (test : List ℕ → Bool) → (next : List ℕ → Due) → Due
+
+-- a line of a word, which is empty where there is none, and numbers
+abbrev pub word_line : List ℕ → List ℕ → NumLine
+word_line word numbers = record { word = word; numbers = numbers }
+
+-- so many numbers
+abbrev pub has_count : ℕ → List ℕ → Bool
+has_count count numbers = length numbers == count
 
 -- the lines are those that are due
 abbrev pub AreDue : Due → List NumLine → Type 0
@@ -20,7 +28,7 @@ AreDue (line word test next) (l ∷ ls) = (l.word ≡ word) × IsTrue (test l.nu
 abbrev pub CanEnd : Due → Type 0
 CanEnd done = Unit {0}
 CanEnd (line word test next) =
-    ((numbers : List ℕ) × IsLine (record { word = word; numbers = numbers }) × IsTrue (test numbers))
+    ((numbers : List ℕ) × IsLine (word_line word numbers) × IsTrue (test numbers))
     × ((numbers : List ℕ) → IsTrue (test numbers) → CanEnd (next numbers))
 
 abbrev pub one_later : Option ℕ → Option ℕ

@@ -4,3 +4,5 @@ pub mod Reading
 pub mod Leaving
 pub mod Due
 pub mod Passing
+pub mod TakingDue
+pub mod Rules

@@ -20,8 +20,13 @@ PassesLines lines_of (Err stops.Memory) p = Unit {0}
 abbrev pub StandsBefore : TableLines → List NumLine → Type 0
 StandsBefore lines ls = lines.reader.source.bytes.now ≡ file_of (body_lines ls)
 
--- the next of these lines, or that there is none, or want of memory
-abbrev pub GivesNext : Result (Option NumLine) TableFault → TableLines → List NumLine → Type 0
-GivesNext (Ok None) after ls = ls ≡ []
-GivesNext (Ok (Some l)) after ls = (more : List NumLine) × (ls ≡ l ∷ more) × StandsBefore after more
-GivesNext (Err fault) after ls = fault ≡ faults.Memory
+-- the number in the file of the line that is next, counted from 1
+abbrev pub next_number : TableLines → ℕ
+next_number lines = lines.reader.line
+
+-- the next of these lines, or that there is none, and nothing changes, or want of memory
+abbrev pub GivesNext : Result (Option NumLine) TableFault → TableLines → TableLines → List NumLine → Type 0
+GivesNext (Ok None) before after ls = (ls ≡ []) × (after ≡ before)
+GivesNext (Ok (Some l)) before after ls =
+    (more : List NumLine) × (ls ≡ l ∷ more) × StandsBefore after more × (next_number after ≡ next_number before + 1)
+GivesNext (Err fault) before after ls = fault ≡ faults.Memory

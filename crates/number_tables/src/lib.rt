@@ -1,6 +1,7 @@
 //! Tables of words and numbers, the common form of small files: reading and printing.
 #![tactic(auto)]
 
+mod due;
 mod fault;
 pub mod laws;
 mod line;
@@ -10,6 +11,7 @@ pub mod spelling;
 mod word;
 mod writer;
 
+pub use due::DueLines;
 pub use fault::TableFault;
 pub use line::NumLine;
 pub use lines::{TableLines, pass_over_table};

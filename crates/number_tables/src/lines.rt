@@ -2,7 +2,7 @@
 ghost use Rattle.std.specs.Prelude.{◌≡◌, ℕ, ◌⊎◌, List, Ok, Err, IfOk};
 ghost use Rattle.te_model.specs.Faults.{line_ends, LeavesAt};
 ghost use Rattle.number_tables.specs.Leaving.{place_of, body_lines};
-ghost use Rattle.number_tables.specs.Passing.{PassesLines, StandsBefore, GivesNext};
+ghost use Rattle.number_tables.specs.Passing.{PassesLines, StandsBefore, GivesNext, next_number};
 ghost use Rattle.number_tables.specs.Table.{AreLines, table_lines, table_text};
 
 use crate::fault::TableFault;
@@ -68,12 +68,19 @@ impl<'a> TableLines<'a> {
     /// `Shape(1)` where the bytes have another first line; they may be no table all the same.
     pub fn new(first: &[u8], bytes: &'a [u8]) -> Result<TableLines<'a>, TableFault>
         ensures { (ls : List NumLine) → bytes.now ≡ table_text first.now ls →
-            (lines : TableLines) × (result ≡ Ok lines) × StandsBefore lines ls }
+            (lines : TableLines) × (result ≡ Ok lines) × StandsBefore lines ls × (next_number lines ≡ 2) }
     {
         let mut reader = Reader::new(Bytes::new(bytes));
         reader.word(first)?;
         reader.end_line()?;
         Ok(TableLines { reader })
+    }
+
+    /// The number of the next line in the file, counted from 1.
+    pub fn number(&self) -> u64
+        ensures { result ≡ next_number self.now }
+    {
+        self.reader.line()
     }
 
     /// The next line, or `None` at the end.
@@ -82,7 +89,7 @@ impl<'a> TableLines<'a> {
     ///
     /// Of a table only `Memory`, where memory runs out.
     pub fn next_line(&mut self, alloc: Global) -> Result<Option<NumLine>, TableFault>
-        ensures { (ls : List NumLine) → AreLines ls → StandsBefore self.old ls → GivesNext result self.new ls }
+        ensures { (ls : List NumLine) → AreLines ls → StandsBefore self.old ls → GivesNext result self.old self.new ls }
     {
         if is_end_next(self.reader.source().left()) {
             return Ok(None);

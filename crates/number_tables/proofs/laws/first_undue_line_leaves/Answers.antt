@@ -1,4 +1,4 @@
-use Rattle.number_tables.proofs.DueLines.{first_undue_leaves}
+use Rattle.number_tables.proofs.FirstUndue.{first_undue_leaves}
 use Rattle.number_tables.proofs.laws.first_undue_line_leaves.Goals as goal
 
 pub returns : goal.returns

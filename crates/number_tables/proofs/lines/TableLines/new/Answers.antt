@@ -1,4 +1,4 @@
-use Rattle.std.proofs.Common.{ap, ◌∙◌, refl}
+use Rattle.std.proofs.Common.{◌+◌, ap, ◌∙◌, refl}
 use Rattle.cert_text.specs.Place.{Place, place}
 use Rattle.number_tables.specs.Leaving.{place_of, body_lines}
 use Rattle.number_tables.specs.Table.{file_of}
@@ -17,5 +17,7 @@ returns-in_err-end_line c = λ ls same.
 
 pub returns : goal.returns
 returns c = λ ls same.
-    let from = ap (λ (p : Place). p.rest) (c.new-reader.ensures.place ∙ ap (place 1) c.new.ensures) in
-    (record { reader = c.end_line.new.self }, refl, behind_it c.args.first.now (file_of (body_lines ls)) (place_of c.new-reader.result) (place_of c.word.new.self) (place_of c.end_line.new.self) (from ∙ same) (c.in_ok-word.ensures.takes.reads tt) (c.in_ok-end_line.ensures.takes.reads tt))
+    let at = c.new-reader.ensures.place ∙ ap (place 1) c.new.ensures in
+    let from = ap (λ (p : Place). p.rest) at in
+    let behind = behind_it c.args.first.now (file_of (body_lines ls)) (place_of c.new-reader.result) (place_of c.word.new.self) (place_of c.end_line.new.self) (from ∙ same) (c.in_ok-word.ensures.takes.reads tt) (c.in_ok-end_line.ensures.takes.reads tt) in
+    (record { reader = c.end_line.new.self }, refl, behind.0, behind.1 ∙ ap (λ (p : Place). p.line + 1) at)

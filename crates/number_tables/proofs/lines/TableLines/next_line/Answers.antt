@@ -1,4 +1,4 @@
-use Rattle.std.proofs.Common.{sym, ap, ◌∙◌}
+use Rattle.std.proofs.Common.{sym, ap, ◌∙◌, refl}
 use Rattle.std.proofs.lemmas.Result.{err_from_is_err_and}
 use Rattle.number_tables.specs.Leaving.{place_of}
 use Rattle.number_tables.specs.Reading.{begins_with_end}
@@ -8,7 +8,7 @@ use Rattle.number_tables.proofs.lines.TableLines.next_line.Goals as goal
 pub returns-then-is_end_next : goal.returns-then-is_end_next
 returns-then-is_end_next c = λ ls al same.
     let last = c.is_end_next.ensures ∙ ap begins_with_end (c.left.ensures ∙ ap (λ s. s.bytes.now) c.source.ensures) in
-    no_line_left ls c.args.self.now.reader.source.bytes.now al same (sym last ∙ c.if-is_end_next.true)
+    (no_line_left ls c.args.self.now.reader.source.bytes.now al same (sym last ∙ c.if-is_end_next.true), refl)
 
 pub returns-in_err-line : goal.returns-in_err-line
 returns-in_err-line c = λ ls al same.
