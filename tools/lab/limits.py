@@ -74,8 +74,6 @@ def witnesses():
     below = "yates-witness 1\n"
     for what, head, unit, line in (("zeros", "", b"\0", 1), ("zeros below the first line", below, b"\0", 2), ("line feeds after the end", OF_SMALLEST, b"\n", 8)):
         yield from at_limit(what, "witness", head, unit, WITNESS_LIMIT, f"shape at line {line}")
-    # The last of them is whole, and no `end` stands below it.
-    yield "lines of one number", "witness", filled_file(below, b"1\n", len(below) + 60_000_000), "shape at line 30000002"
     yield "numbers of one line", "witness", filled_file(OF_SMALLEST.partition(" 1000000\n1\n")[0], b" 1", INPUT), "shape at line 4"
 
 

@@ -37,8 +37,8 @@ verdict_small h w s text is = let small = status_small (verdict_of (verdict_faul
 -- a yes is a proof
 verdict_proves : (h : Head) (w : Witness) (text : List ℕ) → IsValidHead h → KeepsRules h w → IsBoundVerdict h w 0 text → IsBoundProof h w
 verdict_proves h w text valid keeps is =
-    let yes = is_yes (verdict_of (verdict_fault h w)) is.0 in
-    record { member = yes_is_member h w keeps yes; rival = is_rival h w keeps; bound = yes_shows h w valid keeps yes }
+    let says = is_yes (verdict_of (verdict_fault h w)) is.0 in
+    record { member = yes_is_member h w keeps says; rival = is_rival h w keeps; bound = yes_shows h w valid keeps says }
 
 verdict_sound : (h : Head) (w : Witness) → IsValidHead h → KeepsRules h w → IsSound (λ s text. s ≤ 1) (bound_verdict_on h w)
 verdict_sound h w valid keeps = record {

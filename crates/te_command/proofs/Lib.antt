@@ -9,6 +9,7 @@ pub mod WitnessFiles
 pub mod CheckingWitnesses
 pub mod Converting
 pub mod Alike
+pub mod WitnessedAlike
 pub mod Publishing
 pub mod Reporting
 pub mod Drawing

@@ -7,7 +7,7 @@ use Rattle.ratio_witness.specs.declared.witness.Witness.{Witness}
 use Rattle.ratio_witness.specs.Answers.{IsBoundVerdict}
 use Rattle.ratio_witness.specs.Rules.{demand_of}
 use Rattle.ratio_witness.specs.Witness.{IsRivalOf, NoLowerRatio}
-use Rattle.command_frame.specs.Reading.{Answers, answers, reads}
+use Rattle.command_frame.specs.Reading.{Answers, Reading, answers, reads}
 use Rattle.command_frame.specs.Table.{Entry}
 use Rattle.te_command.specs.CertificateFile.{certificates}
 use Rattle.te_command.specs.WitnessFile.{witnesses}
@@ -26,11 +26,14 @@ bound_verdict_on head witness = record {
   proves = λ line. IsBoundProof head witness;
 }
 
+-- the witness of a head is read
+abbrev pub witness_reading : List ℕ → Head → Reading
+witness_reading witness head = reads Witness (witnesses head) witness (λ rival. answers (bound_verdict_on head rival))
+
 -- `check-witness CERT WITNESS` says yes or no of the witness, in one text
 abbrev pub check_witness_entry : List ℕ → List ℕ → Entry
 check_witness_entry certificate witness = record {
-  reading = reads Certificate certificates certificate
-      (λ spelled. reads Witness (witnesses spelled.head) witness (λ rival. answers (bound_verdict_on spelled.head rival)));
+  reading = reads Certificate certificates certificate (λ spelled. witness_reading witness spelled.head);
   may_answer = λ status text. status ≤ 1;
   has_one_text = Unit {0};
   in_range = Unit {0};

@@ -87,7 +87,9 @@ impl<'a> FileKind for Witnesses<'a> {
         match ratio_witness::read(alloc, self.head, bytes) {
             Ok(witness) => Ok(witness),
             Err(WitnessFault::Shape(line)) => Err(BytesFault::Refused(FormatReason::Shape(line))),
-            Err(WitnessFault::Rule(rule)) => Err(BytesFault::Refused(FormatReason::Rule("U", rule))),
+            Err(WitnessFault::Rule(rule)) => Err(BytesFault::Refused(FormatReason::Rule(
+                "U", rule,
+            ))),
             Err(WitnessFault::Memory) => Err(BytesFault::Memory),
         }
     }
