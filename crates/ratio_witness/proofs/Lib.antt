@@ -1,0 +1,15 @@
+pub mod Lower
+pub mod Ends
+pub mod LinkLoads
+pub mod Ratios
+pub mod KeptRules
+pub mod Verdicts
+pub mod PutLines
+pub mod FirstUndue
+pub mod Ending
+pub mod Narrowing
+pub mod OneWitness
+pub mod TakenLines
+pub mod SpelledLines
+pub mod ReadAnswers
+pub mod OneReading
