@@ -19,7 +19,7 @@ use Rattle.te_command.specs.Refusals.{shape_reason, rule_reason}
 use Rattle.te_ports.specs.Shown.{Shown}
 use Rattle.command_frame.specs.Outcome.{KeepsDepot, ReadsFile}
 use Rattle.te_command.specs.Blocks.{IsFed, IsFedWhole, ReadsOn, IsAnswerTo, FeedsFile, link_after}
-use Rattle.te_command.proofs.Streaming.{StandsAfter, after_more, after_on, after_whole, after_stops, text_file}
+use Rattle.te_command.proofs.Streaming.{HasReadSoFar, after_more, after_on, after_whole, after_stops, text_file}
 
 follows_after : (before : Option ℕ) (link : ℕ) → IsTrue (follows before link) → link_after before ≤ link
 follows_after None link is = omega arith
@@ -42,9 +42,9 @@ fed_valid file old mid reader next feed block s valid same =
     (subst (λ b. IsValidBlock s.head b) (sym same) (valid s.head s.fed.read.stands.of_head))
 
 -- and the reader stands after it
-stands_after : (file : List ℕ) (old new : Shown) (reader : BlockReader) (feed : Feed) (s : StandsFed file old new reader feed) →
-    StandsAfter file old new reader s.head s.blocks
-stands_after file old new reader feed s = record { read = s.fed.read; named = s.named; steady = s.steady; may = s.may }
+read_so_far : (file : List ℕ) (old new : Shown) (reader : BlockReader) (feed : Feed) (s : StandsFed file old new reader feed) →
+    HasReadSoFar file old new reader s.head s.blocks
+read_so_far file old new reader feed s = record { read = s.fed.read; named = s.named; steady = s.steady; may = s.may }
 
 -- the same after one block more
 pub fed_more : (file : List ℕ) (old mid new : Shown) (reader next : BlockReader) (feed more : Feed) (block : Block) →
@@ -55,7 +55,7 @@ pub fed_more : (file : List ℕ) (old mid new : Shown) (reader next : BlockReade
     block ≡ lent_block next → last_link next ≡ Some (lent_block next).link → next_link more ≡ block.link + 1 →
     name_of next ≡ name_of reader → new.faults ≡ mid.faults → KeepsDepot mid new → StandsFed file old new next more
 fed_more file old mid new reader next feed more block s handed given same last follows named steady may =
-    let on = after_more file old mid new reader next s.head s.blocks (stands_after file old mid reader feed s) handed named steady may in
+    let on = after_more file old mid new reader next s.head s.blocks (read_so_far file old mid reader feed s) handed named steady may in
     record {
       head = s.head;
       blocks = s.blocks ++ lent_block next ∷ [];
@@ -79,7 +79,7 @@ may_follow reader next feed block at same above =
 pub fed_on : (file : List ℕ) (old mid new : Shown) (reader : BlockReader) (feed : Feed) → StandsFed file old mid reader feed →
     new.faults ≡ mid.faults → KeepsDepot mid new → ReadsOn {A = Feed} file old new (Ok feed)
 fed_on file old mid new reader feed s steady may =
-    after_on feed file old mid new reader s.head s.blocks (stands_after file old mid reader feed s) steady may
+    after_on feed file old mid new reader s.head s.blocks (read_so_far file old mid reader feed s) steady may
 
 -- or reading of it stopped
 pub fed_stops : {A B : Type 0} (file : List ℕ) (old mid new : Shown) (reader : BlockReader) (feed : Feed) (fault : StreamFault) →
@@ -90,7 +90,7 @@ pub fed_stops : {A B : Type 0} (file : List ℕ) (old mid new : Shown) (reader :
     ((◌≡◌ {A = Result A StreamFault} (Err fault) (Err faults.Failed) → ⊥) → new.faults ≡ mid.faults) → KeepsDepot mid new →
     ReadsOn {A = B} file old new (Err fault)
 fed_stops {A} {B} file old mid new reader feed fault s refused failed steady may =
-    after_stops {A = A} {B = B} file old mid new reader s.head s.blocks fault (stands_after file old mid reader feed s) refused failed steady may
+    after_stops {A = A} {B = B} file old mid new reader s.head s.blocks fault (read_so_far file old mid reader feed s) refused failed steady may
 
 -- at the end of the file the feed was given a certificate
 pub fed_whole : (file : List ℕ) (old mid new : Shown) (reader : BlockReader) (feed : Feed) → StandsFed file old mid reader feed →
@@ -98,7 +98,7 @@ pub fed_whole : (file : List ℕ) (old mid new : Shown) (reader : BlockReader) (
     IsTextOf (pass (name_of reader) before new.gave) head blocks) →
     IsFedWhole (pass file old.gave new.gave) feed
 fed_whole file old mid new reader feed s whole =
-    (s.head, s.blocks, s.fed.fed, after_whole file old mid new reader s.head s.blocks (stands_after file old mid reader feed s) whole)
+    (s.head, s.blocks, s.fed.fed, after_whole file old mid new reader s.head s.blocks (read_so_far file old mid reader feed s) whole)
 
 -- which is what the file gives
 pub fed_file : (file : List ℕ) (old new : Shown) (feed : Feed) → ReadsOn {A = Feed} file old new (Ok feed) →

@@ -19,7 +19,7 @@ use Rattle.te_command.specs.CertificateFile.{certificates}
 use Rattle.te_command.specs.Blocks.{ReadsOn, IsHeadOf, HeadsFile}
 
 -- so far no read failed, and the reader stands after this head and these blocks
-pub record StandsAfter (file : List ℕ) (old new : Shown) (reader : BlockReader) (head : Head) (blocks : List Block) : Type 0 where
+pub record HasReadSoFar (file : List ℕ) (old new : Shown) (reader : BlockReader) (head : Head) (blocks : List Block) : Type 0 where
   pub read : HasRead (pass file old.gave new.gave) reader head blocks
   pub named : name_of reader ≡ file
   pub steady : new.faults ≡ old.faults
@@ -27,11 +27,11 @@ pub record StandsAfter (file : List ℕ) (old new : Shown) (reader : BlockReader
 
 -- the same after one block more
 pub after_more : (file : List ℕ) (old mid new : Shown) (reader next : BlockReader) (head : Head) (blocks : List Block) →
-    StandsAfter file old mid reader head blocks →
+    HasReadSoFar file old mid reader head blocks →
     ((before : List FileRead) (h : Head) (some : List Block) → HasRead (pass (name_of reader) before mid.gave) reader h some →
     HasRead (pass (name_of reader) before new.gave) next h (some ++ lent_block next ∷ [])) →
     name_of next ≡ name_of reader → new.faults ≡ mid.faults → KeepsDepot mid new →
-    StandsAfter file old new next head (blocks ++ lent_block next ∷ [])
+    HasReadSoFar file old new next head (blocks ++ lent_block next ∷ [])
 after_more file old mid new reader next head blocks s handed named steady may = record {
   read = subst (λ f. HasRead (pass f old.gave new.gave) next head (blocks ++ lent_block next ∷ [])) s.named
       (handed old.gave head blocks (subst (λ f. HasRead (pass f old.gave mid.gave) reader head blocks) (sym s.named) s.read));
@@ -42,7 +42,7 @@ after_more file old mid new reader next head blocks s handed named steady may = 
 
 -- the file was read to its end
 pub after_on : {A : Type 0} (x : A) (file : List ℕ) (old mid new : Shown) (reader : BlockReader) (head : Head) (blocks : List Block) →
-    StandsAfter file old mid reader head blocks → new.faults ≡ mid.faults → KeepsDepot mid new → ReadsOn {A = A} file old new (Ok x)
+    HasReadSoFar file old mid reader head blocks → new.faults ≡ mid.faults → KeepsDepot mid new → ReadsOn {A = A} file old new (Ok x)
 after_on {A = A} x file old mid new reader head blocks s steady may = record {
   refused = λ fault is. absurd (cc);
   failed = λ is. absurd (cc);
@@ -52,7 +52,7 @@ after_on {A = A} x file old mid new reader head blocks s steady may = record {
 
 -- and all that was read is the text of the head and the blocks
 pub after_whole : (file : List ℕ) (old mid new : Shown) (reader : BlockReader) (head : Head) (blocks : List Block) →
-    StandsAfter file old mid reader head blocks →
+    HasReadSoFar file old mid reader head blocks →
     ((before : List FileRead) (h : Head) (some : List Block) → HasRead (pass (name_of reader) before mid.gave) reader h some →
     IsTextOf (pass (name_of reader) before new.gave) h some) →
     IsTextOf (pass file old.gave new.gave) head blocks
@@ -68,7 +68,7 @@ same_fault : {A B : Type 0} (f t : StreamFault) → ◌≡◌ {A = Result A Stre
 same_fault f t is = let same : f ≡ t = cc in ap (λ x. Err x) same
 
 pub after_stops : {A B : Type 0} (file : List ℕ) (old mid new : Shown) (reader : BlockReader) (head : Head) (blocks : List Block) (fault : StreamFault) →
-    StandsAfter file old mid reader head blocks →
+    HasReadSoFar file old mid reader head blocks →
     ((before : List FileRead) (h : Head) (some : List Block) → HasRead (pass (name_of reader) before mid.gave) reader h some →
     IsFaultOf (pass (name_of reader) before new.gave) fault) →
     (◌≡◌ {A = Result A StreamFault} (Err fault) (Err faults.Failed) → (noted_fault reader ≡ Some faults.Failed) ⊎ Rose (mid.faults (name_of reader)) (new.faults (name_of reader))) →

@@ -21,4 +21,3 @@ pub mod Clauses
 pub mod Asked
 pub mod Outcome
 pub mod Blocks
-pub mod SoundCommands

@@ -47,13 +47,10 @@ pub struct Commands;
 
 impl Table for Commands {
     ghost use Rattle.te_command.specs.Commands.{Command as CommandMeant, commands};
-    ghost use Rattle.te_command.specs.SoundCommands.{commands_sound};
 
     ghost Command = { CommandMeant };
 
     ghost table = { commands };
-
-    ghost sound = { commands_sound };
 
     fn answer<D: Depot>(
         &self,

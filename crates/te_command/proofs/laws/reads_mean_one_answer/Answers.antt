@@ -1,4 +1,8 @@
+use Rattle.te_command.proofs.Table.{table_is_sound}
 use Rattle.te_command.proofs.laws.reads_mean_one_answer.Goals as goal
+
+pub reads_mean_one_answer-requires : goal.reads_mean_one_answer-requires
+reads_mean_one_answer-requires c = table_is_sound
 
 pub returns-clause-after_others : goal.returns-clause-after_others
 returns-clause-after_others c = c.reads_mean_one_answer.ensures.after_others

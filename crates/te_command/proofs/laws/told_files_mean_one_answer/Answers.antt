@@ -1,4 +1,8 @@
+use Rattle.te_command.proofs.Table.{table_is_sound}
 use Rattle.te_command.proofs.laws.told_files_mean_one_answer.Goals as goal
+
+pub told_files_mean_one_answer-requires : goal.told_files_mean_one_answer-requires
+told_files_mean_one_answer-requires c = table_is_sound
 
 pub returns-clause-some : goal.returns-clause-some
 returns-clause-some c = c.told_files_mean_one_answer.ensures.some
