@@ -18,6 +18,7 @@ from .certificates import (
     UNREACHED_TOO_LOW, WIDE_NODES, WIDE_RATIO, WIDE_WEIGHT, ZERO_BEFORE_FORMAT,
 )
 from .program import TOP
+from .witnesses import CUT_WITNESSES, TWICE as WITNESS_TWICE, WITNESSES, witness
 
 YES = "yes ratio 1000000 set all\n"
 YES_TWICE = "yes ratio 2000000 set all\n"
@@ -375,6 +376,9 @@ NO_FORMS = [
     ["check"],
     ["Check", "c"],
     ["check", "c", "t", "t"],
+    ["check-witness", "c"],
+    ["check-witness", "c", "w", "w"],
+    ["check_witness", "c", "w"],
     ["convert"],
     ["convert", "c", "c"],
     ["publish"],
@@ -434,6 +438,9 @@ CHAINS = [
     ([chain_certificate(1000000)], 0, YES),
     ([chain_certificate(999999)], 1, OVER_CAPACITY),
 ]
+CHAIN_WITNESSES = [
+    ([chain_certificate(1000000), witness(1000000, "1 1", 1000000, "1", "1000000 64" + "".join(f" {link}" for link in range(64)))], 0, "yes bound 1000000\n"),
+]
 
 # One unit from the first node of the chain to the last one, and to the one before it.
 TO_LAST = "step,source,target,demand\n0,n0,n64,1\n"
@@ -461,6 +468,10 @@ TABLES = [
     ("certificates of the second format", ["check", "c"], "c", SECOND_FORMAT),
     ("cut files", ["check", "c"], "c", CUT_FILES),
     ("chains", ["check", "c"], "c", CHAINS),
+    ("witnesses", ["check-witness", "c", "w"], "cw", WITNESSES),
+    ("witnesses of chains", ["check-witness", "c", "w"], "cw", CHAIN_WITNESSES),
+    ("cut witnesses", ["check-witness", "c", "w"], "cw", CUT_WITNESSES),
+    ("a file twice, as a witness", ["check-witness", "c", "c"], "c", WITNESS_TWICE),
     ("certificates that are not converted", ["check", "c"], "c", UNCONVERTED),
     ("refusals of convert", ["convert", "c"], "c", UNCONVERTED),
     ("conversions", ["convert", "c"], "c", CONVERSIONS),

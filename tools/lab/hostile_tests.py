@@ -6,6 +6,7 @@ import tempfile
 import types
 
 import reference_check
+import reference_witness
 
 from . import answers, campaigns, changes, drawn_certificates, drawn_folders, failing_calls, large_certificates, limits, program
 from .inputs import read_failures, read_matrices, read_topology
@@ -45,6 +46,9 @@ def reason_of(kind, data):
     """The reason of the second readers for a file of a row of `limits`, or none."""
     if kind == "certificate":
         return reference_check.check_bytes("c", data)[1].partition("refused: c: ")[2].rstrip("\n") or None
+    if kind == "witness":
+        said = reference_witness.check_witness("c", limits.GOOD["c"].encode(), "w", lambda: data)[1]
+        return said.partition("refused: w: ")[2].rstrip("\n") or None
     net = read_topology(limits.GOOD["t"].encode())[0]
     readers = {"topology": read_topology, "plan": read_plan, "matrices": lambda it: read_matrices(it, net), "failures": lambda it: read_failures(it, 1, 1)}
     faults = readers[kind](data)[1]

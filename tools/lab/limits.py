@@ -8,14 +8,16 @@ import os
 
 from .calls import DEMAND, HEADER, ROW
 from .certificates import FIRST, SECOND, SMALLEST, SMALLEST_IN_SECOND
+from .witnesses import OF_SMALLEST
 
-INPUT, FIRST_LIMIT, SECOND_LIMIT = 67_108_864, 134_217_728, 1_073_741_824
+INPUT, FIRST_LIMIT, SECOND_LIMIT, WITNESS_LIMIT = 67_108_864, 134_217_728, 1_073_741_824, 1_073_741_824
 PLAN = '{"topology":"t","matrices":"m","failures":"f","schemes":["spf"],"publish":"spf"}'
 DEMANDS, OUTAGES = "step,source,target,demand\n", "from,to,link\n"
 # The files of a call, of which one is exchanged; and by the kind of this one its name, and the words of the calls that read it.
-GOOD = {"c": SMALLEST, "t": HEADER + ROW, "m": DEMAND, "f": OUTAGES + "0,0,0\n", "p": PLAN}
+GOOD = {"c": SMALLEST, "w": OF_SMALLEST, "t": HEADER + ROW, "m": DEMAND, "f": OUTAGES + "0,0,0\n", "p": PLAN}
 CALLS = {
-    "certificate": ("c", [["check", "c"], ["check", "c", "t"], ["convert", "c"]]),
+    "certificate": ("c", [["check", "c"], ["check", "c", "t"], ["check-witness", "c", "w"], ["convert", "c"]]),
+    "witness": ("w", [["check-witness", "c", "w"]]),
     "topology": ("t", [["check", "c", "t"], ["publish", "p"], ["run", "p"]]),
     "matrices": ("m", [["publish", "p"], ["run", "p"]]),
     "failures": ("f", [["run", "p"]]),
@@ -68,8 +70,15 @@ def certificates():
     yield "digits of a ratio", "certificate", filled_file(SMALLEST.partition("ratio 1000000")[0] + "ratio ", b"7", FIRST_LIMIT), "shape at line 11"
 
 
+def witnesses():
+    below = "yates-witness 1\n"
+    for what, head, unit, line in (("zeros", "", b"\0", 1), ("zeros below the first line", below, b"\0", 2), ("line feeds after the end", OF_SMALLEST, b"\n", 8)):
+        yield from at_limit(what, "witness", head, unit, WITNESS_LIMIT, f"shape at line {line}")
+    yield "numbers of one line", "witness", filled_file(OF_SMALLEST.partition(" 1000000\n1\n")[0], b" 1", INPUT), "shape at line 4"
+
+
 def inputs():
-    for kind, (name, _) in list(CALLS.items())[1:]:
+    for kind, (name, _) in list(CALLS.items())[2:]:
         yield from at_limit("blanks" if kind == "plan" else "line feeds", kind, GOOD[name], b" " if kind == "plan" else b"\n", INPUT, None)
     for what, unit in (("commas", b","), ("quotes", b'"'), ("line feeds", b"\n"), ("bytes of 255", b"\xff")):
         for kind, header in (("topology", HEADER), ("matrices", DEMANDS), ("failures", OUTAGES)):
@@ -88,7 +97,7 @@ def nested_plans():
 
 def spellings():
     """Each kind of file with CRLF, with a byte order mark, and in UTF-16."""
-    reasons = {"certificate": ["shape at line 1"] * 3, "plan": [None, "not json", "not json"]}
+    reasons = {"certificate": ["shape at line 1"] * 3, "witness": ["shape at line 1"] * 3, "plan": [None, "not json", "not json"]}
     for kind, (name, _) in CALLS.items():
         text = GOOD[name].replace(",", ",\n") if kind == "plan" else GOOD[name]
         spelled = (("CRLF", text.replace("\n", "\r\n").encode()), ("a byte order mark", b"\xef\xbb\xbf" + text.encode()), ("UTF-16", text.encode("utf-16")))
@@ -98,7 +107,7 @@ def spellings():
 
 def rows():
     """All rows, those of small files first."""
-    return [*spellings(), *nested_plans(), *inputs(), *certificates()]
+    return [*spellings(), *nested_plans(), *inputs(), *witnesses(), *certificates()]
 
 
 def small_files(kind, file, reason):

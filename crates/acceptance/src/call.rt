@@ -31,6 +31,12 @@ pub const CHECK: Command<'static> = Command {
     publishes: false,
 };
 
+pub const CHECK_WITNESS: Command<'static> = Command {
+    words: &["check-witness", "c", "w"],
+    names: &["c", "w"],
+    publishes: false,
+};
+
 pub const PUBLISH: Command<'static> = Command {
     words: &["publish", "p"],
     names: &["p", "t", "m"],

@@ -1,9 +1,10 @@
 //! A few calls of each command over files that are told, that are on record, and that come byte by byte. The tables of all
 //! calls are data, `tools/lab/calls.py`, on which the built program is run.
-use crate::call::{CHECK, Command, PUBLISH, RUN, Row, all_say};
+use crate::call::{CHECK, CHECK_WITNESS, Command, PUBLISH, RUN, Row, all_say};
 use crate::texts::{
     DEMAND, ENVELOPE, FAILURE, LEADING_ZERO, LINE, LINK, PLAN, SMALL_BOX, SMALLEST,
-    SMALLEST_IN_SECOND, SMALLEST_WITH_LESS, SPF, TWELVE, TWICE_A_NAME, WAYS,
+    SMALLEST_IN_SECOND, SMALLEST_WITH_LESS, SPF, TWELVE, TWICE_A_NAME, UNENDED_WITNESS, WAYS,
+    WITNESS, WITNESS_OF_MORE, WITNESS_OVER_ZERO,
 };
 use std::test::Fail;
 
@@ -68,6 +69,56 @@ const JUDGED: &[(Command<'static>, Row<'static>)] = &[
 #[test]
 fn certificates_are_judged(rt: HostRuntime) -> Result<(), Fail> {
     all_say(&rt, rt.alloc(), JUDGED)
+}
+
+/// Witnesses. The inequalities of the certificate are not tried.
+const WITNESSES: &[(Command<'static>, Row<'static>)] = &[
+    (
+        CHECK_WITNESS,
+        (&[&[SMALLEST], WITNESS], 2, 0, "yes bound 1000000\n"),
+    ),
+    (
+        CHECK_WITNESS,
+        (&[SMALLEST_WITH_LESS, WITNESS], 2, 0, "yes bound 1000000\n"),
+    ),
+    (
+        CHECK_WITNESS,
+        (
+            &[&[SMALLEST_IN_SECOND], WITNESS_OF_MORE],
+            2,
+            1,
+            "no rule J2 place 0\n",
+        ),
+    ),
+    (
+        CHECK_WITNESS,
+        (
+            &[&[SMALLEST], WITNESS_OVER_ZERO],
+            2,
+            3,
+            "refused: w: rule U2 at 0\n",
+        ),
+    ),
+    (
+        CHECK_WITNESS,
+        (
+            &[&[SMALLEST], UNENDED_WITNESS],
+            2,
+            3,
+            "refused: w: shape at line 7\n",
+        ),
+    ),
+    // A certificate that is refused needs no witness.
+    (
+        CHECK_WITNESS,
+        (&[TWICE_A_NAME], 1, 3, "refused: c: rule V1 at 1\n"),
+    ),
+    (CHECK_WITNESS, (&[&[SMALLEST]], 1, 4, "fault: read\n")),
+];
+
+#[test]
+fn witnesses_are_judged(rt: HostRuntime) -> Result<(), Fail> {
+    all_say(&rt, rt.alloc(), WITNESSES)
 }
 
 /// Plans.

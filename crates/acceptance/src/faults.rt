@@ -1,6 +1,8 @@
 //! Reads and writes that fail, in each command.
-use crate::call::{CHECK, Call, Command, PUBLISH, RUN, SECOND_READ_FAILS, all_leave, leaves};
-use crate::texts::{DEMAND, FAILURE, LINE, PLAN, SMALLEST, SPF, TWELVE, WAYS};
+use crate::call::{
+    CHECK, CHECK_WITNESS, Call, Command, PUBLISH, RUN, SECOND_READ_FAILS, all_leave, leaves,
+};
+use crate::texts::{DEMAND, FAILURE, LINE, PLAN, SMALLEST, SPF, TWELVE, WAYS, WITNESS};
 use std::test::Fail;
 
 const YES: &str = "yes ratio 1000000 set all\n";
@@ -76,6 +78,43 @@ const FAULTS_OF_CHECK: &[Call<'static>] = &[
 #[test]
 fn faults_of_check_are_told(rt: HostRuntime) -> Result<(), Fail> {
     all_leave(&rt, rt.alloc(), FAULTS_OF_CHECK)
+}
+
+/// The last read of the certificate fails, which would find its end. It has three, and the witness two.
+const WITNESSED_UNREAD: Call<'static> = Call {
+    command: CHECK_WITNESS,
+    files: &[&[SMALLEST], WITNESS],
+    failing_fetch: Some(2),
+    ..JUDGED_UNREAD
+};
+
+const FAULTS_OF_CHECK_WITNESS: &[Call<'static>] = &[
+    WITNESSED_UNREAD,
+    Call {
+        failing_fetch: Some(3),
+        read: 1,
+        ..WITNESSED_UNREAD
+    },
+    Call {
+        failing_fetch: Some(4),
+        read: 1,
+        ..WITNESSED_UNREAD
+    },
+    // The line is written in part.
+    Call {
+        failing_fetch: None,
+        failing_put: Some(2),
+        read: 2,
+        status: 5,
+        out: "yes boun",
+        err: "fault: write\n",
+        ..WITNESSED_UNREAD
+    },
+];
+
+#[test]
+fn faults_of_check_witness_are_told(rt: HostRuntime) -> Result<(), Fail> {
+    all_leave(&rt, rt.alloc(), FAULTS_OF_CHECK_WITNESS)
 }
 
 /// The first read fails that would find the end of a file, the plan's. Each file has two reads.

@@ -29,6 +29,33 @@ pub const SMALLEST_IN_SECOND: &str =
 pub const SMALL_BOX: &str =
     "yates-ratio 2\nnodes 2\na\nb\nlinks 1\n0 1 10 1\npairs 1\n0 1 1\n1000000 1 0\nset box\nlower 3\nupper 5\nratio 1000000\nblocks 1\n0 1000000 1 1\n1\n0 0 1\nplus 0\nminus 0\nend\n";
 
+const WITNESS_MATRIX: &str = "demand 1000000\n1\n1000000 1 0\n";
+
+/// A witness of the smallest certificate: one with its bound, one whose bound is too high, one whose scale is over 0, and one without
+/// its end.
+pub const WITNESS: &[&str] = &[
+    "yates-witness 1\nbound 1000000\nscale 1 1\n",
+    WITNESS_MATRIX,
+    "end\n",
+];
+
+pub const WITNESS_OF_MORE: &[&str] = &[
+    "yates-witness 1\nbound 1000001\nscale 1 1\n",
+    WITNESS_MATRIX,
+    "end\n",
+];
+
+pub const WITNESS_OVER_ZERO: &[&str] = &[
+    "yates-witness 1\nbound 1000000\nscale 1 0\n",
+    WITNESS_MATRIX,
+    "end\n",
+];
+
+pub const UNENDED_WITNESS: &[&str] = &[
+    "yates-witness 1\nbound 1000000\nscale 1 1\n",
+    WITNESS_MATRIX,
+];
+
 /// A link from a to b, and links from a to b and from b to c.
 pub const LINK: &str = "source,target,capacity,cost\na,b,10,1\n";
 

@@ -7,5 +7,6 @@ pub mod Whole
 pub mod Printing
 pub mod FirstUndue
 pub mod PassingLines
+pub mod EachFile
 pub mod TakingDue
 pub mod FirstRules

@@ -67,3 +67,9 @@ OneSmallFault =
     (first : List ℕ) (due : Due) (bytes : List ℕ) →
     ((j k : ℕ) → LeavesSmallFiles first due bytes j → LeavesSmallFiles first due bytes k → j ≡ k)
     × ((ls : List NumLine) → AreFile due ls → bytes ≡ table_text first ls → (k : ℕ) → LeavesSmallFiles first due bytes k → ⊥)
+
+-- and each other file leaves them at a line
+abbrev pub SmallFileOrFault : Type 0
+SmallFileOrFault =
+    (first : List ℕ) → line_ends first ≡ 0 → (due : Due) → CanEnd due → (bytes : List ℕ) →
+    ((ls : List NumLine) × AreFile due ls × (bytes ≡ table_text first ls)) ⊎ ((k : ℕ) × LeavesSmallFiles first due bytes k)

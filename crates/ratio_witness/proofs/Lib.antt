@@ -12,3 +12,4 @@ pub mod OneWitness
 pub mod TakenLines
 pub mod SpelledLines
 pub mod ReadAnswers
+pub mod OneReading

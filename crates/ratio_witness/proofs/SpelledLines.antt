@@ -164,7 +164,7 @@ three_words ls more bound x y demand al same =
     let all = subst AreLines same al in (all.0.numbers, all.1.0.numbers, all.1.1.0.numbers)
 
 -- what is spelled has its shape
-shaped_all : (n : ℕ) (w : Witness) → AreWords (w.bound ∷ []) × AreWords (w.x ∷ w.y ∷ []) × AreWords w.demand.demand → (length w.demand.demand == n) ≡ true →
+pub shaped_all : (n : ℕ) (w : Witness) → AreWords (w.bound ∷ []) × AreWords (w.x ∷ w.y ∷ []) × AreWords w.demand.demand → (length w.demand.demand == n) ≡ true →
     length w.rival ≡ n → list_all are_shaped_paths w.rival ≡ true → is_shaped_witness n w ≡ true
 shaped_all n w words count pairs rival =
     let a = lt-ltb w.bound (2 ^ 64) words.0.0 in

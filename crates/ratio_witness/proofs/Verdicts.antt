@@ -97,3 +97,7 @@ yes_shows h w valid keeps answer =
     let bound : w.bound ≤ ratio_shown h w = leb-true w.bound (ratio_shown h w) (no_fault_bound h w none) in
     show_lower h.network h.routes h.set (demand_of w) w.rival w.bound (member h.set w (length h.routes) some (no_fault_in_set h w none))
     (is_rival h w keeps) bound judged.limits.capacity
+
+pub yes_is_member : (h : Head) (w : Witness) → KeepsRules h w → verdict_of (verdict_fault h w) ≡ Yes → IsMember h.set (length h.routes) (demand_of w)
+yes_is_member h w keeps answer =
+    member h.set w (length h.routes) (some_scale w (rules_kept h w keeps).scale) (no_fault_in_set h w (yes_none (verdict_fault h w) answer))

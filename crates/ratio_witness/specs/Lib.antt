@@ -5,3 +5,4 @@ pub mod Verdict
 pub mod Text
 pub mod Outcome
 pub mod Reading
+pub mod Answers

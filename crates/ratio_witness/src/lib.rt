@@ -1,6 +1,7 @@
 //! Witnesses: a matrix and a rival routing of it show that no smaller ratio is an oblivious ratio of a routing.
 #![tactic(auto)]
 
+mod answers;
 mod fault;
 pub mod laws;
 mod loads;
@@ -11,6 +12,7 @@ mod utilisation;
 mod verdict;
 mod witness;
 
+pub use answers::check_witness_text;
 pub use fault::WitnessFault;
 pub use printing::print;
 pub use reading::read;

@@ -27,7 +27,7 @@ yes_kept c line (inl holds) = (
 yes_kept c line (inr fails) = absurd (omega (arith, fails.0))
 
 -- the file is told in one way, and spells one certificate
-one_certificate : (content : Option (List ℕ)) (bytes all : List ℕ) (c d : Certificate) → content ≡ Some bytes → content ≡ Some all →
+pub one_certificate : (content : Option (List ℕ)) (bytes all : List ℕ) (c d : Certificate) → content ≡ Some bytes → content ≡ Some all →
     Spells bytes c → Spells all d → d ≡ c
 one_certificate content bytes all c d at is spells spelled =
     one_spelling bytes d c (subst (λ b. Spells b d) (some_once content all bytes is at) spelled) spells

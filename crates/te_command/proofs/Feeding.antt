@@ -1,5 +1,5 @@
 -- How a file that is read one block at a time gives its certificate, or is refused.
-use Rattle.std.proofs.Common.{◌≡◌, ℕ, ◌+◌, List, [], ◌∷◌, ◌++◌, ◌≤◌, ◌⊎◌, Option, Some, None, Result, Ok, Err, inl, inr, refl, sym, ap, ◌∙◌, subst, arith, rules, tests}
+use Rattle.std.proofs.Common.{◌≡◌, ℕ, ◌+◌, List, [], ◌∷◌, ◌++◌, codes, ◌≤◌, ◌⊎◌, Option, Some, None, Result, Ok, Err, inl, inr, refl, sym, ap, ◌∙◌, subst, arith, rules, tests}
 use Rattle.std.specs.Bool.{IsTrue}
 use Rattle.te_ports.specs.Ports.{Rose}
 use Rattle.te_ports.specs.Record.{Read as FileRead, Pass, pass, IsBegun}
@@ -14,7 +14,8 @@ use Rattle.ratio_checker.specs.declared.feed.Feed.{Feed}
 use Rattle.ratio_checker.specs.Feeds.{StandsFor, head_of_feed, next_link}
 use Rattle.command_frame.specs.declared.answer.Fault.{Fault}
 use Rattle.command_frame.specs.declared.answer.Fault.TheVariants.{Refused, Read, Memory}
-use Rattle.te_command.specs.CertificateFile.{certificates, shape_reason, rule_reason}
+use Rattle.te_command.specs.CertificateFile.{certificates}
+use Rattle.te_command.specs.Refusals.{shape_reason, rule_reason}
 use Rattle.te_ports.specs.Shown.{Shown}
 use Rattle.command_frame.specs.Outcome.{KeepsDepot, ReadsFile}
 use Rattle.te_command.specs.Blocks.{IsFed, IsFedWhole, ReadsOn, IsAnswerTo, FeedsFile, link_after}
@@ -148,7 +149,7 @@ refuses file old new (faults.Shape k) Memory on is = short file old new (faults.
 refuses file old new (faults.Rule rule) (Refused line) on is =
     let at = on.refused (faults.Rule rule) refl in
     record {
-      reads = inr (at.0, rule_reason rule, at.1.read, at.1.within, inr (rule, at.2, refl), is);
+      reads = inr (at.0, rule_reason (codes "V") rule, at.1.read, at.1.within, inr (rule, at.2, refl), is);
       begun = (at.0, inr at.1.read);
       part = tt;
       failed = tt;

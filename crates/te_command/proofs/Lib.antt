@@ -5,8 +5,11 @@ pub mod Feeding
 pub mod Regular
 pub mod PlanFiles
 pub mod Checking
+pub mod WitnessFiles
+pub mod CheckingWitnesses
 pub mod Converting
 pub mod Alike
+pub mod WitnessedAlike
 pub mod Publishing
 pub mod Reporting
 pub mod Drawing

@@ -1,12 +1,13 @@
 -- The files of each kind are read in one way.
-use Rattle.std.proofs.Common.{◌≡◌, ◌⊎◌, ℕ, List, Result, Ok, Err, inl, inr, refl, sym, ap, ◌∙◌}
+use Rattle.std.proofs.Common.{◌≡◌, ◌⊎◌, ℕ, List, codes, Result, Ok, Err, inl, inr, refl, sym, ap, ◌∙◌}
 use Rattle.te_model.specs.declared.certificate.Certificate.{Certificate}
 use Rattle.te_model.specs.declared.certificate.RuleFault.{RuleFault}
 use Rattle.te_model.specs.Text.{Spells}
 use Rattle.te_model.specs.Faults.{IsShapeFault, IsRuleFault}
 use Rattle.cert_text.proofs.Laws.{one_spelling, one_fault, one_rule_fault, spelled_or_ruled, some_reading}
-use Rattle.te_command.specs.CertificateFile.{certificates, GivesCertificate, shape_reason, rule_reason}
+use Rattle.te_command.specs.CertificateFile.{certificates, GivesCertificate}
 use Rattle.te_command.specs.InputFile.{inputs, in_words}
+use Rattle.te_command.specs.Refusals.{shape_reason, rule_reason}
 use Rattle.te_command.specs.Limits.{certificate_limits, input_limits}
 use Rattle.command_frame.specs.Sound.{IsRegular}
 
@@ -14,7 +15,7 @@ fault_once : (bytes x y : List ℕ) → GivesCertificate bytes (Err x) → Gives
 fault_once bytes x y (inl p) (inl q) = p.2 ∙ ap shape_reason (one_fault bytes p.0 q.0 p.1 q.1) ∙ sym q.2
 fault_once bytes x y (inl p) (inr q) = absurd (p.1.no_file q.1.spelled q.1.shaped q.1.file)
 fault_once bytes x y (inr p) (inl q) = absurd (q.1.no_file p.1.spelled p.1.shaped p.1.file)
-fault_once bytes x y (inr p) (inr q) = p.2 ∙ ap rule_reason (one_rule_fault bytes p.0 q.0 p.1 q.1) ∙ sym q.2
+fault_once bytes x y (inr p) (inr q) = p.2 ∙ ap (rule_reason (codes "V")) (one_rule_fault bytes p.0 q.0 p.1 q.1) ∙ sym q.2
 
 spelled_accepted : (bytes : List ℕ) (c : Certificate) (x : List ℕ) → Spells bytes c → GivesCertificate bytes (Err x) → ⊥
 spelled_accepted bytes c x spells (inl p) = p.1.no_file c spells.0.0 spells.1
@@ -30,7 +31,7 @@ certificate_some : (bytes : List ℕ) → ((c : Certificate) × Spells bytes c) 
     (x : Result Certificate (List ℕ)) × GivesCertificate bytes x
 certificate_some bytes (inl c) = (Ok c.0, c.1)
 certificate_some bytes (inr (inl k)) = (Err (shape_reason k.0), inl (k.0, k.1, refl))
-certificate_some bytes (inr (inr f)) = (Err (rule_reason f.0), inr (f.0, f.1, refl))
+certificate_some bytes (inr (inr f)) = (Err (rule_reason (codes "V") f.0), inr (f.0, f.1, refl))
 
 pub certificates_regular : IsRegular certificates
 certificates_regular = record { limited = certificate_limits; once = certificate_once; some = λ bytes. certificate_some bytes (some_reading bytes) }

@@ -4,7 +4,11 @@ use Rattle.te_ports.specs.Ports.{Rose}
 use Rattle.te_ports.specs.Record.{Read as FileRead, pass}
 use Rattle.te_ports.specs.Shown.{Shown}
 use Rattle.te_model.specs.declared.certificate.Block.{Block}
+use Rattle.te_model.specs.declared.certificate.Certificate.{Certificate}
 use Rattle.te_model.specs.declared.certificate.Head.{Head}
+use Rattle.te_model.specs.Text.{Spells}
+use Rattle.te_model.specs.Validity.{IsValidHead}
+use Rattle.te_model.proofs.ValidParts.{valid_parts}
 use Rattle.block_reader.specs.declared.block_reader.BlockReader.{BlockReader}
 use Rattle.block_reader.specs.declared.stream_fault.StreamFault.{StreamFault}
 use Rattle.block_reader.specs.declared.stream_fault.StreamFault.TheVariants as faults
@@ -105,3 +109,10 @@ text_file x file old new head blocks on text = record {
 pub head_file : (file : List ℕ) (old new : Shown) (head : Head) → ReadsOn {A = Head} file old new (Ok head) →
     IsHeadOf (pass file old.gave new.gave) head → HeadsFile file old new (Ok head)
 head_file file old new head on whole = (whole.0, text_file head file old new head whole.0 on whole.1)
+
+-- which is valid
+pub spelled_head : (bytes : List ℕ) (c : Certificate) → Spells bytes c → IsValidHead c.head
+spelled_head bytes c spells = ((valid_parts c).0 spells.0).head
+
+pub read_head_valid : (file : List ℕ) (old new : Shown) (head : Head) → HeadsFile file old new (Ok head) → IsValidHead head
+read_head_valid file old new head (blocks, read) = spelled_head read.reads.0 (record { head = head; blocks = blocks }) read.reads.3

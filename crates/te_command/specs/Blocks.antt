@@ -1,5 +1,5 @@
 -- The file of a certificate that is read one block at a time.
-use Rattle.std.specs.Prelude.{◌≡◌, ◌≢◌, ℕ, ◌+◌, List, Option, Some, None, Result, Ok, Err, IsErrOf}
+use Rattle.std.specs.Prelude.{◌≡◌, ◌≢◌, ℕ, ◌+◌, List, codes, Option, Some, None, Result, Ok, Err, IsErrOf}
 use Rattle.te_ports.specs.Ports.{Rose}
 use Rattle.te_ports.specs.Record.{Pass, pass}
 use Rattle.te_model.specs.declared.certificate.Block.{Block}
@@ -13,7 +13,8 @@ use Rattle.ratio_checker.specs.Feeds.{StandsFor, next_link}
 use Rattle.command_frame.specs.declared.answer.Fault.{Fault}
 use Rattle.command_frame.specs.declared.answer.Fault.TheVariants.{Read, Memory}
 use Rattle.command_frame.specs.Reading.{too_long}
-use Rattle.te_command.specs.CertificateFile.{certificates, shape_reason, rule_reason}
+use Rattle.te_command.specs.CertificateFile.{certificates}
+use Rattle.te_command.specs.Refusals.{shape_reason, rule_reason}
 use Rattle.te_ports.specs.Shown.{Shown}
 use Rattle.command_frame.specs.Outcome.{KeepsDepot, ReadsFile, IsRefusal}
 
@@ -44,7 +45,7 @@ abbrev pub IsAnswerTo : List ℕ → StreamFault → Fault → Type 0
 IsAnswerTo file faults.Failed answer = answer ≡ Read
 IsAnswerTo file faults.TooLong answer = IsRefusal file too_long answer
 IsAnswerTo file (faults.Shape line) answer = IsRefusal file (shape_reason line) answer
-IsAnswerTo file (faults.Rule rule) answer = IsRefusal file (rule_reason rule) answer
+IsAnswerTo file (faults.Rule rule) answer = IsRefusal file (rule_reason (codes "V") rule) answer
 IsAnswerTo file faults.Memory answer = answer ≡ Memory
 
 -- the feed was given the certificate that the file gives, or the file is refused or not read

@@ -5,16 +5,19 @@ use Rattle.std.specs.Str.{bytes_eq}
 use Rattle.command_frame.specs.Reading.{Reading}
 use Rattle.command_frame.specs.Table.{Entry, TableOf}
 use Rattle.te_command.specs.Check.{check_entry, check_network_entry}
+use Rattle.te_command.specs.CheckWitness.{check_witness_entry}
 use Rattle.te_command.specs.Convert.{convert_entry}
 use Rattle.te_command.specs.Generate.{drawn_of, generate_entry}
 use Rattle.te_command.specs.Publish.{publish_entry}
 use Rattle.te_command.specs.Report.{run_entry}
 
--- what is asked for: of `check` and `convert`, the name of the certificate, and of `check` that of the topology where one is
--- given; of `publish` and `run`, the name of the plan; of `gen`, the number of nodes and the seed
+-- what is asked for: of `check`, `check-witness` and `convert`, the name of the certificate, and of `check` that of the topology where
+-- one is given, of `check-witness` that of the witness; of `publish` and `run`, the name of the plan; of `gen`, the number of nodes and
+-- the seed
 pub data Command : Type 0 where
   check : List ℕ → Command
   check_network : List ℕ → List ℕ → Command
+  check_witness : List ℕ → List ℕ → Command
   convert : List ℕ → Command
   publish : List ℕ → Command
   run : List ℕ → Command
@@ -32,6 +35,7 @@ command_of (word ∷ file ∷ []) =
     else None
 command_of (word ∷ file ∷ next ∷ []) =
     if bytes_eq word (codes "check") then Some (check_network file next)
+    else if bytes_eq word (codes "check-witness") then Some (check_witness file next)
     else if bytes_eq word (codes "gen") then option_map (λ drawn. generate drawn.0 drawn.1) (drawn_of file next)
     else None
 command_of (word ∷ file ∷ next ∷ more ∷ words) = None
@@ -40,6 +44,7 @@ command_of (word ∷ file ∷ next ∷ more ∷ words) = None
 abbrev pub entry_of : Command → Entry
 entry_of (check certificate) = check_entry certificate
 entry_of (check_network certificate topology) = check_network_entry certificate topology
+entry_of (check_witness certificate witness) = check_witness_entry certificate witness
 entry_of (convert certificate) = convert_entry certificate
 entry_of (publish plan) = publish_entry plan
 entry_of (run plan) = run_entry plan

@@ -4,10 +4,12 @@ pub mod Limits
 pub mod TopologyFile
 pub mod MatrixFile
 pub mod FailureFile
+pub mod WitnessFile
 pub mod PlanFile
 pub mod Refusals
 pub mod PlanReading
 pub mod Check
+pub mod CheckWitness
 pub mod Convert
 pub mod Generate
 pub mod Publish

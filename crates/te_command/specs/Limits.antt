@@ -5,9 +5,13 @@ use Rattle.te_ports.specs.Limit.{IsLimit}
 use Rattle.te_model.specs.FileLimit.{file_limit}
 use Rattle.te_model.proofs.FileLimits.{file_limits}
 use Rattle.te_command.specs.InputFile.{input_limit}
+use Rattle.te_command.specs.WitnessFile.{witness_limit}
 
 pub certificate_limits : IsLimit file_limit
 certificate_limits = record { small = file_limits.small; rises = file_limits.rises; settled = file_limits.settled }
 
 pub input_limits : IsLimit (λ bytes. input_limit)
 input_limits = record { small = λ bytes. lit≤ tt; rises = λ front rest. lit≤ tt; settled = λ front rest past. refl }
+
+pub witness_limits : IsLimit (λ bytes. witness_limit)
+witness_limits = record { small = λ bytes. lit≤ tt; rises = λ front rest. lit≤ tt; settled = λ front rest past. refl }

@@ -1,13 +1,20 @@
 -- The words for the causes that files are refused for.
-use Rattle.std.specs.Prelude.{ℕ, List, ◌++◌, Option, Some, None}
+use Rattle.std.specs.Prelude.{ℕ, List, ◌++◌, codes, Option, Some, None}
 use Rattle.std.specs.Fmt.{decimal}
-use Rattle.te_command.specs.declared.reasons.CertificateReason.{CertificateReason}
-use Rattle.te_command.specs.declared.reasons.CertificateReason.TheVariants.{Shape, Rule}
-use Rattle.te_command.specs.CertificateFile.{shape_reason, rule_reason}
+use Rattle.te_model.specs.declared.certificate.RuleFault.{RuleFault}
+use Rattle.te_command.specs.declared.reasons.FormatReason.{FormatReason}
+use Rattle.te_command.specs.declared.reasons.FormatReason.TheVariants.{Shape, Rule}
 
-abbrev pub certificate_reason : CertificateReason → List ℕ
-certificate_reason (Shape line) = shape_reason line
-certificate_reason (Rule rule) = rule_reason rule
+-- the words for bytes that leave a format at a line, and for those that spell what breaks a rule, by the letter of the format's rules
+abbrev pub shape_reason : ℕ → List ℕ
+shape_reason line = codes "shape at line " ++ decimal line
+
+abbrev pub rule_reason : List ℕ → RuleFault → List ℕ
+rule_reason letter rule = codes "rule " ++ (letter ++ (decimal rule.number ++ (codes " at " ++ decimal rule.place)))
+
+abbrev pub format_reason : FormatReason → List ℕ
+format_reason (Shape line) = shape_reason line
+format_reason (Rule letter rule) = rule_reason letter.now rule
 
 -- words, and the row that they end in where there is one
 abbrev pub at_row : List ℕ → Option ℕ → List ℕ

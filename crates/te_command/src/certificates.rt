@@ -1,10 +1,11 @@
 //! Reading the file of a certificate one block at a time: what is found of it, or the line that refuses it.
 ghost use Rattle.std.specs.Prelude.{IfOk};
+ghost use Rattle.te_model.specs.Validity.{IsValidHead};
 ghost use Rattle.te_ports.specs.Record.{pass};
 ghost use Rattle.te_command.specs.Blocks.{FeedsFile, HeadsFile, IsFedWhole, IsHeadOf, IsAnswerTo, ReadsOn};
 ghost use Rattle.te_ports.specs.Shown.{shown_by};
 
-use crate::reasons::CertificateReason;
+use crate::reasons::FormatReason;
 use block_reader::{BlockReader, StreamFault};
 use command_frame::{Fault, refuse, too_long};
 use ratio_checker::Feed;
@@ -18,8 +19,8 @@ fn answer_to(alloc: Global, file: &str, fault: StreamFault) -> Fault
 {
     match fault {
         StreamFault::TooLong => too_long(alloc, file),
-        StreamFault::Shape(line) => refuse(alloc, file, CertificateReason::Shape(line)),
-        StreamFault::Rule(rule) => refuse(alloc, file, CertificateReason::Rule(rule)),
+        StreamFault::Shape(line) => refuse(alloc, file, FormatReason::Shape(line)),
+        StreamFault::Rule(rule) => refuse(alloc, file, FormatReason::Rule("V", rule)),
         StreamFault::Failed => Fault::Read,
         StreamFault::Memory => Fault::Memory,
     }
@@ -66,13 +67,14 @@ fn read_head<D: Depot>(alloc: Global, depot: &mut D, file: &str) -> Result<Head,
     Ok(head)
 }
 
-/// The head of the certificate that the file of this name gives. The blocks are read and judged one after another, and none
+/// The head of the certificate that the file of this name gives, which is valid. The blocks are read and judged one after another, and none
 /// is kept.
 ///
 /// `Refused` comes only for bytes that reads of the file gave, and `Read` only where a read of it failed in the call.
 pub fn head_in<D: Depot>(alloc: Global, depot: &mut D, file: &str) -> Result<Head, Fault>
-    ensures { HeadsFile file.now (shown_by D.content D.gave D.faults depot.old)
+    ensures file { HeadsFile file.now (shown_by D.content D.gave D.faults depot.old)
         (shown_by D.content D.gave D.faults depot.new) result }
+    ensures valid { IfOk result IsValidHead }
 {
     match read_head(alloc, depot, file) {
         Ok(head) => Ok(head),

@@ -1,6 +1,7 @@
 //! The commands.
 mod check;
 mod check_network;
+mod check_witness;
 mod convert;
 mod generate;
 mod publish;
@@ -8,6 +9,7 @@ mod run_plan;
 
 pub use check::Check;
 pub use check_network::CheckNetwork;
+pub use check_witness::CheckWitness;
 pub use convert::Convert;
 pub use generate::{Generate, generate_of};
 pub use publish::Publish;

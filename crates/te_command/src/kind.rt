@@ -1,22 +1,26 @@
 //! The kinds of files that the commands read.
 ghost use Rattle.std.specs.Prelude.{◌≤◌, IsTrue};
 ghost use Rattle.te_model.specs.Network.{is_well_formed, link_count, node_count};
-ghost use Rattle.te_model.specs.Validity.{IsValid};
+ghost use Rattle.te_model.specs.Validity.{IsValid, IsValidHead};
 ghost use Rattle.traffic_matrix.specs.Limits.{IsSeries};
 ghost use Rattle.plan.specs.Plan.{InRange};
 
-use crate::reasons::{CertificateReason, FailureReason, MatrixReason, PlanReason, TopologyReason};
+use crate::reasons::{FailureReason, FormatReason, MatrixReason, PlanReason, TopologyReason};
 use cert_text::CertFault;
 use command_frame::{BytesFault, FileKind};
 use failure::{FailureFault, Failures};
 use plan::{Experiment, PlanFault, read_plan};
+use ratio_witness::{Witness, WitnessFault};
 use std::alloc::Global;
-use te_model::{Certificate, Network, file_limit};
+use te_model::{Certificate, Head, Network, file_limit};
 use topology::TopologyFault;
 use traffic_matrix::{MatrixFault, Series};
 
-/// The greatest file of another kind than a certificate, in bytes.
+/// The greatest file of a topology, of matrices, of failures or of a plan, in bytes.
 const INPUT_LIMIT: u64 = 67_108_864;
+
+/// The greatest file of a witness, in bytes.
+const WITNESS_LIMIT: u64 = 1_073_741_824;
 
 /// Certificates. What one gives is valid.
 #[derive(Clone, Copy)]
@@ -28,7 +32,7 @@ impl FileKind for Certificates {
 
     type Value = Certificate;
 
-    type Refusal = CertificateReason;
+    type Refusal = FormatReason;
 
     ghost is_ready = { λ _. Unit {0} };
 
@@ -42,16 +46,51 @@ impl FileKind for Certificates {
         file_limit(start)
     }
 
-    fn read(
-        &self,
-        alloc: Global,
-        bytes: &[u8],
-    ) -> Result<Certificate, BytesFault<CertificateReason>> {
+    fn read(&self, alloc: Global, bytes: &[u8]) -> Result<Certificate, BytesFault<FormatReason>> {
         match cert_text::read(alloc, bytes) {
             Ok(certificate) => Ok(certificate),
-            Err(CertFault::Shape(line)) => Err(BytesFault::Refused(CertificateReason::Shape(line))),
-            Err(CertFault::Rule(rule)) => Err(BytesFault::Refused(CertificateReason::Rule(rule))),
+            Err(CertFault::Shape(line)) => Err(BytesFault::Refused(FormatReason::Shape(line))),
+            Err(CertFault::Rule(rule)) => Err(BytesFault::Refused(FormatReason::Rule("V", rule))),
             Err(CertFault::Memory) => Err(BytesFault::Memory),
+        }
+    }
+}
+
+/// The witnesses of a certificate's head. What one gives keeps its rules.
+#[derive(Clone, Copy)]
+pub struct Witnesses<'a> {
+    pub head: &'a Head,
+}
+
+impl<'a> FileKind for Witnesses<'a> {
+    ghost use Rattle.ratio_witness.specs.Rules.{KeepsRules};
+    ghost use Rattle.te_command.specs.WitnessFile.{witnesses};
+    ghost use Rattle.te_command.specs.Limits.{witness_limits};
+
+    type Value = Witness;
+
+    type Refusal = FormatReason;
+
+    ghost is_ready = { λ of. IsValidHead of.head.now };
+
+    ghost kind = { λ of. witnesses of.head.now };
+
+    ghost IsSound = { λ of. KeepsRules of.head.now };
+
+    ghost limited = { λ _. witness_limits };
+
+    fn limit(&self, _start: &[u8]) -> u64 {
+        WITNESS_LIMIT
+    }
+
+    fn read(&self, alloc: Global, bytes: &[u8]) -> Result<Witness, BytesFault<FormatReason>> {
+        match ratio_witness::read(alloc, self.head, bytes) {
+            Ok(witness) => Ok(witness),
+            Err(WitnessFault::Shape(line)) => Err(BytesFault::Refused(FormatReason::Shape(line))),
+            Err(WitnessFault::Rule(rule)) => Err(BytesFault::Refused(FormatReason::Rule(
+                "U", rule,
+            ))),
+            Err(WitnessFault::Memory) => Err(BytesFault::Memory),
         }
     }
 }

@@ -5,7 +5,7 @@ ghost use Rattle.te_ports.specs.Record.{Read, Adds};
 ghost use Rattle.command_frame.specs.Files.{Span, span, given_files, told_files, known_files};
 ghost use Rattle.command_frame.specs.Reading.{IsTold, Means, MeansStatus, Proves, ReadFailed, RefusesUntold};
 ghost use Rattle.command_frame.specs.Order.{ReadsAlong, AsksNext};
-ghost use Rattle.te_command.specs.Commands.{Command, check, check_network, reading_of, IsOfCertificate};
+ghost use Rattle.te_command.specs.Commands.{Command, check, check_network, check_witness, reading_of, IsOfCertificate};
 ghost use Rattle.te_command.specs.Run.{OfToldCommand};
 ghost use Rattle.te_command.specs.Converted.{AreConverted, SayYesAlike};
 
@@ -44,6 +44,14 @@ pub fn converted_files_are_answered_alike()
     ensures yes { (content : List ℕ → Option (List ℕ)) → (file : List ℕ) → (made : List ℕ) → AreConverted content file made → (line : List ℕ) →
         Means (reading_of (check file)) (told_files content) 0 line →
         (boxed : List ℕ) × SayYesAlike line boxed × Means (reading_of (check made)) (told_files content) 0 boxed }
+{}
+
+/// `check-witness` says of the file that `convert` made what it says of the one that was converted, of the same witness: the
+/// same status, and the same text to the byte.
+pub fn converted_files_are_witnessed_alike()
+    ensures { (content : List ℕ → Option (List ℕ)) → (file : List ℕ) → (made : List ℕ) → (witness : List ℕ) → AreConverted content file made →
+        (status : ℕ) → (text : List ℕ) → Means (reading_of (check_witness file witness)) (told_files content) status text →
+        Means (reading_of (check_witness made witness)) (told_files content) status text }
 {}
 
 /// What the reads of a call gave of told files is what is told, and so it means what the told files mean.

@@ -13,26 +13,26 @@ use te_model::RuleFault;
 use topology::TopologyFault;
 use traffic_matrix::MatrixFault;
 
-/// A fault of a certificate, which shows as its words.
+/// A fault of a file whose format has rules, which shows as its words.
 #[derive(Clone, Copy)]
-pub enum CertificateReason {
-    /// The first line, counted from 1, at which the bytes leave the grammar.
+pub enum FormatReason {
+    /// The first line, counted from 1, at which the bytes leave the format.
     Shape(u64),
-    /// The first rule that fails of what the bytes spell.
-    Rule(RuleFault),
+    /// The first rule that fails of what the bytes spell, and the letter of the format's rules.
+    Rule(&'static str, RuleFault),
 }
 
-impl fmt::Display for CertificateReason {
+impl fmt::Display for FormatReason {
     ghost use Rattle.std.specs.Prelude.{Some};
-    ghost use Rattle.te_command.specs.Refusals.{certificate_reason};
+    ghost use Rattle.te_command.specs.Refusals.{format_reason};
 
-    ghost output = { λ reason. Some (certificate_reason reason) };
+    ghost output = { λ reason. Some (format_reason reason) };
 
     fn fmt<W: fmt::Write>(&self, f: &mut fmt::Formatter<W>) -> fmt::Result {
         match self {
-            CertificateReason::Shape(line) => write!(f, "shape at line {line}"),
-            CertificateReason::Rule(RuleFault { number, place }) => {
-                write!(f, "rule V{number} at {place}")
+            FormatReason::Shape(line) => write!(f, "shape at line {line}"),
+            FormatReason::Rule(letter, RuleFault { number, place }) => {
+                write!(f, "rule {letter}{number} at {place}")
             }
         }
     }

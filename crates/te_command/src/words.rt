@@ -4,7 +4,9 @@ ghost use Rattle.std.specs.Option.{option_map};
 ghost use Rattle.te_command.specs.Commands.{command_of};
 ghost use Rattle.te_command.specs.Asked.{command_meant};
 
-use crate::commands::{Check, CheckNetwork, Convert, Generate, Publish, RunPlan, generate_of};
+use crate::commands::{
+    Check, CheckNetwork, CheckWitness, Convert, Generate, Publish, RunPlan, generate_of,
+};
 use command_frame::{Answer, Ask, Fault, Table};
 use std::alloc::Global;
 use te_ports::Depot;
@@ -14,6 +16,7 @@ use te_ports::Depot;
 pub enum Command<'a> {
     Check(Check<'a>),
     CheckNetwork(CheckNetwork<'a>),
+    CheckWitness(CheckWitness<'a>),
     Convert(Convert<'a>),
     Publish(Publish<'a>),
     Run(RunPlan<'a>),
@@ -29,6 +32,7 @@ impl<'a> Ask for Command<'a> {
         match self {
             Command::Check(command) => command.answer(alloc, depot),
             Command::CheckNetwork(command) => command.answer(alloc, depot),
+            Command::CheckWitness(command) => command.answer(alloc, depot),
             Command::Convert(command) => command.answer(alloc, depot),
             Command::Publish(command) => command.answer(alloc, depot),
             Command::Run(command) => command.answer(alloc, depot),
@@ -97,6 +101,11 @@ fn command_with_two<'a>(word: &str, first: &'a str, second: &'a str) -> Option<C
         Some(Command::CheckNetwork(CheckNetwork {
             certificate: first,
             topology: second,
+        }))
+    } else if word == "check-witness" {
+        Some(Command::CheckWitness(CheckWitness {
+            certificate: first,
+            witness: second,
         }))
     } else if word == "gen" {
         let command = generate_of(first, second)?;

@@ -1,0 +1,5 @@
+use Rattle.std.proofs.Common.{inr, refl}
+use Rattle.te_command.proofs.kind.WitnessesFileKind.read.Goals as goal
+
+pub returns-in-Err-Rule-clause-reads : goal.returns-in-Err-Rule-clause-reads
+returns-in-Err-Rule-clause-reads c = inr (c.in-Err-Rule.rule, c.in-Err-Rule.ensures.rule c.in-Err-Rule.rule refl, refl)
