@@ -85,8 +85,9 @@ impl<F: Read + Seek + Drop> OpenFile<F> {
     }
 }
 
-/// The files that a runtime reaches. The file of the last name stays open until another name is read, or a read failed. No memory
-/// is taken for it: a name that is longer than any that the system opens fails as the system's own `open` does.
+/// The files that a runtime reaches. The file of the last name stays open until another name is read, or a read failed. Keeping
+/// the name takes no memory: one that is longer than any that the system opens fails as the system's own `open` does. The standard
+/// library's `open` takes memory for a name; where that is short, the read has failed.
 ///
 /// No clause says what a call of the system does. So `ask` and what it calls have to be read: that `read_once`, which notes what
 /// `ask` answered, notes a read of that file at that place. Of that the clauses say that a file which stands open under the name is
