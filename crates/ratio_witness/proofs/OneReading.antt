@@ -87,8 +87,7 @@ path_of_numbers (a ∷ c ∷ links) words is =
     let count : length (a ∷ c ∷ links) ≡ 2 + c = eqb-true (length (a ∷ c ∷ links)) (2 + c) both.1 in
     let same : c ≡ length links = omega (arith, count) in
     let hops : is_count 1 FORMAT_2.hops (length links) ≡ true = ap (is_count 1 FORMAT_2.hops) (sym same) ∙ both.0 in
-    let weight = and_from (is_word a) (is_count 1 FORMAT_2.hops (length links)) (lt-ltb a (2 ^ 64) words.0) hops in
-    (
+    let weight = and_from (is_word a) (is_count 1 FORMAT_2.hops (length links)) (lt-ltb a (2 ^ 64) words.0) hops in (
       record { links = links; weight = a },
       and_from (is_word a && is_count 1 FORMAT_2.hops (length links)) (are_words links) weight (are_words_of links words.1.1),
       ap (λ n. a ∷ n ∷ links) same,
@@ -144,8 +143,7 @@ spelled_pair next l ls al word due p =
     let both = and_parts (has_count 1 l.numbers) (nat_le count FORMAT_2.paths) due in
     let numbers : l.numbers ≡ length p.paths ∷ [] = one_number l.numbers (eqb-true (length l.numbers) 1 both.0) ∙ ap (λ n. n ∷ []) (sym p.count) in
     let few : nat_le (length p.paths) FORMAT_2.paths ≡ true = ap (λ n. nat_le n FORMAT_2.paths) p.count ∙ both.1 in
-    let counted = and_from (nat_le 0 (length p.paths)) (nat_le (length p.paths) FORMAT_2.paths) (le-leb 0 (length p.paths) (omega arith)) few in
-    (
+    let counted = and_from (nat_le 0 (length p.paths)) (nat_le (length p.paths) FORMAT_2.paths) (le-leb 0 (length p.paths) (omega arith)) few in (
       and_from (is_count 0 FORMAT_2.paths (length p.paths)) (list_all (is_shaped_path FORMAT_2) p.paths) counted p.shaped,
       ap (λ (x : NumLine). x ∷ ls) (line_of_words l [] (length p.paths ∷ []) word numbers) ∙ ap (λ (ys : List NumLine). word_line [] (length p.paths ∷ []) ∷ ys) p.lines,
     )
@@ -189,15 +187,14 @@ spelled_witness n (a ∷ b ∷ c ∷ ls) file =
       y = slice_index b.numbers 1;
       demand = record { demand = c.numbers };
       rival = p.rival;
-    } in
-    (
+    } in (
       w,
       shaped_all n w (subst AreWords bound al.0.numbers, subst AreWords scale al.1.0.numbers, al.1.1.0.numbers) due.2.2.1 p.count p.shaped,
       ap (λ (l : NumLine). l ∷ b ∷ c ∷ ls) (line_of_words a (codes "bound") (w.bound ∷ []) due.0 bound)
-      ∙ ap (λ (l : NumLine). word_line (codes "bound") (w.bound ∷ []) ∷ l ∷ c ∷ ls) (line_of_words b (codes "scale") (w.x ∷ w.y ∷ []) due.2.0 scale)
-      ∙ ap (λ (l : NumLine). word_line (codes "bound") (w.bound ∷ []) ∷ word_line (codes "scale") (w.x ∷ w.y ∷ []) ∷ l ∷ ls)
-      (line_of_words c (codes "demand") c.numbers due.2.2.0 refl)
-      ∙ ap (λ (ys : List NumLine). word_line (codes "bound") (w.bound ∷ []) ∷ word_line (codes "scale") (w.x ∷ w.y ∷ []) ∷ word_line (codes "demand") c.numbers ∷ ys) p.lines,
+          ∙ ap (λ (l : NumLine). word_line (codes "bound") (w.bound ∷ []) ∷ l ∷ c ∷ ls) (line_of_words b (codes "scale") (w.x ∷ w.y ∷ []) due.2.0 scale)
+          ∙ ap (λ (l : NumLine). word_line (codes "bound") (w.bound ∷ []) ∷ word_line (codes "scale") (w.x ∷ w.y ∷ []) ∷ l ∷ ls)
+          (line_of_words c (codes "demand") c.numbers due.2.2.0 refl)
+          ∙ ap (λ (ys : List NumLine). word_line (codes "bound") (w.bound ∷ []) ∷ word_line (codes "scale") (w.x ∷ w.y ∷ []) ∷ word_line (codes "demand") c.numbers ∷ ys) p.lines,
     )
 
 -- bytes are the file of a witness of the head, leave these files at a line, or spell what breaks a rule
