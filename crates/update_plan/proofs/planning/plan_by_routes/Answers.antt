@@ -1,4 +1,4 @@
-use Rattle.std.proofs.Common.{◌≡◌, ℕ, List, length, All, sym, subst}
+use Rattle.std.proofs.Common.{List, length, All, sym, subst}
 use Rattle.routing.proofs.Splits.{splits_of}
 use Rattle.update_plan.specs.declared.path.UpdatePath.{UpdatePath}
 use Rattle.update_plan.specs.Loads.{IsUpdatePath}
