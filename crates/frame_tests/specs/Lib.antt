@@ -1,4 +1,3 @@
 pub mod SizeFile
 pub mod Sizes
 pub mod Asked
-pub mod SoundSizes

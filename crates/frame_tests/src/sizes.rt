@@ -81,13 +81,10 @@ pub struct SizeCommands;
 
 impl Table for SizeCommands {
     ghost use Rattle.frame_tests.specs.Sizes.{Command as SizeCommand, commands};
-    ghost use Rattle.frame_tests.specs.SoundSizes.{sizes_sound};
 
     ghost Command = { SizeCommand };
 
     ghost table = { commands };
-
-    ghost sound = { sizes_sound };
 
     fn answer<D: Depot>(
         &self,

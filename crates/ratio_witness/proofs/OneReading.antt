@@ -210,7 +210,7 @@ some_reading h bytes = go (small_file_or_fault witness_first refl (witness_due n
 
     ruled : (w : Witness) → is_shaped_witness (length h.routes) w ≡ true → bytes ≡ witness_text w → (o : Option RuleFault) → witness_fault h w ≡ o →
         ((v : Witness) × SpellsOf h bytes v) ⊎ (((k : ℕ) × IsShapeFaultOf h bytes k) ⊎ ((f : RuleFault) × IsWitnessRuleFault h bytes f))
-    ruled w shaped same None none = inl (w, record { shaped = shaped; rules = none }, same)
+    ruled w shaped same None none = inl (w, (record { shaped = shaped; rules = none }, same))
     ruled w shaped same (Some f) first = inr (inr (f, record { spelled = w; shaped = shaped; file = same; first = first }))
 
     go : ((ls : List NumLine) × AreFile (witness_due (length h.routes)) ls × (bytes ≡ table_text witness_first ls)) ⊎ ((k : ℕ) × IsShapeFaultOf h bytes k) →

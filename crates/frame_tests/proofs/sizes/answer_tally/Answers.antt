@@ -9,7 +9,7 @@ use Rattle.frame_tests.proofs.sizes.answer_tally.Goals as goal
 
 pub returns-in_err-size : goal.returns-in_err-size
 returns-in_err-size g c =
-    let p = err_from_is_err_and c.from_residual-in_err-size.result c.from_residual-in_err-size.ensures.1 in
+    let p = err_from_is_err_and c.from_residual.result c.from_residual.ensures.1 in
     rw (p.1, p.2) (stops ℕ sizes c.args.file.now (λ size. answers (tally_of size)) _ _ c.in_err-size.field-0.0 c.in_err-size.ensures.reads)
 
 pub returns-in_err-size_line : goal.returns-in_err-size_line

@@ -13,7 +13,7 @@ returns-clause-answer c =
     let w = c.args.witness.now in
     let verdict = c.judge-verdict.ensures.verdict in (
       c.verdict_status.ensures ∙ ap verdict_status verdict,
-      c.into_bytes.ensures ∙ c.in_ok-line.ensures ∙ ap (verdict_line w.bound) verdict,
+      ap (λ v. v.items) c.into_bytes.ensures.value ∙ c.in_ok-line.ensures ∙ ap (verdict_line w.bound) verdict,
     )
 
 pub returns-clause-proves : goal.returns-clause-proves
