@@ -1,5 +1,5 @@
 -- What the numbers of the links say of the update.
-use Rattle.std.proofs.Common.{◌↔◌, ◌≡◌, inl, inr, ℕ, suc, ◌+◌, ◌*◌, ◌-◌, ◌<◌, ◌≤◌, List, length, arith, refl, sym, subst}
+use Rattle.std.proofs.Common.{◌↔◌, ◌≡◌, inl, inr, ℕ, ◌+◌, ◌*◌, ◌≤◌, List, length, arith, refl, sym, subst}
 use Rattle.std.specs.Prelude.{Err, IfOk, Ok, Result, slice_index}
 use Rattle.std.proofs.lemmas.Bool.{cases_lt}
 use Rattle.te_model.specs.declared.network.Network.{Network}

@@ -1,11 +1,10 @@
 -- There is one answer on an update.
-use Rattle.std.proofs.Common.{inl, inr, ◌≡◌, ℕ, ◌<◌, List, length, arith, refl, ap, sym, ◌∙◌, subst}
+use Rattle.std.proofs.Common.{inl, inr, ◌≡◌, ℕ, List, length, ap, sym, ◌∙◌, subst}
 use Rattle.std.proofs.lemmas.Bool.{cases_order}
-use Rattle.te_model.specs.declared.certificate.Head.{Head}
 use Rattle.te_model.specs.declared.network.Network.{Network}
 use Rattle.te_model.specs.declared.route.PairRoutes.{PairRoutes}
 use Rattle.update_plan.specs.declared.path.UpdatePlan.{UpdatePlan}
-use Rattle.update_plan.specs.Answer.{IsNoSlackText, IsPlanText, OneUpdateText, no_slack_line}
+use Rattle.update_plan.specs.Answer.{OneUpdateText, no_slack_line}
 use Rattle.update_plan.specs.Paths.{update_of}
 use Rattle.update_plan.specs.Plan.{IsLeastSafe, IsPlanOf, LacksSlack, LacksSlackOn}
 use Rattle.update_plan.specs.Text.{plan_text}

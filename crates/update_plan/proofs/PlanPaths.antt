@@ -1,8 +1,8 @@
 -- The paths of a plan are paths of the network, with weights of at most one million.
-use Rattle.std.proofs.Common.{◌⊎◌, inl, inr, ◌≡◌, ℕ, zero, suc, ◌+◌, ◌<◌, ◌≤◌, Bool, true, false, List, [], ◌∷◌, ◌++◌, length, get_or, arith, refl, ap, sym, ◌∙◌, subst, All}
+use Rattle.std.proofs.Common.{inl, inr, ◌≡◌, ℕ, zero, suc, ◌<◌, ◌≤◌, Bool, true, false, List, [], ◌∷◌, length, get_or, arith, refl, sym, ◌∙◌, subst, All}
 use Rattle.std.specs.Prelude.{IsTrue, bytes_eq, sum_by, if◌then◌else◌}
 use Rattle.std.proofs.lemmas.Bool.{cases_lt}
-use Rattle.std.proofs.lemmas.List.Elements.{All-append, All-get_or, All-nil}
+use Rattle.std.proofs.lemmas.List.Elements.{All-append, All-get_or, All-nil, All-weaker}
 use Rattle.std.proofs.lemmas.List.Sums.{get_or-le-sum_by, sum_by-cons}
 use Rattle.std.proofs.lemmas.Slice.Eq.{bytes_eq-Decides}
 use Rattle.te_model.specs.declared.network.Network.{Network}
@@ -18,6 +18,7 @@ use Rattle.te_model.proofs.Conditionals.{if_false, if_true}
 use Rattle.routing.specs.Merge.{links_at, no_path, weight_where}
 use Rattle.update_plan.specs.declared.path.UpdatePath.{UpdatePath}
 use Rattle.update_plan.specs.Loads.{IsUpdatePath}
+use Rattle.update_plan.specs.Stages.{HasSmallWeights}
 use Rattle.update_plan.specs.Paths.{ArePaths, AreSideBySide, weight_by}
 
 -- where weights sum to something, one of the paths passes
@@ -96,3 +97,10 @@ first_paths net before after (suc n) paths old new same le (earlier, own, is, re
 pub are_update_paths : (net : Network) (before after : List PairRoutes) (paths : List UpdatePath) → IsPathRouting net before → IsPathRouting net after →
     length after ≡ length before → ArePaths (length before) before after paths → All (IsUpdatePath net (length before)) paths
 are_update_paths net before after paths old new same are = first_paths net before after (length before) paths old new same (omega arith) are
+
+-- so their weights are small
+pub small_weights : (net : Network) (before after : List PairRoutes) (paths : List UpdatePath) → IsPathRouting net before → IsPathRouting net after →
+    length after ≡ length before → ArePaths (length before) before after paths → All HasSmallWeights paths
+small_weights net before after paths old new same are =
+    All-weaker (IsUpdatePath net (length before)) HasSmallWeights (λ u is. record { before = is.before; after = is.after }) paths
+    (are_update_paths net before after paths old new same are)

@@ -5,8 +5,8 @@ use Rattle.std.proofs.lemmas.Bool.{cases_lt}
 use Rattle.std.proofs.lemmas.Bool.Decides.{nat_tests}
 use Rattle.std.proofs.Math.Nat.{mul-le-mul_left, le_of_mul-le-mul_left}
 use Rattle.te_model.specs.declared.units.TheConstants.{SHARE_UNIT}
-use Rattle.update_plan.specs.Update.{Update, stage_weight, load_by, mixed_weight, IsSafe, IsSafeOn, LeaveFree}
-use Rattle.update_plan.specs.Laws.{FitsStage, growth_on, decline_on, FitsEnds, AreEnough, HasSteps, SafeByStages, SafeByEnds, SafeForMore, SafeWithSlack, SafeByQuotients}
+use Rattle.update_plan.specs.Update.{Update, stage_weight, load_by, mixed_weight, IsSafeOn}
+use Rattle.update_plan.specs.Laws.{FitsStage, growth_on, decline_on, FitsEnds, HasSteps, SafeByStages, SafeByEnds, SafeForMore, SafeWithSlack, SafeByQuotients}
 use Rattle.te_model.proofs.Sums.{sum_below-same, sum_below-le, sum_below-add, sum_below-mul}
 
 term-le : (held : Bool) (d v w : ℕ) → v ≤ w → (if held then d * v else 0) ≤ (if held then d * w else 0)

@@ -1,5 +1,5 @@
 -- The weights of a pair at a stage sum to a unit of shares for each step.
-use Rattle.std.proofs.Common.{◌≡◌, inl, inr, true, ℕ, zero, suc, ◌+◌, ◌-◌, ◌*◌, ◌<◌, ◌≤◌, List, [], ◌∷◌, ◌++◌, length, arith, refl, ap, sym, ◌∙◌, ◌==◌, All}
+use Rattle.std.proofs.Common.{◌≡◌, inl, inr, true, ℕ, zero, suc, ◌+◌, ◌-◌, ◌*◌, ◌<◌, ◌≤◌, List, [], ◌∷◌, length, arith, refl, ap, sym, ◌∙◌, ◌==◌, All}
 use Rattle.std.specs.Prelude.{map, slice_index, sum_by, if◌then◌else◌}
 use Rattle.std.proofs.lemmas.Bool.{cases_lt}
 use Rattle.std.proofs.lemmas.List.{get_or-map}
@@ -10,7 +10,6 @@ use Rattle.te_model.specs.declared.units.TheConstants.{SHARE_UNIT}
 use Rattle.te_model.specs.PathRouting.{IsPathRouting, IsPathSplit}
 use Rattle.te_model.specs.Path.{routes_at}
 use Rattle.te_model.proofs.Conditionals.{if_equal, if_other}
-use Rattle.te_model.specs.Counting.{sum_below}
 use Rattle.te_model.proofs.Sums.{sum_below-same}
 use Rattle.update_plan.specs.declared.path.UpdatePath.{UpdatePath}
 use Rattle.update_plan.specs.Paths.{ArePaths, AreSideBySide, no_update, update_at}

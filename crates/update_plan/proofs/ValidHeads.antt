@@ -1,8 +1,6 @@
 -- What the heads of valid certificates give: path routings with few pairs, few paths and short paths.
-use Rattle.std.proofs.Common.{◌≡◌, ◌↔◌, ℕ, ◌+◌, ◌^◌, ◌<◌, ◌≤◌, Bool, true, None, List, [], length, get_or, arith, All}
-use Rattle.std.specs.Prelude.{IsTrue}
+use Rattle.std.proofs.Common.{◌≡◌, ℕ, ◌^◌, ◌<◌, None, [], length, get_or, arith}
 use Rattle.std.proofs.lemmas.List.Elements.{All-nil}
-use Rattle.te_model.specs.declared.certificate.Block.{Block}
 use Rattle.te_model.specs.declared.certificate.Certificate.{Certificate}
 use Rattle.te_model.specs.declared.certificate.Head.{Head}
 use Rattle.te_model.specs.PathRouting.{IsPathRouting}

@@ -5,6 +5,7 @@ ghost use Rattle.routing.specs.Routes.{AreDemands};
 ghost use Rattle.update_plan.specs.Loads.{IsUpdatePath};
 ghost use Rattle.update_plan.specs.Paths.{ArePaths, update_of};
 ghost use Rattle.update_plan.specs.Plan.{HasPlanWithin, IsLeastSafe, IsPlanOf, LacksSlack, LacksSlackOn, LeaveRoutesFree};
+ghost use Rattle.update_plan.specs.Stages.{HasSmallWeights};
 ghost use Rattle.update_plan.specs.Update.{IsSafe};
 ghost use Rattle.update_plan.specs.declared.path.TheConstants.{MAX_STEPS};
 ghost use Rattle.update_plan.specs.declared.fault.UpdateFault.TheVariants as faults;
@@ -51,6 +52,7 @@ pub(crate) fn plan_by_routes(
     requires few { length before.now < 2 ^ 32 }
     requires demands { AreDemands (length before.now) demands.now }
     ensures plan { IfOk result (IsPlanOf net.now before.now after.now demands.now) }
+    ensures small { IfOk result (λ plan. All HasSmallWeights plan.paths) }
     ensures no_slack { (e : ℕ) → result ≡ Err (faults.NoSlack e) → LacksSlackOn net.now before.now after.now demands.now e }
 {
     let paths = paths_of(alloc, before, after)?;
@@ -85,6 +87,7 @@ pub fn plan(
     requires few { length before.now.routes < 2 ^ 32 }
     requires demands { AreDemands (length before.now.routes) matrix.now.demand }
     ensures of { IfOk result (λ plan. ArePaths (length before.now.routes) before.now.routes after.now.routes plan.paths) }
+    ensures small { IfOk result (λ plan. All HasSmallWeights plan.paths) }
     ensures safe { IfOk result (λ plan. IsSafe (update_of net.now matrix.now.demand plan.paths) plan.steps) }
     ensures least { IfOk result (λ plan. IsLeastSafe (update_of net.now matrix.now.demand plan.paths) plan.steps) }
     ensures no_slack { (e : ℕ) → result ≡ Err (faults.NoSlack e) → LacksSlackOn net.now before.now.routes after.now.routes matrix.now.demand e }

@@ -1,4 +1,4 @@
-use Rattle.std.proofs.Common.{◌≡◌, ℕ, List, length, map, ap, sym, subst, ◌∙◌}
+use Rattle.std.proofs.Common.{◌≡◌, ℕ, List, length, ap, sym, subst, ◌∙◌}
 use Rattle.std.specs.Prelude.{Err, IfOk}
 use Rattle.std.proofs.lemmas.List.{length-map}
 use Rattle.te_model.specs.declared.route.Pair.{Pair}

@@ -1,4 +1,4 @@
-use Rattle.std.proofs.Common.{◌≡◌, ℕ, subst}
+use Rattle.std.proofs.Common.{◌≡◌, subst}
 use Rattle.update_plan.specs.Paths.{update_of}
 use Rattle.update_plan.specs.Plan.{LacksSlack}
 use Rattle.update_plan.proofs.LeastSteps.{lacks_slack, least_safe}

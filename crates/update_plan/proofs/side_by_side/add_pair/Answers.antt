@@ -1,6 +1,6 @@
-use Rattle.std.proofs.Common.{◌≡◌, true, ℕ, ◌+◌, ◌-◌, ◌<◌, Bool, List, [], ◌∷◌, ◌++◌, length, arith, ap, append_assoc, sym, ◌∙◌, subst}
+use Rattle.std.proofs.Common.{◌≡◌, ◌+◌, ◌-◌, ◌<◌, Bool, List, [], ◌∷◌, ◌++◌, length, ap, append_assoc, sym, ◌∙◌, subst}
 use Rattle.update_plan.specs.declared.path.UpdatePath.{UpdatePath}
-use Rattle.update_plan.specs.Walk.{comes_next, is_left, next_update, place_after}
+use Rattle.update_plan.specs.Walk.{comes_next, next_update, place_after}
 use Rattle.update_plan.proofs.Walking.{IsWalked, left_of, walk_on, walk_smaller}
 use Rattle.update_plan.proofs.side_by_side.add_pair.Goals as goal
 

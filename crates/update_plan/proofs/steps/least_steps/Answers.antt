@@ -1,10 +1,9 @@
-use Rattle.std.proofs.Common.{◌↔◌, ◌≡◌, ℕ, ◌+◌, ◌*◌, ◌<◌, ◌≤◌, List, length, get_or, arith, ap, ◌∙◌}
+use Rattle.std.proofs.Common.{◌≡◌, ℕ, ◌*◌, ◌<◌, ◌≤◌, List, length, get_or, arith, ap, ◌∙◌}
 use Rattle.std.specs.Prelude.{max}
 use Rattle.te_model.specs.declared.network.Link.{Link}
 use Rattle.te_model.specs.declared.units.TheConstants.{SHARE_UNIT}
 use Rattle.te_model.specs.Network.{link_count, no_link}
 use Rattle.update_plan.specs.declared.path.TheConstants.{MAX_STEPS}
-use Rattle.update_plan.specs.Loads.{AreEnoughOn}
 use Rattle.update_plan.proofs.StepCounts.{max_is, of_link, one_more}
 use Rattle.update_plan.proofs.steps.least_steps.Goals as goal
 

@@ -1,4 +1,4 @@
-use Rattle.std.proofs.Common.{◌≡◌, ◌≤◌, length, map, arith, ap, ◌∙◌, List}
+use Rattle.std.proofs.Common.{map, arith, ap, ◌∙◌, List}
 use Rattle.std.proofs.lemmas.List.{take_all}
 use Rattle.update_plan.specs.declared.path.UpdatePath.{UpdatePath}
 use Rattle.update_plan.specs.Stages.{weight_at_stage}
