@@ -153,11 +153,11 @@ def bytes_of(name):
         return file.read()
 
 
-def main():
-    if len(sys.argv) != 3:
+def main(words):
+    if len(words) != 2:
         print(__doc__.split("\n\n")[1], file=sys.stderr)
         return 2
-    cert_name, name = sys.argv[1:]
+    cert_name, name = words
     try:
         out, err, status = check_witness(cert_name, bytes_of(cert_name), name, lambda: bytes_of(name))
     except OSError:
@@ -168,4 +168,4 @@ def main():
 
 
 if __name__ == "__main__":
-    sys.exit(main())
+    sys.exit(main(sys.argv[1:]))

@@ -15,6 +15,11 @@ pub enum Fault {
     Memory,
 }
 
+pub enum Verdict {
+    Yes,
+    No { place: u64 },
+}
+
 /// What gives bytes.
 pub trait Port {
     ghost left: { Self → List ℕ };
@@ -223,6 +228,10 @@ CHANGES = [
     (
         "a result that may not be there", SOURCE, ") -> Option<Kind>", ") -> Option<Result<Kind, Fault>>",
         ["low: kind_of answers Short, which no row says", "low: kind_of answers Memory, which no row says", "line 19: kind_of can answer that memory is short"],
+    ),
+    (
+        "a verdict in a result", SOURCE, ") -> Option<Kind>", ") -> Result<Verdict, AllocError>",
+        ["line 12: kind_of does not answer None", "low: kind_of answers No, which no row says", "low: kind_of answers AllocError, which no row says", "line 19: kind_of can answer that memory is short"],
     ),
     (
         "a fault that is given outright", SOURCE, ") -> Option<Kind>", ") -> Fault",

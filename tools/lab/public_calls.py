@@ -190,7 +190,7 @@ class PublicCalls:
                     self.calls[key] = self.calls[key]._replace(clauses=it.clauses + [clause for clause in more if clause not in it.clauses])
 
     def answers_of(self, crate, gives):
-        """What a function that gives this can answer but `Ok`, or but what it was asked for: `None` and `false` in an `Ok` are such answers too."""
+        """What a function that gives this can answer but `Ok`, or but what it was asked for: `None`, `false` and the `No` of a verdict in an `Ok` are such answers too."""
         if gives.startswith("io::Result<"):
             return ["io::Error"]
         made = re.match(r"(Result|Option)<(.*)>$", gives)
@@ -200,7 +200,7 @@ class PublicCalls:
         if made.group(1) == "Option":
             return ["Some" if made.group(2).endswith("Fault") else "None"] + self.answers_of(crate, made.group(2)) * made.group(2).startswith("Result<")
         good, fault = split_list(made.group(2))
-        more = ["None"] if good.startswith("Option<") else ["false"] if good == "bool" else []
+        more = ["None"] if good.startswith("Option<") else ["false"] if good == "bool" else ["No"] if good.endswith("Verdict") else []
         return more + (self.variants_of(crate, fault.partition("<")[0]) or [fault])
 
     def variants_of(self, crate, name):

@@ -1,0 +1,9 @@
+use Rattle.std.proofs.Common.{◌∙◌, sym}
+use Rattle.fault_rates.proofs.OneRates.{print_of_read}
+use Rattle.fault_rates.proofs.spelling.read_and_print.Goals as goal
+
+pub print-requires : goal.print-requires
+print-requires c = c.in_ok-plan.ensures.valid.shaped.grants ∙ sym c.in_ok-plan.ensures.valid.shaped.pairs
+
+pub returns : goal.returns
+returns c = record { same = c.in_ok-print.ensures ∙ sym (print_of_read c.args.routing.now.routes c.args.bytes.now c.in_ok-plan.plan c.in_ok-plan.ensures.rates) }

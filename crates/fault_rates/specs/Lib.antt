@@ -1,0 +1,9 @@
+pub mod Protection
+pub mod Laws
+pub mod Plan
+pub mod Verdict
+pub mod Tables
+pub mod File
+pub mod PairLines
+pub mod Reading
+pub mod Making

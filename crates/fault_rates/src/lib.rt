@@ -1,0 +1,21 @@
+//! Rates that survive failed links: their file, judging them, and making them.
+#![tactic(auto)]
+
+mod fault;
+mod guard;
+pub mod laws;
+mod maker;
+mod parts;
+mod plan;
+mod reader;
+pub mod spelling;
+mod sums;
+mod verdict;
+mod writer;
+
+pub use fault::RateFault;
+pub use maker::protect;
+pub use plan::{MAX_FAILURES, RatePlan, plan_fault};
+pub use reader::read;
+pub use verdict::{RateVerdict, judge};
+pub use writer::print;
