@@ -1,4 +1,5 @@
-//! Tests of certificates: their parts, their text, the verdict on one, and the best blocks of one. There is nothing else here.
+//! Tests of certificates: their parts, their text, the verdict on one, the best blocks of one, and updates from one to another. There is
+//! nothing else here.
 #![tactic(auto)]
 
 #[cfg(test)]
@@ -17,5 +18,7 @@ mod ratio_certificate_tests;
 mod ratio_checker_tests;
 #[cfg(test)]
 mod te_model_tests;
+#[cfg(test)]
+mod update_plan_tests;
 #[cfg(test)]
 mod window_tests;
