@@ -13,3 +13,4 @@ pub mod Words
 pub mod Making
 pub mod Raising
 pub mod SomeProtection
+mod ShortTexts

@@ -1,12 +1,14 @@
 -- The file of rates: a table with the lines that are due for the pairs of a routing.
-use Rattle.std.specs.Prelude.{◌≡◌, ℕ, ◌+◌, ◌^◌, ◌<◌, List, [], ◌∷◌, length, codes, All}
+use Rattle.std.specs.Prelude.{◌≡◌, ℕ, ◌+◌, ◌^◌, ◌<◌, ◌≤◌, List, [], ◌∷◌, length, codes, All}
 use Rattle.cert_text.specs.Fits.{AreWords}
+use Rattle.te_model.specs.declared.limits.TheConstants.{FORMAT_2}
 use Rattle.te_model.specs.declared.route.PairRoutes.{PairRoutes}
+use Rattle.routing.specs.Routes.{HasFewPaths}
 use Rattle.number_tables.specs.declared.line.NumLine.{NumLine}
 use Rattle.number_tables.specs.Due.{Due, done, line, has_count, word_line, AreFile, CanEnd}
 use Rattle.number_tables.specs.Table.{table_text}
 use Rattle.fault_rates.specs.declared.plan.RatePlan.{RatePlan}
-use Rattle.fault_rates.specs.Plan.{IsShapedPlan}
+use Rattle.fault_rates.specs.Plan.{IsShapedPlan, IsValidPlan}
 
 -- a line for each pair: its grant, and its allocations
 abbrev pub pair_lines : List ℕ → List (List ℕ) → List NumLine
@@ -49,3 +51,9 @@ pub record FilesOfRates : Type 0 where
   pub of_rates : (routes : List PairRoutes) (ls : List NumLine) → AreFile (rates_due routes) ls →
       (plan : RatePlan) × IsShapedPlan routes plan × HasWords plan × (ls ≡ rate_lines plan)
   pub end : (routes : List PairRoutes) → CanEnd (rates_due routes)
+
+-- The text of rates that keep the rules is short, where a routing has no more pairs than a certificate and few paths for each.
+abbrev pub RateTextsAreShort : Type 0
+RateTextsAreShort =
+    (routes : List PairRoutes) (plan : RatePlan) → length routes ≤ FORMAT_2.pairs → HasFewPaths 32 routes → IsValidPlan routes plan →
+    length (rates_text plan) < 6000000

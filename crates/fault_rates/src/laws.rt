@@ -1,5 +1,5 @@
 //! Laws of rates that survive failed links. A law of the definitions is the contract of a function that does nothing.
-ghost use Rattle.fault_rates.specs.File.{FilesOfRates};
+ghost use Rattle.fault_rates.specs.File.{FilesOfRates, RateTextsAreShort};
 ghost use Rattle.fault_rates.specs.Laws.{EvenGuards, EvenProtectionsExist, GuardedGrantsSurvive};
 ghost use Rattle.fault_rates.specs.Making.{ProtectionsExist};
 ghost use Rattle.fault_rates.specs.Verdict.{GuardedIsFaultless};
@@ -33,4 +33,10 @@ pub fn protections_exist()
 /// The small files whose lines are due for a routing are the files of its rates, and each that was begun can be ended.
 pub fn files_are_of_rates()
     ensures { FilesOfRates }
+{}
+
+/// The text of rates that keep the rules has fewer than 6,000,000 bytes, where there are at most 16,256 pairs with at most 32
+/// paths each.
+pub fn rate_texts_are_short()
+    ensures { RateTextsAreShort }
 {}
