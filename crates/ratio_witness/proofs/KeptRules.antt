@@ -67,7 +67,7 @@ simple_path net s t path few is =
       once = path_links_once net s t path.links is;
     }
 
-simple_paths : (net : Network) (s t : ℕ) (paths : List PathShare) → link_count net ≤ FORMAT_2.links → list_all (λ q. is_path net s t q.links) paths ≡ true →
+pub simple_paths : (net : Network) (s t : ℕ) (paths : List PathShare) → link_count net ≤ FORMAT_2.links → list_all (λ q. is_path net s t q.links) paths ≡ true →
     All IsSimplePath paths
 simple_paths net s t paths few all = all_from_tests (λ q. is_path net s t q.links) IsSimplePath (λ q is. simple_path net s t q few is) paths all
 

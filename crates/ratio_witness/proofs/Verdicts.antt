@@ -50,7 +50,7 @@ no_fault_bound : (h : Head) (w : Witness) → verdict_fault h w ≡ None → sho
 no_fault_bound h w none =
     first_failing_none_at 1 (λ place. shows_bound h w) (fault_at 2) 0 (first_some_none_at (faults_from 1 (verdict_rules h w)) 1 none) (omega arith)
 
-no_faults : (h : Head) (w : Witness) → ((p : ℕ) → p < length h.routes → is_in_set h.set w p ≡ true) → shows_bound h w ≡ true → verdict_fault h w ≡ None
+pub no_faults : (h : Head) (w : Witness) → ((p : ℕ) → p < length h.routes → is_in_set h.set w p ≡ true) → shows_bound h w ≡ true → verdict_fault h w ≡ None
 no_faults h w each bound =
     let first : rule_fault 1 (length h.routes) (is_in_set h.set w) ≡ None =
     first_below_none (length h.routes) (λ k. unless (is_in_set h.set w k) (fault_at 1 k)) (λ k below. ap (λ b. unless b (fault_at 1 k)) (each k below))

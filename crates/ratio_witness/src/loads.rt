@@ -74,3 +74,23 @@ pub fn loads_by_rival(head: &Head, witness: &Witness) -> [u128; MOST]
     }
     loads
 }
+
+// No load on any link.
+fn no_loads() -> [u128; MOST]
+    ensures count { length result ≡ FORMAT_2.links }
+    ensures none { (e : ℕ) → slice_index result e ≡ 0 }
+{
+    [0; MOST]
+}
+
+/// The share of a pair with these paths on each link, in millionths.
+pub fn loads_of_one(paths: &[PathShare]) -> [u128; MOST]
+    requires paths { All IsSimplePath paths.now }
+    requires whole { sum_by (λ s. s.weight) paths.now ≤ SHARE_UNIT }
+    ensures count { length result ≡ FORMAT_2.links }
+    ensures loads { (e : ℕ) → slice_index result e ≡ weight_on paths.now e }
+{
+    let mut loads = no_loads();
+    add_demand(&mut loads, paths, 1);
+    loads
+}

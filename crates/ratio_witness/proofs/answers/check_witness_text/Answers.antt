@@ -1,4 +1,4 @@
-use Rattle.std.proofs.Common.{◌≡◌, ◌∙◌, ap, refl, sym}
+use Rattle.std.proofs.Common.{◌≡◌, ◌∙◌, ℕ, Vec, Global, ap, refl, sym}
 use Rattle.ratio_witness.specs.declared.verdict.WitnessVerdict.{WitnessVerdict}
 use Rattle.ratio_witness.specs.declared.verdict.WitnessVerdict.TheVariants.{Yes, No}
 use Rattle.ratio_witness.specs.Answers.{verdict_line, verdict_status}
@@ -13,7 +13,7 @@ returns-clause-answer c =
     let w = c.args.witness.now in
     let verdict = c.judge-verdict.ensures.verdict in (
       c.verdict_status.ensures ∙ ap verdict_status verdict,
-      ap (λ v. v.items) c.into_bytes.ensures.value ∙ c.in_ok-line.ensures ∙ ap (verdict_line w.bound) verdict,
+      ap (λ (v : Vec ℕ Global). v.items) c.into_bytes.ensures.value ∙ c.in_ok-line.ensures ∙ ap (verdict_line w.bound) verdict,
     )
 
 pub returns-clause-proves : goal.returns-clause-proves
