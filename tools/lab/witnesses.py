@@ -126,7 +126,6 @@ WITNESSES = [
     ([PARALLEL_WHOLE, "yates-witness 1\nend\n"], *refused("shape at line 2")),
     *(([certificate, witness(*parts)], *said) for certificate, parts, said in OF_TRIANGLE),
     # A certificate that is refused needs no witness.
-    (["", OF_SMALLEST], 3, "refused: c: shape at line 1\n"),
     ([""], 3, "refused: c: shape at line 1\n"),
     ([NO_CAPACITY], 3, "refused: c: rule V2 at 0\n"),
     ([SMALLEST], 4, "fault: read\n"),
