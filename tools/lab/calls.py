@@ -18,7 +18,7 @@ from .certificates import (
     UNREACHED_TOO_LOW, WIDE_NODES, WIDE_RATIO, WIDE_WEIGHT, ZERO_BEFORE_FORMAT,
 )
 from .program import TOP
-from .witnesses import CUT_WITNESSES, TWICE as WITNESS_TWICE, WITNESSES, witness
+from .witnesses import ATTACKED, ATTACKS, CUT_WITNESSES, TWICE as WITNESS_TWICE, WITNESSES, witness
 
 YES = "yes ratio 1000000 set all\n"
 YES_TWICE = "yes ratio 2000000 set all\n"
@@ -132,7 +132,7 @@ CONVERSIONS = [
     ([SMALLEST_WITH_LESS], 0, SMALLEST_WITH_LESS_IN_SECOND),
 ]
 
-# A file that `convert` refuses as `check` does, and the line.
+# A file that `convert` and `attack` refuse as `check` does, and the line.
 UNCONVERTED = [
     ([TWICE_A_NAME], 3, "refused: c: rule V1 at 1\n"),
     ([TRIANGLE_SMALL_MARGIN], 3, "refused: c: rule V7 at 0\n"),
@@ -376,6 +376,8 @@ NO_FORMS = [
     ["check"],
     ["Check", "c"],
     ["check", "c", "t", "t"],
+    ["attack"],
+    ["attack", "c", "c"],
     ["check-witness", "c"],
     ["check-witness", "c", "w", "w"],
     ["check_witness", "c", "w"],
@@ -438,9 +440,9 @@ CHAINS = [
     ([chain_certificate(1000000)], 0, YES),
     ([chain_certificate(999999)], 1, OVER_CAPACITY),
 ]
-CHAIN_WITNESSES = [
-    ([chain_certificate(1000000), witness(1000000, "1 1", 1000000, "1", "1000000 64" + "".join(f" {link}" for link in range(64)))], 0, "yes bound 1000000\n"),
-]
+CHAIN_WITNESS = witness(1000000, "1 1", 1000000, "1", "1000000 64" + "".join(f" {link}" for link in range(64)))
+CHAIN_WITNESSES = [([chain_certificate(1000000), CHAIN_WITNESS], 0, "yes bound 1000000\n")]
+CHAIN_ATTACKS = [([chain_certificate(1000000)], 0, CHAIN_WITNESS)]
 
 # One unit from the first node of the chain to the last one, and to the one before it.
 TO_LAST = "step,source,target,demand\n0,n0,n64,1\n"
@@ -471,6 +473,10 @@ TABLES = [
     ("witnesses", ["check-witness", "c", "w"], "cw", WITNESSES),
     ("witnesses of chains", ["check-witness", "c", "w"], "cw", CHAIN_WITNESSES),
     ("cut witnesses", ["check-witness", "c", "w"], "cw", CUT_WITNESSES),
+    ("attacks", ["attack", "c"], "c", ATTACKS),
+    ("attacks of chains", ["attack", "c"], "c", CHAIN_ATTACKS),
+    ("witnesses of attacks", ["check-witness", "c", "w"], "cw", ATTACKED),
+    ("refusals of attack", ["attack", "c"], "c", UNCONVERTED),
     ("a file twice, as a witness", ["check-witness", "c", "c"], "c", WITNESS_TWICE),
     ("certificates that are not converted", ["check", "c"], "c", UNCONVERTED),
     ("refusals of convert", ["convert", "c"], "c", UNCONVERTED),

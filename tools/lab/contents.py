@@ -19,7 +19,8 @@ BEGINNINGS = [
 ]
 # The first line of a file of text, in small letters: what it is.
 FIRST_LINES = [
-    (r"yates-ratio ", "a certificate, which check and convert read"),
+    (r"yates-ratio ", "a certificate, which attack, check, check-witness and convert read"),
+    (r"yates-witness ", "a witness, which check-witness reads"),
     (r"source,target,capacity,cost\Z", "a topology"),
     (r"step,source,target,demand\Z", "a matrix file"),
     (r"from,to,link\Z", "a failure file"),

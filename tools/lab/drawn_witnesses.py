@@ -1,9 +1,15 @@
-"""Witnesses that are drawn for certificates that are drawn: most of the set, with a bound near the one that they show."""
+"""Witnesses that are drawn for certificates that are drawn, most of the set and with a bound near the one that they show, and changes of those of
+the tables; whether `check-witness` says of them what the second checker does; and whether both say yes to what `attack` writes.
+"""
+import random
+
 import reference_check
 import reference_witness
 
 from .changes import CERTIFICATE, Alphabet, with_changes
-from .drawn_certificates import OF_ONE, drawn_certificate, numbers_text, paths_of, weights_of
+from .drawn_certificates import OF_ONE, answer_of, drawn_certificate, numbers_text, paths_of, weights_of
+from .folders import write_files
+from .witnesses import SAMPLES
 
 WITNESS = Alphabet(
     CERTIFICATE.pieces,
@@ -12,6 +18,9 @@ WITNESS = Alphabet(
      b"demand", b"end", b"a", b"yates-witness", b""],
     b" ",
 )
+NAME, SEPARATOR, CASES_OF_CAMPAIGN = "w", WITNESS.separator, 1_000_000
+# Of how many certificates one is attacked.
+ATTACKED = 4
 
 
 def demands_of(draw, certificate, x, y):
@@ -52,3 +61,34 @@ def files_of(draw, seed, number):
     witness["bound"] = max(0, shown + draw.choice((0, 0, 0, -1, 1)))
     text = text_of(witness)
     return data, text if draw.randrange(4) else with_changes(draw, text, WITNESS)
+
+
+def case(seed, number):
+    """The files of a case: half are drawn, and half are changes of the witnesses of the tables."""
+    draw = random.Random(f"{seed} witness {number}")
+    if draw.randrange(2):
+        return dict(zip("cw", files_of(draw, seed, number)))
+    certificate, witness = draw.choice(SAMPLES)
+    return {"c": certificate, "w": with_changes(draw, witness, WITNESS)}
+
+
+def judge(files, folder, number):
+    """What the second checker says of the case, and what is wrong with the program's answers."""
+    want, got = reference_witness.check_witness("c", files["c"], "w", lambda: files["w"]), answer_of(["check-witness", "c", "w"], folder)
+    faults = [] if got == want else [f"check-witness: want {want}, got {got}"]
+    if number % ATTACKED == 0:
+        faults += faults_of_attack(files["c"], folder)
+    label = {0: "yes", 1: "no"}.get(want[2], "rule" if "rule" in want[1] else "shape")
+    return label, faults
+
+
+def faults_of_attack(data, folder):
+    """What is wrong with the witness that `attack` writes of a certificate that is accepted, which both say yes to."""
+    out, err, status = answer_of(["attack", "c"], folder)
+    if (err, status) != ("", 0):
+        return [f"attack: {err!r}, status {status}"]
+    made = out.encode()
+    write_files(folder, {"a": made})
+    yes = f"yes bound {out.split()[3]}\n", "", 0
+    said = reference_witness.check_witness("c", data, "a", lambda: made), answer_of(["check-witness", "c", "a"], folder)
+    return [f"{name} of what attack writes: {it}" for name, it in zip(("the second checker", "check-witness"), said) if it != yes]

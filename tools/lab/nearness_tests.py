@@ -37,7 +37,7 @@ def faults_of(program, network):
         steps, found = script.quotients(lab, network, values)
     except (SystemExit, reference_check.ShapeFault) as fault:
         return [f"{fault}"]
-    faults = [f"set {name}, ratio {published}: {quotient} of the exact one" for name, published, _, quotient in ratios if is_above(quotient, OF_RATIOS)]
+    faults = [f"set {name}, ratio {published}: {quotient} of the exact one" for name, published, _, quotient, *_ in ratios if is_above(quotient, OF_RATIOS)]
     for (scheme, kind), most in OF_STEPS.items():
         quotients = found.get((scheme, kind), [])
         faults += [f"{scheme}, {kind}: {len(quotients)} steps of {steps}"] * (len(quotients) != steps)

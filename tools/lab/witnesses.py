@@ -1,4 +1,4 @@
-"""Witnesses against smaller ratios: certificates, witnesses beside them, and what is said of each; and the files of this table."""
+"""Witnesses against smaller ratios: certificates, witnesses beside them, what is said of each, and the witnesses that are sought of certificates."""
 
 from .certificates import (
     FIRST, NO_CAPACITY, PARALLEL_WHOLE, SECOND, SMALLEST, SMALLEST_IN_SECOND, SMALLEST_WITH_LESS, TRIANGLE, TRIANGLE_DOUBLE, TRIANGLE_DOUBLE_BOX,
@@ -131,6 +131,29 @@ WITNESSES = [
     ([SMALLEST], 4, "fault: read\n"),
     ([None, OF_SMALLEST], 4, "fault: read\n"),
 ]
+
+# Matrices within 3 / 2 around a base, and of a base without demands. Their inequalities are not tried.
+TRIANGLE_FOR_WIDER_MARGIN = TRIANGLE_FOR_MARGIN.replace("set margin 1 1", "set margin 3 2")
+TRIANGLE_FOR_NO_DEMAND = TRIANGLE_FOR_WIDER_MARGIN.replace("base 10 10", "base 0 0")
+
+# A certificate, and the witness that is written of it.
+ATTACKS = [
+    ([SMALLEST], 0, OF_SMALLEST),
+    ([SMALLEST_IN_SECOND], 0, OF_SMALLEST),
+    ([SMALLEST_WITH_LESS], 0, OF_SMALLEST),
+    ([NO_PAIRS], 0, witness(0, "1 1", "")),
+    ([NO_PAIRS_FOR_MARGIN], 0, witness(0, "0 1", "")),
+    ([TRIANGLE_FOR_MARGIN], 0, witness(1000000, "1 1", "10 10", *OWN)),
+    ([TRIANGLE_FOR_WIDER_MARGIN], 0, witness(1000000, "1 4", "10 10", *OWN)),
+    ([TRIANGLE_FOR_NO_DEMAND], 0, witness(0, "0 1", "0 0", "0", "0")),
+    # Its least matrix shows what its greatest does.
+    ([TRIANGLE_DOUBLE_BOX], 0, witness(1000000, "1 1", "10 10", *OWN)),
+    # Both bounds have numbers that no demand of a witness has.
+    ([TRIANGLE_GREAT_BOX], 0, witness(0, "0 1", "0 0", "0", "0")),
+]
+
+# And what is said of it.
+ATTACKED = [([certificate, made], *yes(made.split()[3])) for (certificate,), _, made in ATTACKS]
 
 # Each cut of a witness is refused at its last line.
 CUT_WITNESSES = [

@@ -35,7 +35,7 @@ verdict_small : (h : Head) (w : Witness) (s : ℕ) (text : List ℕ) → IsBound
 verdict_small h w s text is = let small = status_small (verdict_of (verdict_fault h w)) in let same = is.0 in omega (arith, small, same)
 
 -- a yes is a proof
-verdict_proves : (h : Head) (w : Witness) (text : List ℕ) → IsValidHead h → KeepsRules h w → IsBoundVerdict h w 0 text → IsBoundProof h w
+pub verdict_proves : (h : Head) (w : Witness) (text : List ℕ) → IsValidHead h → KeepsRules h w → IsBoundVerdict h w 0 text → IsBoundProof h w
 verdict_proves h w text valid keeps is =
     let says = is_yes (verdict_of (verdict_fault h w)) is.0 in
     record { member = yes_is_member h w keeps says; rival = is_rival h w keeps; bound = yes_shows h w valid keeps says }

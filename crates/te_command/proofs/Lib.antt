@@ -10,6 +10,7 @@ pub mod CheckingWitnesses
 pub mod Converting
 pub mod Alike
 pub mod WitnessedAlike
+pub mod Attacking
 pub mod Publishing
 pub mod Reporting
 pub mod Drawing

@@ -4,7 +4,8 @@ use Rattle.std.specs.Prelude.{bytes_eq}
 use Rattle.std.specs.Option.{option_map}
 use Rattle.command_frame.specs.Table.{OfWords, IsSoundEntry, IsSoundTable}
 use Rattle.te_command.specs.Generate.{drawn_of, nodes_and_seed, decimal_number}
-use Rattle.te_command.specs.Commands.{Command, check, check_network, check_witness, convert, publish, run, generate, command_of, entry_of, commands}
+use Rattle.te_command.specs.Commands.{Command, attack, check, check_network, check_witness, convert, publish, run, generate, command_of, entry_of, commands}
+use Rattle.te_command.proofs.Attacking.{attack_is_sound}
 use Rattle.te_command.proofs.Checking.{check_is_sound, check_network_is_sound}
 use Rattle.te_command.proofs.CheckingWitnesses.{check_witness_is_sound}
 use Rattle.te_command.proofs.Converting.{convert_is_sound}
@@ -13,6 +14,7 @@ use Rattle.te_command.proofs.Reporting.{run_is_sound}
 use Rattle.te_command.proofs.Drawing.{generate_is_sound, nodes_drawn}
 
 entry_is_sound : (command : Command) → IsSoundEntry (entry_of command)
+entry_is_sound (attack file) = attack_is_sound file
 entry_is_sound (check file) = check_is_sound file
 entry_is_sound (check_network file topology) = check_network_is_sound file topology
 entry_is_sound (check_witness file witness) = check_witness_is_sound file witness
@@ -39,10 +41,11 @@ asked_in_range : (words : List (List ℕ)) → InRangeOf (command_of words)
 asked_in_range [] = tt
 asked_in_range (word ∷ []) = tt
 asked_in_range (word ∷ file ∷ []) =
-    where_in_range (bytes_eq word (codes "check")) (Some (check file)) _ tt
+    where_in_range (bytes_eq word (codes "attack")) (Some (attack file)) _ tt
+    (where_in_range (bytes_eq word (codes "check")) (Some (check file)) _ tt
     (where_in_range (bytes_eq word (codes "convert")) (Some (convert file)) _ tt
     (where_in_range (bytes_eq word (codes "publish")) (Some (publish file)) _ tt
-    (where_in_range (bytes_eq word (codes "run")) (Some (run file)) None tt tt)))
+    (where_in_range (bytes_eq word (codes "run")) (Some (run file)) None tt tt))))
 asked_in_range (word ∷ file ∷ next ∷ []) =
     where_in_range (bytes_eq word (codes "check")) (Some (check_network file next)) _ tt
     (where_in_range (bytes_eq word (codes "check-witness")) (Some (check_witness file next)) _ tt

@@ -6,7 +6,7 @@ use Rattle.te_model.specs.declared.certificate.RuleFault.{RuleFault}
 use Rattle.te_model.specs.declared.demand.DemandSet.{DemandSet}
 use Rattle.te_model.specs.declared.demand.DemandSet.TheVariants.{All, Margin, Box}
 use Rattle.te_model.specs.Counting.{or_else, unless}
-use Rattle.te_model.specs.Text.{Spells, text as text_of}
+use Rattle.te_model.specs.Text.{Spells}
 use Rattle.te_model.specs.Upgrade.{box_of, upgraded_certificate}
 use Rattle.te_model.specs.Validity.{fault_at, rule_fault}
 use Rattle.te_model.proofs.Searches.{first_below-same}

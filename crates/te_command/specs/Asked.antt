@@ -1,9 +1,10 @@
 -- The command that was read from the words.
 use Rattle.te_command.specs.declared.words.Command.{Command as Asked}
 use Rattle.te_command.specs.declared.words.Command.TheVariants as asked
-use Rattle.te_command.specs.Commands.{Command, check, check_network, check_witness, convert, publish, run, generate}
+use Rattle.te_command.specs.Commands.{Command, attack, check, check_network, check_witness, convert, publish, run, generate}
 
 abbrev pub command_meant : Asked → Command
+command_meant (asked.Attack c) = attack c.certificate.now
 command_meant (asked.Check c) = check c.certificate.now
 command_meant (asked.CheckNetwork c) = check_network c.certificate.now c.topology.now
 command_meant (asked.CheckWitness c) = check_witness c.certificate.now c.witness.now

@@ -4,6 +4,7 @@ use Rattle.std.specs.Option.{option_map}
 use Rattle.std.specs.Str.{bytes_eq}
 use Rattle.command_frame.specs.Reading.{Reading}
 use Rattle.command_frame.specs.Table.{Entry, TableOf}
+use Rattle.te_command.specs.Attack.{attack_entry}
 use Rattle.te_command.specs.Check.{check_entry, check_network_entry}
 use Rattle.te_command.specs.CheckWitness.{check_witness_entry}
 use Rattle.te_command.specs.Convert.{convert_entry}
@@ -11,10 +12,11 @@ use Rattle.te_command.specs.Generate.{drawn_of, generate_entry}
 use Rattle.te_command.specs.Publish.{publish_entry}
 use Rattle.te_command.specs.Report.{run_entry}
 
--- what is asked for: of `check`, `check-witness` and `convert`, the name of the certificate, and of `check` that of the topology where
--- one is given, of `check-witness` that of the witness; of `publish` and `run`, the name of the plan; of `gen`, the number of nodes and
+-- what is asked for: of `attack`, `check`, `check-witness` and `convert`, the name of the certificate, and of `check` that of the topology
+-- where one is given, of `check-witness` that of the witness; of `publish` and `run`, the name of the plan; of `gen`, the number of nodes and
 -- the seed
 pub data Command : Type 0 where
+  attack : List ℕ → Command
   check : List ℕ → Command
   check_network : List ℕ → List ℕ → Command
   check_witness : List ℕ → List ℕ → Command
@@ -28,7 +30,8 @@ abbrev pub command_of : List (List ℕ) → Option Command
 command_of [] = None
 command_of (word ∷ []) = None
 command_of (word ∷ file ∷ []) =
-    if bytes_eq word (codes "check") then Some (check file)
+    if bytes_eq word (codes "attack") then Some (attack file)
+    else if bytes_eq word (codes "check") then Some (check file)
     else if bytes_eq word (codes "convert") then Some (convert file)
     else if bytes_eq word (codes "publish") then Some (publish file)
     else if bytes_eq word (codes "run") then Some (run file)
@@ -42,6 +45,7 @@ command_of (word ∷ file ∷ next ∷ more ∷ words) = None
 
 -- what each reads and answers
 abbrev pub entry_of : Command → Entry
+entry_of (attack certificate) = attack_entry certificate
 entry_of (check certificate) = check_entry certificate
 entry_of (check_network certificate topology) = check_network_entry certificate topology
 entry_of (check_witness certificate witness) = check_witness_entry certificate witness
@@ -61,6 +65,6 @@ reading_of command = (entry_of command).reading
 abbrev pub MayAnswer : Command → ℕ → List ℕ → Type 0
 MayAnswer command = (entry_of command).may_answer
 
--- the command is of a certificate, and then told files mean one text
-abbrev pub IsOfCertificate : Command → Type 0
-IsOfCertificate command = (entry_of command).has_one_text
+-- what told files of the command mean has one text
+abbrev pub MeansOneText : Command → Type 0
+MeansOneText command = (entry_of command).has_one_text

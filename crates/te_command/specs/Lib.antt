@@ -10,6 +10,7 @@ pub mod Refusals
 pub mod PlanReading
 pub mod Check
 pub mod CheckWitness
+pub mod Attack
 pub mod Convert
 pub mod Generate
 pub mod Publish

@@ -1,4 +1,5 @@
 //! The commands.
+mod attack;
 mod check;
 mod check_network;
 mod check_witness;
@@ -7,6 +8,7 @@ mod generate;
 mod publish;
 mod run_plan;
 
+pub use attack::Attack;
 pub use check::Check;
 pub use check_network::CheckNetwork;
 pub use check_witness::CheckWitness;

@@ -1,17 +1,18 @@
 //! Laws of what commands mean. A law of the definitions is the contract of a function that does nothing.
-ghost use Rattle.std.specs.Prelude.{◌≡◌, ◌⊎◌, ℕ, List, ◌∷◌, ◌++◌, Option};
+ghost use Rattle.std.specs.Prelude.{◌≡◌, ◌⊎◌, ℕ, List, ◌∷◌, ◌++◌, Option, Some};
 ghost use Rattle.te_ports.specs.Ports.{Rose};
 ghost use Rattle.te_ports.specs.Record.{Read, Adds};
 ghost use Rattle.command_frame.specs.Files.{Span, span, given_files, told_files, known_files};
 ghost use Rattle.command_frame.specs.Reading.{IsTold, Means, MeansStatus, Proves, ReadFailed, RefusesUntold};
 ghost use Rattle.command_frame.specs.Order.{ReadsAlong, AsksNext};
-ghost use Rattle.te_command.specs.Commands.{Command, check, check_network, check_witness, reading_of, IsOfCertificate};
+ghost use Rattle.te_command.specs.Commands.{Command, attack, check, check_network, check_witness, reading_of, MeansOneText};
+ghost use Rattle.te_command.specs.Attack.{SaysYesTo};
 ghost use Rattle.te_command.specs.Run.{OfToldCommand};
 ghost use Rattle.te_command.specs.Converted.{AreConverted, SayYesAlike};
 
 use crate::words::Commands;
 
-/// The told files of a command mean one status, those of the command of some words a text, and those of a command of a certificate no
+/// The told files of a command mean one status, those of the command of some words a text, and those of a command that means one text no
 /// other one.
 pub fn told_files_mean_one_answer()
     ensures some { (command : Command) → (content : List ℕ → Option (List ℕ)) → IsTold (reading_of command) content →
@@ -23,7 +24,7 @@ pub fn told_files_mean_one_answer()
     ensures one { (command : Command) → (content : List ℕ → Option (List ℕ)) → (s : ℕ) → (t : ℕ) →
         MeansStatus (reading_of command) (told_files content) s → MeansStatus (reading_of command) (told_files content) t → s ≡ t }
     ensures one_text { (command : Command) → (content : List ℕ → Option (List ℕ)) → (s : ℕ) → (t : ℕ) → (a : List ℕ) → (b : List ℕ) →
-        IsOfCertificate command → Means (reading_of command) (told_files content) s a → Means (reading_of command) (told_files content) t b → a ≡ b }
+        MeansOneText command → Means (reading_of command) (told_files content) s a → Means (reading_of command) (told_files content) t b → a ≡ b }
 {
     command_frame::laws::told_files_mean_one_answer(&Commands)
 }
@@ -52,6 +53,17 @@ pub fn converted_files_are_witnessed_alike()
     ensures { (content : List ℕ → Option (List ℕ)) → (file : List ℕ) → (made : List ℕ) → (witness : List ℕ) → AreConverted content file made →
         (status : ℕ) → (text : List ℕ) → Means (reading_of (check_witness file witness)) (told_files content) status text →
         Means (reading_of (check_witness made witness)) (told_files content) status text }
+{}
+
+/// `check-witness` says yes to what `attack` means of a told certificate, where it is told under any name: beside this certificate, and
+/// beside the one that `convert` makes of it.
+pub fn attacks_are_witnessed()
+    ensures yes { (content : List ℕ → Option (List ℕ)) → (file : List ℕ) → (made : List ℕ) → (text : List ℕ) →
+        Means (reading_of (attack file)) (told_files content) 0 text → content made ≡ Some text →
+        (line : List ℕ) × SaysYesTo text line × Means (reading_of (check_witness file made)) (told_files content) 0 line }
+    ensures converted { (content : List ℕ → Option (List ℕ)) → (file : List ℕ) → (made : List ℕ) → (witness : List ℕ) → AreConverted content file made →
+        (text : List ℕ) → Means (reading_of (attack file)) (told_files content) 0 text → content witness ≡ Some text →
+        (line : List ℕ) × SaysYesTo text line × Means (reading_of (check_witness made witness)) (told_files content) 0 line }
 {}
 
 /// What the reads of a call gave of told files is what is told, and so it means what the told files mean.
@@ -108,14 +120,14 @@ pub fn next_read_is_one()
 }
 
 /// What the reads of a call mean does not depend on the reads before it: what is proved of one depot holds of each other one that gave the
-/// same, be the one in memory and the other that of the system. They mean one status, and those of a command of a certificate one text.
+/// same, be the one in memory and the other that of the system. They mean one status, and those of a command that means one text no other one.
 pub fn reads_mean_one_answer()
     ensures after_others { (command : Command) → (before : List Read) → (other : List Read) → (reads : List Read) → (status : ℕ) → (text : List ℕ) →
         Means (reading_of command) (given_files (span before (before ++ reads))) status text →
         Means (reading_of command) (given_files (span other (other ++ reads))) status text }
     ensures one { (command : Command) → (made : Span) → (s : ℕ) → (t : ℕ) → (a : List ℕ) → (b : List ℕ) →
         Means (reading_of command) (given_files made) s a → Means (reading_of command) (given_files made) t b → s ≡ t }
-    ensures one_text { (command : Command) → (made : Span) → (s : ℕ) → (t : ℕ) → (a : List ℕ) → (b : List ℕ) → IsOfCertificate command →
+    ensures one_text { (command : Command) → (made : Span) → (s : ℕ) → (t : ℕ) → (a : List ℕ) → (b : List ℕ) → MeansOneText command →
         Means (reading_of command) (given_files made) s a → Means (reading_of command) (given_files made) t b → a ≡ b }
 {
     command_frame::laws::reads_mean_one_answer(&Commands)

@@ -5,7 +5,7 @@ ghost use Rattle.te_command.specs.Commands.{command_of};
 ghost use Rattle.te_command.specs.Asked.{command_meant};
 
 use crate::commands::{
-    Check, CheckNetwork, CheckWitness, Convert, Generate, Publish, RunPlan, generate_of,
+    Attack, Check, CheckNetwork, CheckWitness, Convert, Generate, Publish, RunPlan, generate_of,
 };
 use command_frame::{Answer, Ask, Fault, Table};
 use std::alloc::Global;
@@ -14,6 +14,7 @@ use te_ports::Depot;
 /// What the words ask for.
 #[derive(Clone, Copy)]
 pub enum Command<'a> {
+    Attack(Attack<'a>),
     Check(Check<'a>),
     CheckNetwork(CheckNetwork<'a>),
     CheckWitness(CheckWitness<'a>),
@@ -30,6 +31,7 @@ impl<'a> Ask for Command<'a> {
 
     fn answer<D: Depot>(&self, alloc: Global, depot: &mut D) -> Result<Answer, Fault> {
         match self {
+            Command::Attack(command) => command.answer(alloc, depot),
             Command::Check(command) => command.answer(alloc, depot),
             Command::CheckNetwork(command) => command.answer(alloc, depot),
             Command::CheckWitness(command) => command.answer(alloc, depot),
@@ -80,7 +82,9 @@ pub fn command_of(words: &[String]) -> Option<Command<'_>>
 fn command_with_file<'a>(word: &str, file: &'a str) -> Option<Command<'a>>
     ensures { option_map command_meant result ≡ command_of (word.now ∷ file.now ∷ []) }
 {
-    if word == "check" {
+    if word == "attack" {
+        Some(Command::Attack(Attack { certificate: file }))
+    } else if word == "check" {
         Some(Command::Check(Check { certificate: file }))
     } else if word == "convert" {
         Some(Command::Convert(Convert { certificate: file }))
