@@ -18,6 +18,7 @@ from .certificates import (
     UNREACHED_TOO_LOW, WIDE_NODES, WIDE_RATIO, WIDE_WEIGHT, ZERO_BEFORE_FORMAT,
 )
 from .program import TOP
+from .updates import TWICE as UPDATE_TWICE, UPDATES, plan as update_plan
 from .witnesses import CUT_WITNESSES, TWICE as WITNESS_TWICE, WITNESSES, witness
 
 YES = "yes ratio 1000000 set all\n"
@@ -395,6 +396,9 @@ NO_FORMS = [
     ["gen", "12", "18446744073709551616"],
     ["gen", "12", "7", "7"],
     ["check", "2", "0", "0"],
+    ["update", "o", "n"],
+    ["update", "o", "n", "m", "m"],
+    ["Update", "o", "n", "m"],
 ]
 
 # Words with a number of nodes and a seed, and what stands before and after the ratio. The numbers are those of another program that draws,
@@ -442,6 +446,14 @@ CHAIN_WITNESSES = [
     ([chain_certificate(1000000), witness(1000000, "1 1", 1000000, "1", "1000000 64" + "".join(f" {link}" for link in range(64)))], 0, "yes bound 1000000\n"),
 ]
 
+# A chain's certificate twice: its path fills each link before and after, and asks for no room.
+CHAIN_UPDATES = [
+    (
+        [chain_certificate(1000000), chain_certificate(1000000), "step,source,target,demand\n0,n0,n64,10\n"],
+        *update_plan(1, "0 1000000 1000000 64" + "".join(f" {link}" for link in range(64))),
+    ),
+]
+
 # One unit from the first node of the chain to the last one, and to the one before it.
 TO_LAST = "step,source,target,demand\n0,n0,n64,1\n"
 TO_LAST_OF_SHORT = "step,source,target,demand\n0,n0,n63,1\n"
@@ -472,6 +484,9 @@ TABLES = [
     ("witnesses of chains", ["check-witness", "c", "w"], "cw", CHAIN_WITNESSES),
     ("cut witnesses", ["check-witness", "c", "w"], "cw", CUT_WITNESSES),
     ("a file twice, as a witness", ["check-witness", "c", "c"], "c", WITNESS_TWICE),
+    ("updates", ["update", "o", "n", "m"], "onm", UPDATES),
+    ("updates of chains", ["update", "o", "n", "m"], "onm", CHAIN_UPDATES),
+    ("a file twice, as an update", ["update", "o", "o", "m"], "om", UPDATE_TWICE),
     ("certificates that are not converted", ["check", "c"], "c", UNCONVERTED),
     ("refusals of convert", ["convert", "c"], "c", UNCONVERTED),
     ("conversions", ["convert", "c"], "c", CONVERSIONS),

@@ -10,6 +10,8 @@ pub mod CheckingWitnesses
 pub mod Converting
 pub mod Alike
 pub mod WitnessedAlike
+pub mod Updating
+pub mod UpdatedAlike
 pub mod Publishing
 pub mod Reporting
 pub mod Drawing

@@ -14,6 +14,7 @@ pub mod Convert
 pub mod Generate
 pub mod Publish
 pub mod Report
+pub mod Update
 pub mod Commands
 pub mod Converted
 pub mod Run

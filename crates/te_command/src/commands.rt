@@ -6,6 +6,7 @@ mod convert;
 mod generate;
 mod publish;
 mod run_plan;
+mod update;
 
 pub use check::Check;
 pub use check_network::CheckNetwork;
@@ -14,3 +15,4 @@ pub use convert::Convert;
 pub use generate::{Generate, generate_of};
 pub use publish::Publish;
 pub use run_plan::RunPlan;
+pub use update::Update;
