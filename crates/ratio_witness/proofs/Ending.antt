@@ -1,5 +1,5 @@
 -- Each file of a witness that was begun can be ended, and a witness that can be written has a file.
-use Rattle.std.proofs.Common.{◌≡◌, ℕ, zero, suc, ◌+◌, ◌^◌, ◌<◌, ◌≤◌, true, ◌&&◌, List, [], ◌∷◌, ◌++◌, length, map, append-nil, None, refl, ap, sym, ◌∙◌, arith, slice_index, ◌==◌, nat_le}
+use Rattle.std.proofs.Common.{◌≡◌, ℕ, zero, suc, ◌^◌, ◌<◌, ◌≤◌, true, ◌&&◌, List, [], ◌∷◌, ◌++◌, length, map, append-nil, None, refl, ap, sym, ◌∙◌, arith, slice_index, ◌==◌, nat_le}
 use Rattle.std.specs.Prelude.{codes, replicate}
 use Rattle.std.specs.List.{flat_map, list_all}
 use Rattle.std.proofs.lemmas.Bool.{and_parts, eq-eqb, eqb-true, le-leb, leb-true, ltb-true}
@@ -9,7 +9,7 @@ use Rattle.te_model.specs.declared.route.PathShare.{PathShare}
 use Rattle.te_model.specs.Shape.{are_words, is_count, is_row_of, is_shaped_path, is_word}
 use Rattle.cert_text.specs.Fits.{AreWords}
 use Rattle.number_tables.specs.declared.line.NumLine.{NumLine}
-use Rattle.number_tables.specs.Due.{Due, done, line, AreFile, CanEnd, has_count, one_later, first_undue, word_line}
+use Rattle.number_tables.specs.Due.{Due, done, AreFile, CanEnd, has_count, one_later, first_undue, word_line}
 use Rattle.number_tables.specs.Table.{AreLines, IsLine}
 use Rattle.number_tables.proofs.FirstUndue.{first_undue_leaves}
 use Rattle.ratio_witness.specs.declared.witness.Witness.{Witness}

@@ -13,15 +13,4 @@ pub mod TakenLines
 pub mod SpelledLines
 pub mod ReadAnswers
 pub mod OneReading
-pub mod PairLimits
-pub mod Heads
-pub mod HeadLimits
-pub mod LinkSums
-pub mod Choosing
-pub mod Attempted
-pub mod MadeAttempts
-pub mod BestSoFar
-pub mod BestOfFew
-pub mod TriedYes
-pub mod TriedMatrices
-pub mod ChosenWitness
+pub mod WitnessSizes

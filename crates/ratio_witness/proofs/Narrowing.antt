@@ -1,6 +1,6 @@
 -- A link number that is too wide for its field is refused by the same rule, at the same pair, as the greatest number that the
 -- field holds.
-use Rattle.std.proofs.Common.{◌≡◌, ℕ, suc, ◌+◌, ◌-◌, ◌^◌, ◌<◌, ◌≤◌, Bool, true, false, ◌&&◌, ◌||◌, List, [], ◌∷◌, length, map, get_or, slice_index, Option, refl, sym, ap, ◌∙◌, arith, inl, inr, nat_lt, nat_le, ◌==◌, sum, sum_by}
+use Rattle.std.proofs.Common.{◌≡◌, ℕ, suc, ◌-◌, ◌^◌, ◌<◌, ◌≤◌, Bool, true, false, ◌&&◌, ◌||◌, List, [], ◌∷◌, length, map, get_or, slice_index, Option, refl, sym, ap, ◌∙◌, arith, inl, inr, nat_lt, nat_le, ◌==◌, sum, sum_by}
 use Rattle.std.specs.List.{list_all}
 use Rattle.std.proofs.Math.ListN.{get_or-map}
 use Rattle.std.proofs.lemmas.Bool.{cases_lt, ltb-true, and_parts}

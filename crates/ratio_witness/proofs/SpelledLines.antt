@@ -1,17 +1,16 @@
 -- What the lines of a whole file spell, and where they leave the files of witnesses.
-use Rattle.std.proofs.Common.{◌≡◌, ℕ, suc, ◌+◌, ◌^◌, ◌<◌, true, ◌&&◌, List, [], ◌∷◌, ◌++◌, length, map, Some, Result, Ok, Err, refl, inl, ap, sym, ◌∙◌, subst, arith, append-nil, append_assoc, length-append, slice_index, ◌==◌}
+use Rattle.std.proofs.Common.{◌≡◌, ℕ, suc, ◌+◌, ◌^◌, true, ◌&&◌, List, [], ◌∷◌, ◌++◌, length, Some, Result, Ok, Err, refl, inl, ap, sym, ◌∙◌, subst, arith, append-nil, length-append, slice_index, ◌==◌}
 use Rattle.std.specs.Prelude.{codes}
 use Rattle.std.specs.List.{flat_map, list_all}
 use Rattle.std.proofs.lemmas.Bool.{and_from, eq-eqb, eqb-true, lt-ltb}
 use Rattle.te_model.specs.declared.route.PathShare.{PathShare}
 use Rattle.te_model.specs.Shape.{are_words, is_row_of, is_word}
 use Rattle.cert_text.specs.Fits.{AreWords}
-use Rattle.cert_text.specs.Kept.{keep_path}
 use Rattle.number_tables.specs.declared.due.DueLines.{DueLines}
 use Rattle.number_tables.specs.declared.fault.TableFault.{TableFault}
 use Rattle.number_tables.specs.declared.fault.TableFault.TheVariants as tables
 use Rattle.number_tables.specs.declared.line.NumLine.{NumLine}
-use Rattle.number_tables.specs.Due.{done, first_undue, has_count, word_line, LeavesSmallFiles}
+use Rattle.number_tables.specs.Due.{first_undue, has_count, word_line, LeavesSmallFiles}
 use Rattle.number_tables.specs.Table.{AreLines, table_text}
 use Rattle.number_tables.specs.TakingDue.{BeginsWithEnd, BeginsWithLine, BeginsWithNumber, IsBefore, LeavesAtEnd, LeavesAtLine, TakesDue, next_line}
 use Rattle.number_tables.proofs.TakingDue.{after_line, fails_as, fails_behind, leaves_files}

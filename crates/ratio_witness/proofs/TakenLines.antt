@@ -1,5 +1,5 @@
 -- What lines that are read one after the other give together, and where they leave what is due.
-use Rattle.std.proofs.Common.{◌≡◌, ℕ, zero, suc, ◌+◌, ◌-◌, ◌^◌, ◌<◌, ◌≤◌, Bool, true, false, ◌&&◌, List, [], ◌∷◌, ◌++◌, length, map, drop, Some, Result, Ok, Err, refl, ap, sym, ◌∙◌, subst, arith, append-nil, append_assoc, length-append, slice_index, nat_lt, nat_le, ◌==◌}
+use Rattle.std.proofs.Common.{◌≡◌, ℕ, suc, ◌+◌, ◌-◌, ◌^◌, ◌<◌, ◌≤◌, Bool, true, false, ◌&&◌, List, [], ◌∷◌, ◌++◌, length, map, drop, Some, Result, Ok, Err, refl, ap, sym, ◌∙◌, subst, arith, append-nil, append_assoc, length-append, slice_index, nat_le}
 use Rattle.std.specs.List.{flat_map, list_all}
 use Rattle.std.proofs.lemmas.Bool.{and_from, and_parts, eqb-true, le-leb, lt-ltb}
 use Rattle.std.proofs.lemmas.List.{length-map, map-append}
@@ -15,7 +15,7 @@ use Rattle.number_tables.specs.declared.due.DueLines.{DueLines}
 use Rattle.number_tables.specs.declared.fault.TableFault.{TableFault}
 use Rattle.number_tables.specs.declared.fault.TableFault.TheVariants as tables
 use Rattle.number_tables.specs.declared.line.NumLine.{NumLine}
-use Rattle.number_tables.specs.Due.{Due, line, first_undue, has_count, word_line}
+use Rattle.number_tables.specs.Due.{first_undue, has_count, word_line}
 use Rattle.number_tables.specs.Table.{AreLines}
 use Rattle.number_tables.specs.TakingDue.{BeginsWithLine, BeginsWithWord, IsBefore, LeavesAtLine, LeavesAtWord, TakesDue, next_line}
 use Rattle.number_tables.proofs.TakingDue.{after_line, fails_as, fails_behind, line_missed}

@@ -5,7 +5,4 @@ pub mod Verdict
 pub mod Text
 pub mod Outcome
 pub mod Reading
-pub mod Candidates
-pub mod Attempts
-pub mod RouteLimits
 pub mod Answers

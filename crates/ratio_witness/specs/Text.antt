@@ -1,11 +1,12 @@
 -- The file of a witness: a table of numbers, of which each line says what is due after it.
-use Rattle.std.specs.Prelude.{◌≡◌, ℕ, zero, suc, ◌+◌, Bool, ◌&&◌, List, [], ◌∷◌, length, map, flat_map, codes, nat_le, slice_index, ◌==◌, IsTrue, Some}
+use Rattle.std.specs.Prelude.{◌≡◌, ℕ, zero, suc, ◌+◌, ◌<◌, Bool, ◌&&◌, List, [], ◌∷◌, length, map, flat_map, codes, nat_le, slice_index, ◌==◌, IsTrue, Some}
 use Rattle.std.specs.List.{list_all}
 use Rattle.te_model.specs.declared.certificate.Head.{Head}
 use Rattle.te_model.specs.declared.certificate.RuleFault.{RuleFault}
 use Rattle.te_model.specs.declared.limits.TheConstants.{FORMAT_2}
 use Rattle.te_model.specs.declared.route.PathShare.{PathShare}
 use Rattle.te_model.specs.Shape.{is_count, is_row_of, is_shaped_path, is_word}
+use Rattle.te_model.specs.Validity.{IsValidHead}
 use Rattle.cert_text.specs.Kept.{keep_path}
 use Rattle.number_tables.specs.declared.line.NumLine.{NumLine}
 use Rattle.number_tables.specs.Due.{Due, done, line, has_count, word_line}
@@ -93,3 +94,7 @@ pub record IsWitnessRuleFault (h : Head) (bytes : List ℕ) (f : RuleFault) : Ty
   pub shaped : IsTrue (is_shaped_witness (length h.routes) spelled)
   pub file : bytes ≡ witness_text spelled
   pub first : witness_fault h spelled ≡ Some f
+
+-- The text of a witness of a valid head is short.
+abbrev pub WitnessTextsAreShort : Type 0
+WitnessTextsAreShort = (h : Head) (w : Witness) → IsValidHead h → IsWitnessOf h w → length (witness_text w) < 340000000

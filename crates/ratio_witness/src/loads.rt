@@ -84,7 +84,7 @@ fn no_loads() -> [u128; MOST]
 }
 
 /// The share of a pair with these paths on each link, in millionths.
-pub fn loads_of_one(paths: &[PathShare]) -> [u128; MOST]
+pub fn link_shares(paths: &[PathShare]) -> [u128; MOST]
     requires paths { All IsSimplePath paths.now }
     requires whole { sum_by (λ s. s.weight) paths.now ≤ SHARE_UNIT }
     ensures count { length result ≡ FORMAT_2.links }

@@ -7,7 +7,7 @@ ghost use Rattle.ratio_witness.specs.Witness.{most_used_link, utilisation_ratio}
 
 use te_model::{Network, RATIO_UNIT, ceil_div};
 
-pub(crate) fn capacity_of(net: &Network, link: usize) -> u128
+fn capacity_of(net: &Network, link: usize) -> u128
     requires { link < link_count net.now }
     ensures { result ≡ capacity_of net.now link }
 {

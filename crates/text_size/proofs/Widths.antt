@@ -112,7 +112,8 @@ size-flat_map {X} lines n m xs few small = omega (arith, all xs small, mul-le (l
         let rest = all xs (All-tail (λ y. size (lines y) ≤ m) x xs small) in
         omega (arith, size-append (lines x) (flat_map lines xs))
 
-length-lines : (lines : List (List ℕ)) → length (flat_map (λ line. line ++ 10 ∷ []) lines) ≡ size lines
+-- lines, each ended by a line feed
+pub length-lines : (lines : List (List ℕ)) → length (flat_map (λ line. line ++ 10 ∷ []) lines) ≡ size lines
 length-lines [] = refl
 length-lines (line ∷ lines) =
     omega (arith, length-append (line ++ 10 ∷ []) (flat_map (λ l. l ++ 10 ∷ []) lines), length-append line (10 ∷ []), length-lines lines)

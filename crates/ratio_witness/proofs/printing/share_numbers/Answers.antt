@@ -1,4 +1,4 @@
-use Rattle.std.proofs.Common.{◌≡◌, ◌∙◌, ◌∷◌, [], ℕ, List, ap, length}
+use Rattle.std.proofs.Common.{◌∙◌, ◌∷◌, [], ℕ, List, ap, length}
 use Rattle.std.proofs.lemmas.List.{take_all}
 use Rattle.ratio_witness.proofs.PutLines.{one_item_more}
 use Rattle.ratio_witness.proofs.printing.share_numbers.Goals as goal

@@ -1,4 +1,4 @@
-use Rattle.std.proofs.Common.{◌≡◌, ◌∙◌, ℕ, List, [], map, drop, ap, sym, slice_index}
+use Rattle.std.proofs.Common.{◌∙◌, ℕ, List, [], map, drop, ap, sym, slice_index}
 use Rattle.std.proofs.lemmas.Result.{err_from_is_err_and}
 use Rattle.te_model.specs.declared.route.PathShare.{PathShare}
 use Rattle.cert_text.specs.Reading.{narrow_number}

@@ -1,6 +1,5 @@
-use Rattle.std.proofs.Common.{◌≡◌, ℕ, List, Ok, arith, subst, sym}
+use Rattle.std.proofs.Common.{◌≡◌, Ok, arith, subst}
 use Rattle.std.proofs.lemmas.Result.{err_from_is_err_and}
-use Rattle.te_model.specs.declared.route.PathShare.{PathShare}
 use Rattle.number_tables.specs.TakingDue.{TakesDue}
 use Rattle.ratio_witness.specs.Reading.{BeginsWithPaths, LeavesAtPaths}
 use Rattle.ratio_witness.proofs.TakenLines.{no_paths, one_path_more, path_fails}

@@ -1,4 +1,4 @@
-use Rattle.std.proofs.Common.{◌≡◌, ℕ, List, Ok, arith, subst, sym}
+use Rattle.std.proofs.Common.{◌≡◌, Ok, arith, subst}
 use Rattle.std.proofs.lemmas.Result.{err_from_is_err_and}
 use Rattle.number_tables.specs.TakingDue.{TakesDue}
 use Rattle.ratio_witness.specs.Reading.{BeginsWithRival, LeavesAtRival}

@@ -1,5 +1,0 @@
-use Rattle.std.proofs.Common.{◌≡◌, map, take}
-use Rattle.ratio_witness.proofs.attacks.pairs_of.Given as goal
-
-abbrev pub invariant-loop-route : goal.invariant-loop-route
-invariant-loop-route l = l.list.items ≡ map (λ r. r.pair) (take l.route-index l.routes)

@@ -1,6 +1,0 @@
-use Rattle.std.proofs.Common.{◌≡◌}
-use Rattle.ratio_witness.specs.Candidates.{paths_by}
-use Rattle.ratio_witness.proofs.attempt.paths_of.Given as goal
-
-abbrev pub invariant-loop-route : goal.invariant-loop-route
-invariant-loop-route l = l.rival.items ≡ paths_by l.yielded

@@ -1,0 +1,13 @@
+pub mod PairLimits
+pub mod Heads
+pub mod HeadLimits
+pub mod LinkSums
+pub mod Choosing
+pub mod Attempted
+pub mod MadeAttempts
+pub mod BestSoFar
+pub mod BestOfFew
+pub mod TriedYes
+pub mod TriedMatrices
+pub mod ChosenWitness
+pub mod Existence

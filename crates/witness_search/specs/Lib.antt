@@ -1,0 +1,5 @@
+pub mod Candidates
+pub mod Attempts
+pub mod RouteLimits
+pub mod Attack
+pub mod Laws
