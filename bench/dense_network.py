@@ -1,8 +1,8 @@
 """A network with eight links a node, and matrices with all of its pairs."""
 
 
-def write_network(name, nodes, drawn):
-    """A ring both ways, so that all nodes reach each other, and then drawn links."""
+def write_network(name, nodes, drawn, capacities=(1, 100000)):
+    """A ring both ways, so that all nodes reach each other, and then drawn links, with capacities between these two."""
     links = [(i, (i + 1) % nodes) for i in range(nodes)] + [((i + 1) % nodes, i) for i in range(nodes)]
     while len(links) < 8 * nodes:
         tail, head = drawn.randrange(nodes), drawn.randrange(nodes)
@@ -11,7 +11,7 @@ def write_network(name, nodes, drawn):
     with open(name, "w") as net:
         net.write("source,target,capacity,cost\n")
         for tail, head in links:
-            net.write(f"n{tail},n{head},{drawn.randint(1, 100000)},{drawn.randint(1, 100)}\n")
+            net.write(f"n{tail},n{head},{drawn.randint(*capacities)},{drawn.randint(1, 100)}\n")
 
 
 def write_matrices(name, nodes, steps, drawn):

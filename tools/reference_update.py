@@ -52,15 +52,25 @@ def greatest_load(paths, steps, stage):
     return sum(max(both) for both in weights)
 
 
+def stages(steps):
+    """The stages below this number, the last one first: where one of them fails, it or the first mostly does."""
+    return [steps - 1, *range(steps - 1)]
+
+
 def is_safe_on(paths, capacity, steps):
-    return all(greatest_load(paths, steps, stage) <= steps * SHARE_UNIT * capacity for stage in range(steps))
+    return all(greatest_load(paths, steps, stage) <= steps * SHARE_UNIT * capacity for stage in stages(steps))
 
 
 def least_steps(on_links, capacities):
     """The least number of steps that is safe, or None."""
+    links = list(range(len(capacities)))
     for steps in range(1, MAX_STEPS + 1):
-        if all(is_safe_on(paths, capacity, steps) for paths, capacity in zip(on_links, capacities)):
+        failing = next((link for link in links if not is_safe_on(on_links[link], capacities[link], steps)), None)
+        if failing is None:
             return steps
+        # The next number is tried on this link first.
+        links.remove(failing)
+        links.insert(0, failing)
     return None
 
 
@@ -90,13 +100,9 @@ def update_text(old, new, pairs, demands):
     return plan_text(old, new, demands)
 
 
-def certificate_in(name):
-    return reference_check.certificate_of(name, reference_check.bytes_of(name))
-
-
-def series_in(name, names):
-    """The series of a matrix file for these nodes."""
-    data, net = reference_check.bytes_of(name), Network()
+def series_of(name, data, names):
+    """The series of a matrix file of this name and these bytes, for these nodes."""
+    net = Network()
     if len(data) > INPUT_LIMIT:
         raise reference_check.Refused(f"refused: {name}: too long\n", 3)
     for node in names:
@@ -107,11 +113,11 @@ def series_in(name, names):
     return series
 
 
-def answer(names):
-    """The texts for standard output and error, and the status, of two certificates and a matrix file."""
+def answer(names, bytes_of=reference_check.bytes_of):
+    """The texts for standard output and error, and the status, of two certificates and a matrix file, by their names and bytes."""
     try:
-        old, new = certificate_in(names[0]), certificate_in(names[1])
-        series = series_in(names[2], old["names"])
+        old, new = (reference_check.certificate_of(name, bytes_of(name)) for name in names[:2])
+        series = series_of(names[2], bytes_of(names[2]), old["names"])
     except reference_check.Refused as refusal:
         text, status = refusal.args
         return "", text, status

@@ -65,7 +65,10 @@ def programs_that_fail():
         file = os.path.join(folder, "c")
         with open(file, "w", encoding="ascii") as certificate:
             certificate.write(SMALLEST)
-        words = {"attack": ["4"], "check_speed": [file], "publish": ["spf", "4"], "schemes": ["4", "spf"], "nearness": ["--recorded", "--program", false, "small"]}
+        words = {
+            "attack": ["4"], "check_speed": [file], "publish": ["spf", "4"], "schemes": ["4", "spf"], "update": ["4"],
+            "nearness": ["--recorded", "--program", false, "small"],
+        }
         for name in scripts():
             script = without_programs(name)
             # So that little is written before.

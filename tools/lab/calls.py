@@ -18,6 +18,7 @@ from .certificates import (
     UNREACHED_TOO_LOW, WIDE_NODES, WIDE_RATIO, WIDE_WEIGHT, ZERO_BEFORE_FORMAT,
 )
 from .program import TOP
+from .updates import TWICE as UPDATE_TWICE, UPDATES, plan as update_plan
 from .witnesses import ATTACKED, ATTACKS, CUT_WITNESSES, TWICE as WITNESS_TWICE, WITNESSES, witness
 
 YES = "yes ratio 1000000 set all\n"
@@ -397,6 +398,9 @@ NO_FORMS = [
     ["gen", "12", "18446744073709551616"],
     ["gen", "12", "7", "7"],
     ["check", "2", "0", "0"],
+    ["update", "o", "n"],
+    ["update", "o", "n", "m", "m"],
+    ["Update", "o", "n", "m"],
 ]
 
 # Words with a number of nodes and a seed, and what stands before and after the ratio. The numbers are those of another program that draws,
@@ -444,6 +448,14 @@ CHAIN_WITNESS = witness(1000000, "1 1", 1000000, "1", "1000000 64" + "".join(f" 
 CHAIN_WITNESSES = [([chain_certificate(1000000), CHAIN_WITNESS], 0, "yes bound 1000000\n")]
 CHAIN_ATTACKS = [([chain_certificate(1000000)], 0, CHAIN_WITNESS)]
 
+# A chain's certificate twice: its path fills each link before and after, and asks for no room.
+CHAIN_UPDATES = [
+    (
+        [chain_certificate(1000000), chain_certificate(1000000), "step,source,target,demand\n0,n0,n64,10\n"],
+        *update_plan(1, "0 1000000 1000000 64" + "".join(f" {link}" for link in range(64))),
+    ),
+]
+
 # One unit from the first node of the chain to the last one, and to the one before it.
 TO_LAST = "step,source,target,demand\n0,n0,n64,1\n"
 TO_LAST_OF_SHORT = "step,source,target,demand\n0,n0,n63,1\n"
@@ -478,6 +490,9 @@ TABLES = [
     ("witnesses of attacks", ["check-witness", "c", "w"], "cw", ATTACKED),
     ("refusals of attack", ["attack", "c"], "c", UNCONVERTED),
     ("a file twice, as a witness", ["check-witness", "c", "c"], "c", WITNESS_TWICE),
+    ("updates", ["update", "o", "n", "m"], "onm", UPDATES),
+    ("updates of chains", ["update", "o", "n", "m"], "onm", CHAIN_UPDATES),
+    ("a file twice, as an update", ["update", "o", "o", "m"], "om", UPDATE_TWICE),
     ("certificates that are not converted", ["check", "c"], "c", UNCONVERTED),
     ("refusals of convert", ["convert", "c"], "c", UNCONVERTED),
     ("conversions", ["convert", "c"], "c", CONVERSIONS),

@@ -16,10 +16,10 @@ DEMANDS, OUTAGES = "step,source,target,demand\n", "from,to,link\n"
 # The files of a call, of which one is exchanged; and by the kind of this one its name, and the words of the calls that read it.
 GOOD = {"c": SMALLEST, "w": OF_SMALLEST, "t": HEADER + ROW, "m": DEMAND, "f": OUTAGES + "0,0,0\n", "p": PLAN}
 CALLS = {
-    "certificate": ("c", [["check", "c"], ["check", "c", "t"], ["check-witness", "c", "w"], ["attack", "c"], ["convert", "c"]]),
+    "certificate": ("c", [["check", "c"], ["check", "c", "t"], ["check-witness", "c", "w"], ["attack", "c"], ["update", "c", "c", "m"], ["convert", "c"]]),
     "witness": ("w", [["check-witness", "c", "w"]]),
     "topology": ("t", [["check", "c", "t"], ["publish", "p"], ["run", "p"]]),
-    "matrices": ("m", [["publish", "p"], ["run", "p"]]),
+    "matrices": ("m", [["publish", "p"], ["run", "p"], ["update", "c", "c", "m"]]),
     "failures": ("f", [["run", "p"]]),
     "plan": ("p", [["publish", "p"], ["run", "p"]]),
 }

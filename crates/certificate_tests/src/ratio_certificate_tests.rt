@@ -11,7 +11,7 @@ use std::process::Abort;
 use te_model::{Block, DemandSet, Memory, Network, Row};
 
 /// The straight routes as a routing.
-fn straight_routing(alloc: Global) -> Result<Routing, AllocError>
+pub fn straight_routing(alloc: Global) -> Result<Routing, AllocError>
     ensures { IfOk result (λ r. r.routes ≡ straight_routes) }
 {
     Ok(Routing {

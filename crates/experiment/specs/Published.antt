@@ -1,5 +1,5 @@
 -- What is published: the file of a certificate of the plan's oblivious routing.
-use Rattle.std.specs.Prelude.{◌≡◌, ℕ, ◌≤◌, List, length, replicate, slice_index_or, Option, Some, None, if◌then◌else◌}
+use Rattle.std.specs.Prelude.{◌≡◌, ℕ, ◌≤◌, List, length, Option, Some, None, if◌then◌else◌}
 use Rattle.te_model.specs.declared.network.Network.{Network}
 use Rattle.te_model.specs.declared.route.PairRoutes.{PairRoutes}
 use Rattle.te_model.specs.declared.certificate.Certificate.{Certificate}
@@ -12,18 +12,11 @@ use Rattle.te_model.specs.Ratio.{IsObliviousRatio}
 use Rattle.te_model.specs.Text.{Spells, text}
 use Rattle.path_budget.specs.Budget.{trimmed_routes}
 use Rattle.ratio_certificate.specs.Made.{IsMade}
+use Rattle.traffic_matrix.specs.First.{first_matrix}
 use Rattle.traffic_matrix.specs.declared.series.Series.{Series}
 use Rattle.plan.specs.declared.experiment.Experiment.{Experiment}
 use Rattle.experiment.specs.Envelope.{envelope_of}
 use Rattle.experiment.specs.Schemes.{IsSchemeRouting}
-
--- no demand of any pair of the series
-abbrev pub no_demand : Series → Matrix
-no_demand series = record { demand = replicate (length series.pairs.list) 0 }
-
--- the matrix of step 0, or no demand where there is no step
-abbrev pub first_matrix : Series → Matrix
-first_matrix series = slice_index_or series.steps 0 (no_demand series)
 
 -- every matrix, or those within the margin of the first one
 abbrev pub margin_set : Option (ℕ × ℕ) → Series → DemandSet

@@ -1,25 +1,12 @@
 //! The demand set of a plan.
 ghost use Rattle.std.specs.Prelude.{◌≡◌, IfOk};
-ghost use Rattle.experiment.specs.Published.{first_matrix, margin_set, published_set};
+ghost use Rattle.experiment.specs.Published.{margin_set, published_set};
 
 use crate::envelope::envelope_of;
 use plan::Experiment;
 use std::alloc::Global;
-use te_model::{DemandSet, Items, Matrix, Memory};
-use traffic_matrix::Series;
-
-/// The matrix of step 0, or no demand where there is no step.
-fn first_matrix(alloc: Global, series: &Series) -> Result<Matrix, Memory>
-    ensures { IfOk result (λ m. m ≡ first_matrix series.now) }
-{
-    let demand = match series.steps.as_slice().first() {
-        Some(matrix) => Vec::from_slice(alloc, matrix.demand.as_slice())?,
-        None => vec![in alloc; 0; series.pairs.list.as_slice().len()]?,
-    };
-    Ok(Matrix {
-        demand: Items::new(demand),
-    })
-}
+use te_model::{DemandSet, Memory};
+use traffic_matrix::{Series, first_matrix};
 
 /// Every matrix, or those within the margin of the first one.
 fn margin_set(

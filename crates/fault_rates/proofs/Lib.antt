@@ -1,10 +1,10 @@
-mod Survival
+pub mod Survival
 mod Existence
 mod Faultless
 mod LinkSums
 mod Judged
 mod Guards
-mod Verdicts
+pub mod Verdicts
 pub mod Files
 pub mod PairLines
 pub mod ReadRates
@@ -13,4 +13,5 @@ pub mod Words
 pub mod Making
 pub mod Raising
 pub mod SomeProtection
-mod ShortTexts
+pub mod ShortTexts
+pub mod Answered

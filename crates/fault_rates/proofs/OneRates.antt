@@ -1,16 +1,20 @@
 -- A file is that of one plan.
-use Rattle.std.proofs.Common.{◌≡◌, ◌∙◌, ℕ, List, [], ◌∷◌, Result, Ok, Option, Some, None, drop, slice_index, refl, ap, sym, inl, inr}
+use Rattle.std.proofs.Common.{◌≡◌, ◌∙◌, ◌⊎◌, ℕ, List, [], ◌∷◌, Result, Ok, Err, Option, Some, None, drop, slice_index, refl, ap, sym, inl, inr}
 use Rattle.te_model.specs.declared.certificate.RuleFault.{RuleFault}
 use Rattle.te_model.specs.declared.route.PairRoutes.{PairRoutes}
 use Rattle.number_tables.specs.declared.line.NumLine.{NumLine}
+use Rattle.number_tables.specs.Due.{AreFile, LeavesSmallFiles}
+use Rattle.number_tables.specs.Table.{table_text}
+use Rattle.number_tables.proofs.EachFile.{small_file_or_fault}
 use Rattle.number_tables.proofs.FirstUndue.{one_small_fault}
 use Rattle.number_tables.proofs.Whole.{one_table}
 use Rattle.fault_rates.specs.declared.fault.RateFault.{RateFault}
+use Rattle.fault_rates.specs.declared.fault.RateFault.TheVariants as faults
 use Rattle.fault_rates.specs.declared.plan.RatePlan.{RatePlan}
 use Rattle.fault_rates.specs.File.{FitPairs, pair_lines, rate_lines, rates_due, rates_text}
 use Rattle.fault_rates.specs.Plan.{plan_fault}
-use Rattle.fault_rates.specs.Reading.{GivesRates, GivesRatesOrMemory, spelled, misshaped, SpellsRates, read_unless}
-use Rattle.fault_rates.proofs.Files.{fit_pairs, rates_file}
+use Rattle.fault_rates.specs.Reading.{GivesRates, GivesRatesOrMemory, MeansRates, RatesHaveOneMeaning, spelled, misshaped, SpellsRates, read_unless}
+use Rattle.fault_rates.proofs.Files.{fit_pairs, rates_end, rates_file, rates_of}
 use Rattle.fault_rates.proofs.ReadRates.{rates_first}
 
 abbrev first_numbers : List NumLine → List ℕ
@@ -74,3 +78,33 @@ print_of_read routes bytes plan (inl (spelled other is gives)) = go (plan_fault 
     go : (o : Option RuleFault) → ◌≡◌ {A = Result RatePlan RateFault} (Ok plan) (read_unless o other) → bytes ≡ rates_text plan
     go None e = is.file ∙ ap rates_text (sym (same_plan plan other e))
     go (Some f) e = cc
+
+-- bytes that are the file of rates leave the files of rates nowhere
+no_leaving : (routes : List PairRoutes) (bytes : List ℕ) (plan : RatePlan) (k : ℕ) → SpellsRates routes bytes plan →
+    LeavesSmallFiles rates_first (rates_due routes) bytes k → ⊥
+no_leaving routes bytes plan k is leaves =
+    (one_small_fault rates_first (rates_due routes) bytes).1 (rate_lines plan) (rates_file routes plan is.shaped is.words) is.file k leaves
+
+one_meaning : (routes : List PairRoutes) (bytes : List ℕ) (x y : Result RatePlan RateFault) → MeansRates routes bytes x → MeansRates routes bytes y → x ≡ y
+one_meaning routes bytes x y (spelled p is gives) (spelled q also too) =
+    gives ∙ (ap (λ (r : RatePlan). read_unless (plan_fault r) r) (one_plan routes bytes p q is also) ∙ sym too)
+one_meaning routes bytes x y (spelled p is gives) (misshaped k leaves too) = absurd (no_leaving routes bytes p k is leaves)
+one_meaning routes bytes x y (misshaped k leaves gives) (spelled q also too) = absurd (no_leaving routes bytes q k also leaves)
+one_meaning routes bytes x y (misshaped j here gives) (misshaped k there too) =
+    gives ∙ (ap (λ n. Err (faults.Shape n)) ((one_small_fault rates_first (rates_due routes) bytes).0 j k here there) ∙ sym too)
+
+-- bytes have one meaning
+pub rates_have_one_meaning : RatesHaveOneMeaning
+rates_have_one_meaning routes bytes = go (small_file_or_fault rates_first refl (rates_due routes) (rates_end routes) bytes)
+  where
+    go : ((ls : List NumLine) × AreFile (rates_due routes) ls × (bytes ≡ table_text rates_first ls)) ⊎ ((k : ℕ) × LeavesSmallFiles rates_first (rates_due routes) bytes k) →
+        (answer : Result RatePlan RateFault) × MeansRates routes bytes answer × ((other : Result RatePlan RateFault) → MeansRates routes bytes other → answer ≡ other)
+    go (inl file) =
+        let of = rates_of routes file.0 file.1 in
+        let means : MeansRates routes bytes (read_unless (plan_fault of.0) of.0) =
+        spelled of.0 (record { shaped = of.1; words = of.2; file = file.2 ∙ ap (table_text rates_first) of.3 }) refl
+        in
+        (read_unless (plan_fault of.0) of.0, means, λ other also. one_meaning routes bytes _ other means also)
+    go (inr fault) =
+        let means : MeansRates routes bytes (Err (faults.Shape fault.0)) = misshaped fault.0 fault.1 refl in
+        (Err (faults.Shape fault.0), means, λ other also. one_meaning routes bytes _ other means also)

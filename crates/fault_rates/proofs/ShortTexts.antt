@@ -1,19 +1,16 @@
 -- The text of rates that keep the rules is short.
-use Rattle.std.proofs.Common.{true, ◌≡◌, ◌∙◌, ℕ, zero, suc, ◌+◌, ◌*◌, ◌<◌, ◌≤◌, ◌^◌, ◌&&◌, List, [], ◌∷◌, ◌++◌, length, map, slice_index, arith, ap, refl, length-append}
+use Rattle.std.proofs.Common.{true, ◌≡◌, ℕ, suc, ◌+◌, ◌*◌, ◌<◌, ◌≤◌, ◌^◌, ◌&&◌, List, [], ◌∷◌, ◌++◌, length, map, slice_index, arith, refl, length-append}
 use Rattle.std.specs.Prelude.{All, codes, slice_index_or}
 use Rattle.std.specs.List.{list_all}
 use Rattle.std.proofs.lemmas.Bool.{and_parts, leb-true}
 use Rattle.std.proofs.lemmas.List.Elements.{All-cons, All-get_or, All-nil}
 use Rattle.te_model.specs.declared.route.PairRoutes.{PairRoutes}
 use Rattle.te_model.specs.Path.{no_routes, routes_at}
-use Rattle.te_model.specs.Text.{numbers, words}
-use Rattle.routing.specs.Routes.{HasFewPaths}
-use Rattle.text_size.proofs.Widths.{digit_count, widest, widths, widths-le, length-words, line-numbers}
+use Rattle.text_size.proofs.Widths.{digit_count, widest, widths-le, length-words, line-numbers}
 use Rattle.number_tables.specs.Due.{word_line}
 use Rattle.number_tables.specs.Table.{file_of, line_text}
-use Rattle.fault_rates.specs.declared.plan.RatePlan.{RatePlan}
-use Rattle.fault_rates.specs.File.{FitPairs, RateTextsAreShort, pair_lines, rate_lines, rates_text}
-use Rattle.fault_rates.specs.Plan.{IsValidPlan, allocations_at, has_small_rates, is_rate}
+use Rattle.fault_rates.specs.File.{FitPairs, RateTextsAreShort, pair_lines, rate_lines}
+use Rattle.fault_rates.specs.Plan.{is_rate}
 use Rattle.fault_rates.proofs.Files.{fit_pairs}
 use Rattle.fault_rates.proofs.Judged.{few_failures, small_rates}
 

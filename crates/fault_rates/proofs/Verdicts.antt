@@ -1,8 +1,9 @@
 -- The verdict that is found is that of the rules.
-use Rattle.std.proofs.Common.{◌≡◌, ◌↔◌, ◌∙◌, ℕ, ◌<◌, Bool, List, [], ◌∷◌, Option, Some, None, length, nat_le, slice_index, refl, ap, sym}
-use Rattle.std.specs.Prelude.{if◌then◌else◌}
+use Rattle.std.proofs.Common.{◌≡◌, ◌↔◌, ◌∙◌, ℕ, ◌<◌, Bool, List, [], ◌∷◌, Option, Some, None, Result, Ok, Err, length, nat_le, slice_index, refl, ap, sym}
+use Rattle.std.specs.Prelude.{if◌then◌else◌, IfOk}
 use Rattle.std.specs.Option.{option_or}
 use Rattle.te_model.specs.declared.certificate.RuleFault.{RuleFault}
+use Rattle.te_model.specs.declared.memory.Memory.{Memory}
 use Rattle.te_model.specs.declared.network.Network.{Network}
 use Rattle.te_model.specs.declared.route.PairRoutes.{PairRoutes}
 use Rattle.te_model.specs.Counting.{first_some, sum_below, unless}
@@ -99,3 +100,18 @@ verdict_no x v rule place is said = go (guard_fault x) refl
         let same : No f.number f.place ≡ No rule place = sym (is ∙ ap verdict_of e) ∙ said in
         let found : f ≡ fault_at rule place = λ i. record { number = ap rule_in same i; place = ap place_in same i } in
         (first_rule_of-some (guard_rules x) (fault_at rule place)).0 (e ∙ ap Some found)
+
+-- ---- the same of an answer, which may be that memory was short
+
+pub answer_yes : (x : Protection) (r : Result RateVerdict Memory) → IfOk r (λ v. v ≡ verdict_of (guard_fault x)) → IfOk r (λ v. (v ≡ Yes) ↔ AreGuarded x)
+answer_yes x (Ok v) is = verdict_yes x v is
+answer_yes x (Err e) is = tt
+
+pub answer_no : (x : Protection) (r : Result RateVerdict Memory) (rule place : ℕ) → IfOk r (λ v. v ≡ verdict_of (guard_fault x)) → r ≡ Ok (No rule place) →
+    IsFirstRuleOf (guard_rules x) (fault_at rule place)
+answer_no x (Ok v) rule place is said = let same : v ≡ No rule place = cc in verdict_no x v rule place is same
+answer_no x (Err e) rule place is said = cc
+
+pub answer_survives : (x : Protection) (r : Result RateVerdict Memory) → IfOk r (λ v. v ≡ verdict_of (guard_fault x)) → r ≡ Ok Yes → SurvivesFailures x
+answer_survives x (Ok v) is said = let same : v ≡ Yes = cc in verdict_survives x v is same
+answer_survives x (Err e) is said = cc

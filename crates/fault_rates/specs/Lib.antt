@@ -7,3 +7,4 @@ pub mod File
 pub mod PairLines
 pub mod Reading
 pub mod Making
+pub mod Answers

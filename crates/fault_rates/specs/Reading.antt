@@ -56,3 +56,10 @@ GivesRates routes bytes answer = MeansRates routes bytes answer ⊎ (answer ≡ 
 -- the answer is these rates, or memory ran out
 abbrev pub GivesRatesOrMemory : Result RatePlan RateFault → RatePlan → Type 0
 GivesRatesOrMemory answer plan = (answer ≡ Ok plan) ⊎ (answer ≡ Err faults.Memory)
+
+-- Bytes have one meaning for a routing.
+abbrev pub RatesHaveOneMeaning : Type 0
+RatesHaveOneMeaning =
+    (routes : List PairRoutes) (bytes : List ℕ) →
+    (answer : Result RatePlan RateFault) × MeansRates routes bytes answer
+    × ((other : Result RatePlan RateFault) → MeansRates routes bytes other → answer ≡ other)

@@ -2,6 +2,7 @@
 ghost use Rattle.fault_rates.specs.File.{FilesOfRates, RateTextsAreShort};
 ghost use Rattle.fault_rates.specs.Laws.{EvenGuards, EvenProtectionsExist, GuardedGrantsSurvive};
 ghost use Rattle.fault_rates.specs.Making.{ProtectionsExist};
+ghost use Rattle.fault_rates.specs.Reading.{KeptHasSameFault, RatesHaveOneMeaning};
 ghost use Rattle.fault_rates.specs.Verdict.{GuardedIsFaultless};
 
 /// Where the allocations fit and each grant is guarded, the grants survive the failure of any links, no more than so many.
@@ -33,6 +34,16 @@ pub fn protections_exist()
 /// The small files whose lines are due for a routing are the files of its rates, and each that was begun can be ended.
 pub fn files_are_of_rates()
     ensures { FilesOfRates }
+{}
+
+/// Bytes have one meaning as rates of a routing.
+pub fn rates_have_one_meaning()
+    ensures { RatesHaveOneMeaning }
+{}
+
+/// Keeping no more than 32 bits of the number of failures changes no rule's answer.
+pub fn kept_failures_have_same_fault()
+    ensures { KeptHasSameFault }
 {}
 
 /// The text of rates that keep the rules has fewer than 6,000,000 bytes, where there are at most 16,256 pairs with at most 32

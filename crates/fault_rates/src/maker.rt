@@ -286,8 +286,8 @@ fn all_grants(
     Ok(Items::new(grants))
 }
 
-// The rates of these routes.
-fn made_rates(
+/// The rates of these routes.
+pub(crate) fn made_rates(
     alloc: Global,
     net: &Network,
     routes: &[PairRoutes],

@@ -103,7 +103,7 @@ fn spelled(alloc: Global, routes: &[PairRoutes], bytes: &[u8]) -> Result<RatePla
     Ok(plan)
 }
 
-/// Reads the file of rates of the routing: a table with the first line `yates-rates 1`, a line `failures` with one number,
+/// Reads the file of rates of a routing with these routes: a table with the first line `yates-rates 1`, a line `failures` with one number,
 /// and for each pair a line of its grant and one allocation for each of its paths.
 ///
 /// # Errors
@@ -113,13 +113,29 @@ fn spelled(alloc: Global, routes: &[PairRoutes], bytes: &[u8]) -> Result<RatePla
 /// - `Shape(line)`: the first line at which the bytes leave the tables, or else the files of rates of this routing;
 /// - `Rule(fault)`: the bytes are such a file, and this is the failing rule of the least number, G1 or G2, at its least place;
 /// - `Memory`, where memory runs out.
-pub fn read(alloc: Global, routing: &Routing, bytes: &[u8]) -> Result<RatePlan, RateFault>
-    ensures rates { GivesRates routing.now.routes bytes.now result }
-    ensures valid { IfOk result (IsValidPlan routing.now.routes) }
+pub fn read_by_routes(
+    alloc: Global,
+    routes: &[PairRoutes],
+    bytes: &[u8],
+) -> Result<RatePlan, RateFault>
+    ensures rates { GivesRates routes.now bytes.now result }
+    ensures valid { IfOk result (IsValidPlan routes.now) }
 {
-    let plan = spelled(alloc, routing.routes.as_slice(), bytes)?;
+    let plan = spelled(alloc, routes, bytes)?;
     match plan_fault(&plan) {
         None => Ok(plan),
         Some(fault) => Err(RateFault::Rule(fault)),
     }
+}
+
+/// Reads the file of rates of the routing, as [`read_by_routes`] does of its routes.
+///
+/// # Errors
+///
+/// Those of [`read_by_routes`].
+pub fn read(alloc: Global, routing: &Routing, bytes: &[u8]) -> Result<RatePlan, RateFault>
+    ensures rates { GivesRates routing.now.routes bytes.now result }
+    ensures valid { IfOk result (IsValidPlan routing.now.routes) }
+{
+    read_by_routes(alloc, routing.routes.as_slice(), bytes)
 }

@@ -115,6 +115,22 @@ fn verdict_of(fault: Option<RuleFault>) -> RateVerdict
     }
 }
 
+/// The verdict on rates of these routes.
+pub(crate) fn verdict_on(
+    alloc: Global,
+    net: &Network,
+    routes: &[PairRoutes],
+    matrix: &Matrix,
+    plan: &RatePlan,
+) -> Result<RateVerdict, Memory>
+    requires can { CanJudge net.now routes.now plan.now }
+    requires demands { length matrix.now.demand ≡ length routes.now }
+    ensures { IfOk result (λ v. v ≡ verdict_of (guard_fault (protection_by net.now routes.now matrix.now.demand plan.now))) }
+{
+    let sums = allocated(alloc, net, routes, plan)?;
+    Ok(verdict_of(fault_of(net, routes, matrix, plan, &sums)))
+}
+
 /// The verdict on rates of a routing of the network, which has at most 32 paths for each pair. `matrix` has one demand for
 /// each pair.
 ///
@@ -143,7 +159,5 @@ pub fn judge(
     ensures survives { result ≡ Ok RateVerdict.Yes →
         SurvivesFailures (protection_by net.now routing.now.routes matrix.now.demand plan.now) }
 {
-    let routes = routing.routes.as_slice();
-    let sums = allocated(alloc, net, routes, plan)?;
-    Ok(verdict_of(fault_of(net, routes, matrix, plan, &sums)))
+    verdict_on(alloc, net, routing.routes.as_slice(), matrix, plan)
 }

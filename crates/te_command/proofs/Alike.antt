@@ -1,18 +1,21 @@
--- What `check` says of a file and of the one that `convert` makes of it.
-use Rattle.std.proofs.Common.{◌≡◌, ℕ, List, [], Option, Some, inl, inr, refl, ◌∙◌, subst, arith}
+-- What `check` says of a file and of the one that `convert` makes of it, and how other commands say the same of both.
+use Rattle.std.proofs.Common.{◌≡◌, ◌<◌, ◌≤◌, ℕ, List, [], length, Option, Some, Err, inl, inr, refl, sym, ◌∙◌, subst, arith}
+use Rattle.te_ports.specs.Record.{Read as FileRead}
 use Rattle.te_model.specs.declared.certificate.Certificate.{Certificate}
 use Rattle.te_model.specs.Text.{Spells, text as text_of}
 use Rattle.te_model.specs.Upgrade.{box_of, upgraded_certificate}
 use Rattle.te_model.proofs.Upgrading.{failures_kept}
 use Rattle.cert_text.proofs.Laws.{one_spelling}
 use Rattle.text_size.proofs.ValidSizes.{fits_file}
-use Rattle.command_frame.specs.Files.{told_files}
-use Rattle.command_frame.specs.Reading.{Means}
+use Rattle.command_frame.specs.Files.{told_files, told_passes}
+use Rattle.command_frame.specs.Reading.{Means, MeansAfter, Reading, reads}
+use Rattle.te_command.specs.CertificateFile.{certificates, GivesCertificate}
 use Rattle.te_command.specs.Check.{IsVerdict, yes_line}
 use Rattle.te_command.specs.Commands.{check, convert, reading_of}
 use Rattle.te_command.specs.Converted.{SayYesAlike}
 use Rattle.command_frame.proofs.Ending.{some_once}
 use Rattle.te_command.proofs.Converting.{spells_upgraded}
+use Rattle.te_command.proofs.Regular.{spelled_accepted}
 
 no_kept : (c : Certificate) (line : List ℕ) → IsVerdict c 1 line → IsVerdict (upgraded_certificate c) 1 line
 no_kept c line (inl holds) = absurd (omega (arith, holds.0))
@@ -56,3 +59,28 @@ yes_alike content file made text line at converted (inl (three, now, refused, en
 yes_alike content file made text line at (inr (c, now, (bytes, told_as, few, spells), ((zero, is), ended))) (inr (d, then, (all, told_is, short, spelled), (verdict, over))) =
     let kept = yes_kept c line (subst (λ x. IsVerdict x 0 line) (one_certificate (content file) bytes all c d told_as told_is spells spelled) verdict) in
     (kept.0, kept.1, of_made content made bytes text kept.0 c 0 at spells is kept.2)
+
+not_longer : (x y : List ℕ) → x ≡ y → length x ≤ certificates.limit x → certificates.limit y < length y → ⊥
+not_longer x y same short long = let other = subst (λ b. certificates.limit b < length b) (sym same) long in omega (arith, short, other)
+
+-- What is meant of a converted file is meant of the one that `convert` made, where what follows says the same of both certificates.
+pub after_conversion : (content : List ℕ → Option (List ℕ)) (file made made_text : List ℕ) (next : Certificate → Reading) (before : List FileRead)
+    (status : ℕ) (text : List ℕ) → content made ≡ Some made_text → Means (reading_of (convert file)) (told_files content) 0 made_text →
+    ((c : Certificate) (now : List FileRead) → MeansAfter (next c) (told_passes content) now status text →
+    MeansAfter (next (upgraded_certificate c)) (told_passes content) now status text) →
+    MeansAfter (reads Certificate certificates file next) (told_passes content) before status text →
+    MeansAfter (reads Certificate certificates made next) (told_passes content) before status text
+after_conversion content file made made_text next before status text at (inl (three, now, refused, ended)) alike means = absurd (omega (arith, three))
+after_conversion content file made made_text next before status text at (inr (c, now, (bytes, told_as, few, spells), ((zero, is), ended))) alike (inl (three, then, inl ((all, told_is, long), line), over)) =
+    absurd (not_longer bytes all (some_once (content file) bytes all told_as told_is) few long)
+after_conversion content file made made_text next before status text at (inr (c, now, (bytes, told_as, few, spells), ((zero, is), ended))) alike (inl (three, then, inr (all, words, told_is, short, refused, line), over)) =
+    absurd (spelled_accepted bytes c words spells (subst (λ b. GivesCertificate b (Err words)) (some_once (content file) all bytes told_is told_as) refused))
+after_conversion content file made made_text next before status text at (inr (c, now, (bytes, told_as, few, spells), ((zero, is), ended))) alike (inr (d, then, (all, told_is, short, spelled), means)) =
+    let same = one_certificate (content file) bytes all c d told_as told_is spells spelled in
+    let upgraded = spells_upgraded c bytes made_text spells is in
+    inr (
+      upgraded_certificate c,
+      then,
+      (made_text, at, fits_file made_text (upgraded_certificate c) upgraded, upgraded),
+      alike c then (subst (λ (x : Certificate). MeansAfter (next x) (told_passes content) then status text) same means),
+    )

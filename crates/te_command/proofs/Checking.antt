@@ -8,10 +8,11 @@ use Rattle.te_model.proofs.SameNetworks.{same_or_not}
 use Rattle.te_model.proofs.Failures.{holds_from_none}
 use Rattle.te_model.proofs.Oblivious.{holds_is_oblivious}
 use Rattle.topology.specs.Topology.{topology_of}
+use Rattle.update_plan.specs.Answer.{no_network_line}
 use Rattle.command_frame.specs.Sound.{IsSound}
 use Rattle.command_frame.specs.Table.{IsSoundEntry}
 use Rattle.te_command.specs.TopologyFile.{topology_reason}
-use Rattle.te_command.specs.Check.{IsVerdict, IsNetworkVerdict, IsProof, yes_line, no_line, no_network_line, verdict_on, network_verdict_on, check_entry, check_network_entry}
+use Rattle.te_command.specs.Check.{IsVerdict, IsNetworkVerdict, IsProof, yes_line, no_line, verdict_on, network_verdict_on, check_entry, check_network_entry}
 use Rattle.te_command.proofs.Regular.{certificates_regular, inputs_regular}
 
 failure_once : (o : Option LinkFailure) (f g : LinkFailure) → o ≡ Some f → o ≡ Some g → f ≡ g

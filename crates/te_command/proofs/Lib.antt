@@ -11,6 +11,8 @@ pub mod Converting
 pub mod Alike
 pub mod WitnessedAlike
 pub mod Attacking
+pub mod Updating
+pub mod UpdatedAlike
 pub mod Publishing
 pub mod Reporting
 pub mod Drawing

@@ -17,7 +17,8 @@ fault_once bytes x y (inl p) (inr q) = absurd (p.1.no_file q.1.spelled q.1.shape
 fault_once bytes x y (inr p) (inl q) = absurd (q.1.no_file p.1.spelled p.1.shaped p.1.file)
 fault_once bytes x y (inr p) (inr q) = p.2 ∙ ap (rule_reason (codes "V")) (one_rule_fault bytes p.0 q.0 p.1 q.1) ∙ sym q.2
 
-spelled_accepted : (bytes : List ℕ) (c : Certificate) (x : List ℕ) → Spells bytes c → GivesCertificate bytes (Err x) → ⊥
+-- a file that spells a certificate is not refused
+pub spelled_accepted : (bytes : List ℕ) (c : Certificate) (x : List ℕ) → Spells bytes c → GivesCertificate bytes (Err x) → ⊥
 spelled_accepted bytes c x spells (inl p) = p.1.no_file c spells.0.0 spells.1
 spelled_accepted bytes c x spells (inr p) = spelled_or_ruled bytes c p.0 spells p.1
 

@@ -4,7 +4,7 @@ use Rattle.std.specs.Prelude.{bytes_eq}
 use Rattle.std.specs.Option.{option_map}
 use Rattle.command_frame.specs.Table.{OfWords, IsSoundEntry, IsSoundTable}
 use Rattle.te_command.specs.Generate.{drawn_of, nodes_and_seed, decimal_number}
-use Rattle.te_command.specs.Commands.{Command, attack, check, check_network, check_witness, convert, publish, run, generate, command_of, entry_of, commands}
+use Rattle.te_command.specs.Commands.{Command, attack, check, check_network, check_witness, convert, publish, run, generate, update, command_of, entry_of, commands}
 use Rattle.te_command.proofs.Attacking.{attack_is_sound}
 use Rattle.te_command.proofs.Checking.{check_is_sound, check_network_is_sound}
 use Rattle.te_command.proofs.CheckingWitnesses.{check_witness_is_sound}
@@ -12,6 +12,7 @@ use Rattle.te_command.proofs.Converting.{convert_is_sound}
 use Rattle.te_command.proofs.Publishing.{publish_is_sound}
 use Rattle.te_command.proofs.Reporting.{run_is_sound}
 use Rattle.te_command.proofs.Drawing.{generate_is_sound, nodes_drawn}
+use Rattle.te_command.proofs.Updating.{update_is_sound}
 
 entry_is_sound : (command : Command) → IsSoundEntry (entry_of command)
 entry_is_sound (attack file) = attack_is_sound file
@@ -22,6 +23,7 @@ entry_is_sound (convert file) = convert_is_sound file
 entry_is_sound (publish file) = publish_is_sound file
 entry_is_sound (run file) = run_is_sound file
 entry_is_sound (generate n seed) = generate_is_sound n seed
+entry_is_sound (update old new file) = update_is_sound old new file
 
 -- the numbers of the command are in their range, where there is one
 abbrev InRangeOf : Option Command → Type 0
@@ -51,7 +53,8 @@ asked_in_range (word ∷ file ∷ next ∷ []) =
     (where_in_range (bytes_eq word (codes "check-witness")) (Some (check_witness file next)) _ tt
     (where_in_range (bytes_eq word (codes "gen")) (option_map (λ (d : ℕ × ℕ). generate d.0 d.1) (drawn_of file next)) None
     (drawn_in_range (decimal_number file) (decimal_number next) (drawn_of file next) refl) tt))
-asked_in_range (word ∷ file ∷ next ∷ more ∷ words) = tt
+asked_in_range (word ∷ file ∷ next ∷ last ∷ []) = where_in_range (bytes_eq word (codes "update")) (Some (update file next last)) None tt tt
+asked_in_range (word ∷ file ∷ next ∷ last ∷ more ∷ words) = tt
 
 words_in_range : (words : List (List ℕ)) → OfWords commands words (λ command. (entry_of command).in_range)
 words_in_range words command named = subst InRangeOf named (asked_in_range words)

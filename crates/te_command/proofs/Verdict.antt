@@ -5,10 +5,11 @@ use Rattle.te_model.specs.declared.memory.Memory.{Memory}
 use Rattle.te_model.specs.declared.certificate.Certificate.{Certificate}
 use Rattle.te_model.specs.declared.network.Network.{Network}
 use Rattle.te_model.specs.Inequalities.{LinkFailure, first_failure}
+use Rattle.update_plan.specs.Answer.{no_network_line}
 use Rattle.ratio_checker.specs.Finding.{finding_of}
 use Rattle.ratio_checker.specs.declared.finding.Finding.{Finding}
 use Rattle.command_frame.specs.declared.answer.Answer.{Answer}
-use Rattle.te_command.specs.Check.{IsVerdict, IsNetworkVerdict, no_network_line}
+use Rattle.te_command.specs.Check.{IsVerdict, IsNetworkVerdict}
 use Rattle.te_command.specs.Outcome.{IsLineOf}
 use Rattle.command_frame.specs.Outcome.{status_of, answer_text}
 

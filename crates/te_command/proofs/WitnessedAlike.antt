@@ -1,31 +1,25 @@
 -- What `check-witness` says of a file and of the one that `convert` makes of it, of the same witness.
-use Rattle.std.proofs.Common.{◌≡◌, ◌<◌, ◌≤◌, ℕ, List, length, Option, Some, None, Result, Ok, Err, inl, inr, refl, sym, ap, ◌∙◌, subst, arith}
+use Rattle.std.proofs.Common.{◌≡◌, ℕ, List, [], length, Option, Some, None, Result, Ok, Err, inl, inr, refl, sym, ap, ◌∙◌}
 use Rattle.te_ports.specs.Record.{Read as FileRead}
 use Rattle.te_model.specs.declared.certificate.Certificate.{Certificate}
 use Rattle.te_model.specs.declared.certificate.RuleFault.{RuleFault}
 use Rattle.te_model.specs.declared.demand.DemandSet.{DemandSet}
 use Rattle.te_model.specs.declared.demand.DemandSet.TheVariants.{All, Margin, Box}
 use Rattle.te_model.specs.Counting.{or_else, unless}
-use Rattle.te_model.specs.Text.{Spells}
 use Rattle.te_model.specs.Upgrade.{box_of, upgraded_certificate}
 use Rattle.te_model.specs.Validity.{fault_at, rule_fault}
 use Rattle.te_model.proofs.Searches.{first_below-same}
 use Rattle.te_model.proofs.Upgrading.{lower_same, upper_same}
-use Rattle.text_size.proofs.ValidSizes.{fits_file}
 use Rattle.ratio_witness.specs.declared.witness.Witness.{Witness}
 use Rattle.ratio_witness.specs.Answers.{verdict_line, verdict_status}
 use Rattle.ratio_witness.specs.Text.{IsWitnessOf, IsWitnessRuleFault}
 use Rattle.ratio_witness.specs.Verdict.{is_between, is_in_set, shows_bound, verdict_fault, verdict_of}
 use Rattle.command_frame.specs.Files.{told_files, told_passes}
 use Rattle.command_frame.specs.Reading.{Means, MeansAfter}
-use Rattle.command_frame.proofs.Ending.{some_once}
-use Rattle.te_command.specs.CertificateFile.{certificates, GivesCertificate}
 use Rattle.te_command.specs.CheckWitness.{witness_reading}
 use Rattle.te_command.specs.Commands.{check_witness, convert, reading_of}
 use Rattle.te_command.specs.WitnessFile.{GivesWitness}
-use Rattle.te_command.proofs.Alike.{one_certificate}
-use Rattle.te_command.proofs.Converting.{spells_upgraded}
-use Rattle.te_command.proofs.Regular.{certificates_regular}
+use Rattle.te_command.proofs.Alike.{after_conversion}
 
 -- ---- the verdict is that by the box of the set
 
@@ -71,30 +65,9 @@ after_head c content witness before status text (inr (w, now, (bytes, told, few,
       ((status_is ∙ ap (λ o. verdict_status (verdict_of o)) kept, text_is ∙ ap (λ o. verdict_line w.bound (verdict_of o)) kept), ended),
     )
 
--- a file that spells a certificate is not refused
-not_refused : (bytes : List ℕ) (c : Certificate) (words : List ℕ) → Spells bytes c → GivesCertificate bytes (Err words) → ⊥
-not_refused bytes c words spells refused =
-    let same : ◌≡◌ {A = Result Certificate (List ℕ)} (Ok c) (Err words) = certificates_regular.once bytes (Ok c) (Err words) spells refused in
-    cc
-
-not_longer : (x y : List ℕ) → x ≡ y → length x ≤ certificates.limit x → certificates.limit y < length y → ⊥
-not_longer x y same short long = let other = subst (λ b. certificates.limit b < length b) (sym same) long in omega (arith, short, other)
-
 pub witnessed_alike : (content : List ℕ → Option (List ℕ)) (file made witness made_text text : List ℕ) (status : ℕ) → content made ≡ Some made_text →
     Means (reading_of (convert file)) (told_files content) 0 made_text → Means (reading_of (check_witness file witness)) (told_files content) status text →
     Means (reading_of (check_witness made witness)) (told_files content) status text
-witnessed_alike content file made witness made_text text status at (inl (three, now, refused, ended)) means = absurd (omega (arith, three))
-witnessed_alike content file made witness made_text text status at (inr (c, now, (bytes, told_as, few, spells), ((zero, is), ended))) (inl (three, then, inl ((all, told_is, long), line), over)) =
-    absurd (not_longer bytes all (some_once (content file) bytes all told_as told_is) few long)
-witnessed_alike content file made witness made_text text status at (inr (c, now, (bytes, told_as, few, spells), ((zero, is), ended))) (inl (three, then, inr (all, words, told_is, short, refused, line), over)) =
-    absurd (not_refused bytes c words spells (subst (λ b. GivesCertificate b (Err words)) (some_once (content file) all bytes told_is told_as) refused))
-witnessed_alike content file made witness made_text text status at (inr (c, now, (bytes, told_as, few, spells), ((zero, is), ended))) (inr (d, then, (all, told_is, short, spelled), means)) =
-    let same = one_certificate (content file) bytes all c d told_as told_is spells spelled in
-    let upgraded = spells_upgraded c bytes made_text spells is in
-    inr (
-      upgraded_certificate c,
-      then,
-      (made_text, at, fits_file made_text (upgraded_certificate c) upgraded, upgraded),
-      after_head c content witness then status text
-          (subst (λ (x : Certificate). MeansAfter (witness_reading witness x.head) (told_passes content) then status text) same means),
-    )
+witnessed_alike content file made witness made_text text status at converted means =
+    after_conversion content file made made_text (λ spelled. witness_reading witness spelled.head) [] status text at converted
+    (λ c now. after_head c content witness now status text) means

@@ -7,6 +7,7 @@ use Rattle.te_model.specs.declared.demand.DemandSet.TheVariants.{All, Margin, Bo
 use Rattle.te_model.specs.declared.network.Network.{Network}
 use Rattle.te_model.specs.Inequalities.{LinkFailure, first_failure, Holds}
 use Rattle.te_model.specs.Ratio.{IsObliviousRatio}
+use Rattle.update_plan.specs.Answer.{no_network_line}
 use Rattle.command_frame.specs.Reading.{Answers, answers, reads}
 use Rattle.command_frame.specs.Table.{Entry}
 use Rattle.te_command.specs.CertificateFile.{certificates}
@@ -23,10 +24,6 @@ yes_line ratio (Box lower upper) = codes "yes ratio " ++ (decimal ratio ++ (code
 abbrev pub no_line : ℕ → ℕ → ℕ → List ℕ
 no_line link rule place =
     codes "no link " ++ (decimal link ++ (codes " rule I" ++ (decimal rule ++ (codes " place " ++ (decimal place ++ 10 ∷ [])))))
-
--- the line of a certificate of another network
-abbrev pub no_network_line : List ℕ
-no_network_line = codes "no network" ++ 10 ∷ []
 
 -- no inequality of the certificate fails, and the line says so
 pub record SaysYes (certificate : Certificate) (line : List ℕ) : Type 0 where

@@ -11,10 +11,11 @@ use Rattle.te_command.specs.Convert.{convert_entry}
 use Rattle.te_command.specs.Generate.{drawn_of, generate_entry}
 use Rattle.te_command.specs.Publish.{publish_entry}
 use Rattle.te_command.specs.Report.{run_entry}
+use Rattle.te_command.specs.Update.{update_entry}
 
 -- what is asked for: of `attack`, `check`, `check-witness` and `convert`, the name of the certificate, and of `check` that of the topology
 -- where one is given, of `check-witness` that of the witness; of `publish` and `run`, the name of the plan; of `gen`, the number of nodes and
--- the seed
+-- the seed; of `update`, the names of the older certificate, the newer one and the matrices
 pub data Command : Type 0 where
   attack : List ℕ → Command
   check : List ℕ → Command
@@ -24,6 +25,7 @@ pub data Command : Type 0 where
   publish : List ℕ → Command
   run : List ℕ → Command
   generate : ℕ → ℕ → Command
+  update : List ℕ → List ℕ → List ℕ → Command
 
 -- the command of the words, where they are one of the forms
 abbrev pub command_of : List (List ℕ) → Option Command
@@ -41,7 +43,8 @@ command_of (word ∷ file ∷ next ∷ []) =
     else if bytes_eq word (codes "check-witness") then Some (check_witness file next)
     else if bytes_eq word (codes "gen") then option_map (λ drawn. generate drawn.0 drawn.1) (drawn_of file next)
     else None
-command_of (word ∷ file ∷ next ∷ more ∷ words) = None
+command_of (word ∷ file ∷ next ∷ last ∷ []) = if bytes_eq word (codes "update") then Some (update file next last) else None
+command_of (word ∷ file ∷ next ∷ last ∷ more ∷ words) = None
 
 -- what each reads and answers
 abbrev pub entry_of : Command → Entry
@@ -53,6 +56,7 @@ entry_of (convert certificate) = convert_entry certificate
 entry_of (publish plan) = publish_entry plan
 entry_of (run plan) = run_entry plan
 entry_of (generate nodes seed) = generate_entry nodes seed
+entry_of (update old new matrices) = update_entry old new matrices
 
 -- the table of commands
 abbrev pub commands : TableOf Command

@@ -15,6 +15,7 @@ pub mod Convert
 pub mod Generate
 pub mod Publish
 pub mod Report
+pub mod Update
 pub mod Commands
 pub mod Converted
 pub mod Run

@@ -7,6 +7,7 @@ mod convert;
 mod generate;
 mod publish;
 mod run_plan;
+mod update;
 
 pub use attack::Attack;
 pub use check::Check;
@@ -16,3 +17,4 @@ pub use convert::Convert;
 pub use generate::{Generate, generate_of};
 pub use publish::Publish;
 pub use run_plan::RunPlan;
+pub use update::Update;

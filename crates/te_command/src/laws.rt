@@ -5,7 +5,7 @@ ghost use Rattle.te_ports.specs.Record.{Read, Adds};
 ghost use Rattle.command_frame.specs.Files.{Span, span, given_files, told_files, known_files};
 ghost use Rattle.command_frame.specs.Reading.{IsTold, Means, MeansStatus, Proves, ReadFailed, RefusesUntold};
 ghost use Rattle.command_frame.specs.Order.{ReadsAlong, AsksNext};
-ghost use Rattle.te_command.specs.Commands.{Command, attack, check, check_network, check_witness, reading_of, MeansOneText};
+ghost use Rattle.te_command.specs.Commands.{Command, attack, check, check_network, check_witness, update, reading_of, MeansOneText};
 ghost use Rattle.te_command.specs.Attack.{SaysYesTo};
 ghost use Rattle.te_command.specs.Run.{OfToldCommand};
 ghost use Rattle.te_command.specs.Converted.{AreConverted, SayYesAlike};
@@ -53,6 +53,19 @@ pub fn converted_files_are_witnessed_alike()
     ensures { (content : List ℕ → Option (List ℕ)) → (file : List ℕ) → (made : List ℕ) → (witness : List ℕ) → AreConverted content file made →
         (status : ℕ) → (text : List ℕ) → Means (reading_of (check_witness file witness)) (told_files content) status text →
         Means (reading_of (check_witness made witness)) (told_files content) status text }
+{}
+
+/// `update` says of the file that `convert` made what it says of the one that was converted, as the older certificate and as the newer
+/// one: the same status, and the same text to the byte.
+pub fn converted_files_are_updated_alike()
+    ensures older { (content : List ℕ → Option (List ℕ)) → (file : List ℕ) → (made : List ℕ) → (newer : List ℕ) → (matrices : List ℕ) →
+        AreConverted content file made → (status : ℕ) → (text : List ℕ) →
+        Means (reading_of (update file newer matrices)) (told_files content) status text →
+        Means (reading_of (update made newer matrices)) (told_files content) status text }
+    ensures newer { (content : List ℕ → Option (List ℕ)) → (file : List ℕ) → (made : List ℕ) → (older : List ℕ) → (matrices : List ℕ) →
+        AreConverted content file made → (status : ℕ) → (text : List ℕ) →
+        Means (reading_of (update older file matrices)) (told_files content) status text →
+        Means (reading_of (update older made matrices)) (told_files content) status text }
 {}
 
 /// `check-witness` says yes to what `attack` means of a told certificate, where it is told under any name: beside this certificate, and

@@ -1,6 +1,7 @@
 //! The commands of the program, from the arguments to the status.
 #![tactic(auto)]
 
+mod answer;
 mod certificates;
 mod commands;
 mod inputs;

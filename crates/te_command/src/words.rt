@@ -5,7 +5,8 @@ ghost use Rattle.te_command.specs.Commands.{command_of};
 ghost use Rattle.te_command.specs.Asked.{command_meant};
 
 use crate::commands::{
-    Attack, Check, CheckNetwork, CheckWitness, Convert, Generate, Publish, RunPlan, generate_of,
+    Attack, Check, CheckNetwork, CheckWitness, Convert, Generate, Publish, RunPlan, Update,
+    generate_of,
 };
 use command_frame::{Answer, Ask, Fault, Table};
 use std::alloc::Global;
@@ -22,6 +23,7 @@ pub enum Command<'a> {
     Publish(Publish<'a>),
     Run(RunPlan<'a>),
     Generate(Generate),
+    Update(Update<'a>),
 }
 
 impl<'a> Ask for Command<'a> {
@@ -39,6 +41,7 @@ impl<'a> Ask for Command<'a> {
             Command::Publish(command) => command.answer(alloc, depot),
             Command::Run(command) => command.answer(alloc, depot),
             Command::Generate(command) => command.answer(alloc, depot),
+            Command::Update(command) => command.answer(alloc, depot),
         }
     }
 }
@@ -74,6 +77,12 @@ pub fn command_of(words: &[String]) -> Option<Command<'_>>
     match words {
         [word, file] => command_with_file(word.as_str(), file.as_str()),
         [word, first, second] => command_with_two(word.as_str(), first.as_str(), second.as_str()),
+        [word, first, second, third] => command_with_three(
+            word.as_str(),
+            first.as_str(),
+            second.as_str(),
+            third.as_str(),
+        ),
         _ => None,
     }
 }
@@ -114,6 +123,26 @@ fn command_with_two<'a>(word: &str, first: &'a str, second: &'a str) -> Option<C
     } else if word == "gen" {
         let command = generate_of(first, second)?;
         Some(Command::Generate(command))
+    } else {
+        None
+    }
+}
+
+// The command of a word and three more.
+fn command_with_three<'a>(
+    word: &str,
+    first: &'a str,
+    second: &'a str,
+    third: &'a str,
+) -> Option<Command<'a>>
+    ensures { option_map command_meant result ≡ command_of (word.now ∷ first.now ∷ second.now ∷ third.now ∷ []) }
+{
+    if word == "update" {
+        Some(Command::Update(Update {
+            before: first,
+            after: second,
+            matrices: third,
+        }))
     } else {
         None
     }

@@ -5,6 +5,7 @@ mod DemandLemmas
 mod Reading
 pub mod LimitLemmas
 pub mod GravityLemmas
+pub mod FirstMatrix
 mod TextLemmas
 mod FieldText
 mod RowText

@@ -1,8 +1,10 @@
 -- Which series are within the limits, as statements.
-use Rattle.std.specs.Prelude.{ℕ, ◌≡◌, ◌≤◌, List, IsTrue, Ok}
+use Rattle.std.specs.Prelude.{ℕ, ◌≡◌, ◌≤◌, List, length, IsTrue, Ok}
 use Rattle.te_model.specs.declared.network.Network.{Network}
 use Rattle.te_model.specs.Network.{is_well_formed, node_count}
+use Rattle.te_model.specs.Pairs.{AreDemands}
 use Rattle.traffic_matrix.specs.declared.series.Series.{Series}
+use Rattle.traffic_matrix.specs.First.{first_matrix}
 use Rattle.traffic_matrix.specs.Rows.{series_in}
 use Rattle.traffic_matrix.specs.Gravity.{gravity_of}
 use Rattle.traffic_matrix.specs.Limits.{IsSeries}
@@ -12,6 +14,10 @@ abbrev pub SeriesAreInRange : Type 0
 SeriesAreInRange =
     (net : Network) (bytes : List ℕ) (series : Series) → IsTrue (is_well_formed net) → series_in net bytes ≡ Ok series →
     IsSeries (node_count net) series
+
+-- the first matrix of a series that is within the limits has one demand for each declared pair, which is within the limit
+abbrev pub FirstMatricesAreInRange : Type 0
+FirstMatricesAreInRange = (n : ℕ) (series : Series) → IsSeries n series → AreDemands (length series.pairs.list) (first_matrix series).demand
 
 -- a series that a seed draws is within the limits
 abbrev pub GravityIsInRange : Type 0

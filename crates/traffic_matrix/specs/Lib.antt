@@ -1,5 +1,6 @@
 pub mod Pairs
 pub mod Series
+pub mod First
 pub mod Rows
 pub mod Table
 pub mod Shows

@@ -7,6 +7,7 @@ pub mod OneList
 pub mod LoadSums
 pub mod StageWeights
 pub mod OneAnswer
+pub mod SomeAnswer
 pub mod StepCounts
 pub mod ValidHeads
 pub mod PlanSizes

@@ -2,7 +2,6 @@
 use Rattle.std.proofs.Common.{◌↔◌, ◌≡◌, ℕ, ◌+◌, ◌*◌, ◌-◌, ◌<◌, ◌≤◌, arith, below_more, rules, subst}
 use Rattle.std.specs.Ordering.{nat_cmp, ord_max}
 use Rattle.std.specs.Prelude.{max, slice_index}
-use Rattle.std.proofs.lemmas.Nat.{mul-le}
 use Rattle.te_model.specs.declared.network.Network.{Network}
 use Rattle.te_model.specs.declared.units.TheConstants.{SHARE_UNIT}
 use Rattle.te_model.specs.Network.{capacity_of}
@@ -10,10 +9,6 @@ use Rattle.update_plan.specs.declared.loads.LinkLoads.{LinkLoads}
 use Rattle.update_plan.specs.declared.path.TheConstants.{MAX_STEPS}
 use Rattle.update_plan.specs.Laws.{AreEnough}
 use Rattle.update_plan.specs.Loads.{AreEnoughOn}
-
--- the quotient that is rounded up is the least number of steps
-pub by_ceiling : (moves free q : ℕ) → moves ≤ q * free → ((p : ℕ) → moves ≤ p * free → q ≤ p) → (K : ℕ) → (moves ≤ K * free) ↔ (q ≤ K)
-by_ceiling moves free q enough least K = (least K, λ le. omega (arith, enough, mul-le q free K free le (omega arith)))
 
 -- the tests of a link by its numbers of steps
 pub by_both : (whole before after growth decline growing shrinking K : ℕ) → before ≤ whole → after ≤ whole → 1 ≤ K →

@@ -3,7 +3,7 @@ use Rattle.std.specs.Prelude.{◌≡◌, ◌≢◌, ◌⊎◌, ◌<◌, ℕ, Lis
 use Rattle.std.specs.Fmt.{decimal}
 use Rattle.te_model.specs.declared.certificate.Head.{Head}
 use Rattle.te_model.specs.declared.route.Pair.{Pair}
-use Rattle.te_model.specs.declared.route.PairRoutes.{PairRoutes}
+use Rattle.te_model.specs.PathRouting.{IsPathRouting}
 use Rattle.te_model.specs.Validity.{IsValidHead}
 use Rattle.update_plan.specs.declared.path.UpdatePlan.{UpdatePlan}
 use Rattle.update_plan.specs.Plan.{IsPlanOf, LacksSlackOn}
@@ -21,13 +21,9 @@ no_pairs_line = codes "no pairs" ++ 10 ∷ []
 abbrev pub no_slack_line : ℕ → List ℕ
 no_slack_line e = codes "no slack at link " ++ (decimal e ++ 10 ∷ [])
 
--- the declared pairs, in order
-abbrev pub pairs_of : List PairRoutes → List Pair
-pairs_of routes = map (λ r. r.pair) routes
-
--- the pairs of both heads are the declared ones
+-- the pairs of both heads are the declared ones, in order
 abbrev pub HavePairs : Head → Head → List Pair → Type 0
-HavePairs old new pairs = (pairs_of old.routes ≡ pairs) × (pairs_of new.routes ≡ pairs)
+HavePairs old new pairs = (map (λ r. r.pair) old.routes ≡ pairs) × (map (λ r. r.pair) new.routes ≡ pairs)
 
 -- the text of a plan of the two routings at status 0
 pub record IsPlanText (old new : Head) (demand : List ℕ) (status : ℕ) (text : List ℕ) : Type 0 where
@@ -56,6 +52,12 @@ abbrev pub PlanTextsAreShort : Type 0
 PlanTextsAreShort =
     (old new : Head) (demand : List ℕ) (plan : UpdatePlan) → IsValidHead old → IsValidHead new → old.network ≡ new.network →
     length new.routes ≡ length old.routes → IsPlanOf old.network old.routes new.routes demand plan → length (plan_text plan) < 700000000
+
+-- There is an answer.
+abbrev pub SomeUpdateText : Type 0
+SomeUpdateText =
+    (old new : Head) (pairs : List Pair) (demand : List ℕ) → IsPathRouting old.network old.routes → IsPathRouting new.network new.routes →
+    (status : ℕ) × (text : List ℕ) × IsUpdateText old new pairs demand status text
 
 -- There is one answer.
 abbrev pub OneUpdateText : Type 0

@@ -2,7 +2,7 @@
 ghost use Rattle.std.specs.Prelude.{◌≡◌, ◌^◌, ◌<◌, IfOk, IsTrue, ◌↔◌, length, map};
 ghost use Rattle.te_model.specs.PathRouting.{IsPathRouting};
 ghost use Rattle.routing.specs.Routes.{AreDemands};
-ghost use Rattle.update_plan.specs.Answer.{IsUpdateText, no_slack_line, pairs_of};
+ghost use Rattle.update_plan.specs.Answer.{IsUpdateText, no_slack_line};
 
 use crate::fault::UpdateFault;
 use crate::planning::plan_by_routes;
@@ -12,7 +12,7 @@ use te_model::{Head, Matrix, Memory, Pair, PairRoutes, Pairs, same_network};
 
 /// Whether the routes are of these pairs, in order.
 fn have_pairs(routes: &[PairRoutes], pairs: &[Pair]) -> bool
-    ensures { IsTrue result ↔ (pairs_of routes.now ≡ pairs.now) }
+    ensures { IsTrue result ↔ (map (λ r. r.pair) routes.now ≡ pairs.now) }
 {
     if routes.len() != pairs.len() {
         return false;

@@ -1,5 +1,5 @@
 //! Laws of safe updates. Each is the contract of a function that does nothing.
-ghost use Rattle.update_plan.specs.Answer.{OneUpdateText, PlanTextsAreShort};
+ghost use Rattle.update_plan.specs.Answer.{OneUpdateText, PlanTextsAreShort, SomeUpdateText};
 ghost use Rattle.update_plan.specs.Laws.{LoadsAreOfRoutings, OneListOfPaths, SafeByEnds, SafeByQuotients, SafeByStages, SafeForMore, SafeWithSlack};
 
 /// Safe is one test for each link and stage.
@@ -35,6 +35,11 @@ pub fn one_list_of_paths()
 /// By its weights before and after, the load of an update is that of each routing.
 pub fn loads_are_of_routings()
     ensures { LoadsAreOfRoutings }
+{}
+
+/// There is an answer on an update between the routings of any two heads.
+pub fn some_update_text()
+    ensures { SomeUpdateText }
 {}
 
 /// There is one answer on an update: it is a function of the two heads, the declared pairs and the matrix.

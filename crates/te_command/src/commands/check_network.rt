@@ -5,7 +5,8 @@ ghost use Rattle.te_model.specs.declared.certificate.Head.{Head};
 ghost use Rattle.te_model.specs.declared.network.Network.{Network};
 ghost use Rattle.ratio_checker.specs.Feeds.{StandsFor};
 ghost use Rattle.te_ports.specs.Shown.{shown_by};
-ghost use Rattle.te_command.specs.Check.{IsNetworkVerdict, no_network_line};
+ghost use Rattle.update_plan.specs.Answer.{no_network_line};
+ghost use Rattle.te_command.specs.Check.{IsNetworkVerdict};
 ghost use Rattle.command_frame.specs.Outcome.{status_of, answer_text};
 ghost use Rattle.te_command.specs.Outcome.{ReadsSame};
 

@@ -1,18 +1,17 @@
-use Rattle.std.proofs.Common.{◌≡◌, ℕ, suc, ◌<◌, List, [], ◌∷◌, length, get_or, arith, refl, ap, ◌∙◌}
+use Rattle.std.proofs.Common.{◌≡◌, ℕ, suc, ◌<◌, List, [], ◌∷◌, length, get_or, map, arith, refl, ap, ◌∙◌}
 use Rattle.te_model.specs.declared.route.Pair.{Pair}
 use Rattle.te_model.specs.declared.route.PairRoutes.{PairRoutes}
 use Rattle.te_model.specs.Path.{no_routes, routes_at}
-use Rattle.update_plan.specs.Answer.{pairs_of}
 use Rattle.update_plan.proofs.answer.have_pairs.Goals as goal
 
 -- routes that have the same pair at each place as a list of pairs
 same_pairs : (routes : List PairRoutes) (pairs : List Pair) → length routes ≡ length pairs →
-    ((k : ℕ) → k < length routes → (routes_at routes k).pair ≡ get_or pairs k no_routes.pair) → pairs_of routes ≡ pairs
+    ((k : ℕ) → k < length routes → (routes_at routes k).pair ≡ get_or pairs k no_routes.pair) → map (λ r. r.pair) routes ≡ pairs
 same_pairs [] [] same each = refl
 same_pairs [] (p ∷ ps) same each = absurd (omega (arith, same))
 same_pairs (r ∷ rs) [] same each = absurd (omega (arith, same))
 same_pairs (r ∷ rs) (p ∷ ps) same each =
-    ap (λ (q : Pair). q ∷ pairs_of rs) (each 0 (omega arith))
+    ap (λ (q : Pair). q ∷ map (λ (r : PairRoutes). r.pair) rs) (each 0 (omega arith))
     ∙ ap (λ (qs : List Pair). p ∷ qs) (same_pairs rs ps (omega (arith, same)) (λ k below. each (suc k) (omega (arith, below))))
 
 pub returns : goal.returns
