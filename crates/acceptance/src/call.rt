@@ -37,6 +37,12 @@ pub const CHECK_WITNESS: Command<'static> = Command {
     publishes: false,
 };
 
+pub const UPDATE: Command<'static> = Command {
+    words: &["update", "o", "n", "m"],
+    names: &["o", "n", "m"],
+    publishes: false,
+};
+
 pub const PUBLISH: Command<'static> = Command {
     words: &["publish", "p"],
     names: &["p", "t", "m"],

@@ -1,6 +1,6 @@
 //! A few calls of each command over files that are told, that are on record, and that come byte by byte. The tables of all
 //! calls are data, `tools/lab/calls.py`, on which the built program is run.
-use crate::call::{CHECK, CHECK_WITNESS, Command, PUBLISH, RUN, Row, all_say};
+use crate::call::{CHECK, CHECK_WITNESS, Command, PUBLISH, RUN, Row, UPDATE, all_say};
 use crate::texts::{
     DEMAND, ENVELOPE, FAILURE, LEADING_ZERO, LINE, LINK, PLAN, SMALL_BOX, SMALLEST,
     SMALLEST_IN_SECOND, SMALLEST_WITH_LESS, SPF, TWELVE, TWICE_A_NAME, UNENDED_WITNESS, WAYS,
@@ -119,6 +119,88 @@ const WITNESSES: &[(Command<'static>, Row<'static>)] = &[
 #[test]
 fn witnesses_are_judged(rt: HostRuntime) -> Result<(), Fail> {
     all_say(&rt, rt.alloc(), WITNESSES)
+}
+
+/// A plan of an update that moves nothing.
+const STAYS: &str = "yates-update 1\nsteps 1\npaths 1\n0 1000000 1000000 1 0\nend\n";
+
+/// A certificate of a link of another cost, without pairs.
+const OTHER_COST: &[&str] = &[
+    "yates-ratio 1\nnodes 2\na\nb\nlinks 1\n0 1 10 2\npairs 0\nset all\nratio 0\nblocks 0\nend\n",
+];
+
+/// Updates.
+const UPDATES: &[(Command<'static>, Row<'static>)] = &[
+    (
+        UPDATE,
+        (
+            &[&[SMALLEST], &[SMALLEST_IN_SECOND], &[DEMAND]],
+            3,
+            0,
+            STAYS,
+        ),
+    ),
+    (
+        UPDATE,
+        (
+            &[
+                &[SMALLEST],
+                SMALLEST_WITH_LESS,
+                &["step,source,target,demand\n0,a,b,11\n"],
+            ],
+            3,
+            1,
+            "no slack at link 0\n",
+        ),
+    ),
+    (
+        UPDATE,
+        (&[&[SMALLEST], OTHER_COST, &[DEMAND]], 3, 1, "no network\n"),
+    ),
+    (
+        UPDATE,
+        (
+            &[&[SMALLEST], &[SMALLEST], &["step,source,target,demand\n"]],
+            3,
+            1,
+            "no pairs\n",
+        ),
+    ),
+    // The older certificate that is refused needs no other file, and the newer one no matrices.
+    (
+        UPDATE,
+        (
+            &[TWICE_A_NAME, &[SMALLEST], &[DEMAND]],
+            1,
+            3,
+            "refused: o: rule V1 at 1\n",
+        ),
+    ),
+    (
+        UPDATE,
+        (
+            &[&[SMALLEST], TWICE_A_NAME, &[DEMAND]],
+            2,
+            3,
+            "refused: n: rule V1 at 1\n",
+        ),
+    ),
+    // Matrices that are refused stand before another network.
+    (
+        UPDATE,
+        (
+            &[&[SMALLEST], OTHER_COST, &[LINK]],
+            3,
+            3,
+            "refused: m: header\n",
+        ),
+    ),
+    (UPDATE, (&[&[SMALLEST], &[SMALLEST]], 2, 4, "fault: read\n")),
+];
+
+#[test]
+fn updates_are_planned(rt: HostRuntime) -> Result<(), Fail> {
+    all_say(&rt, rt.alloc(), UPDATES)
 }
 
 /// Plans.

@@ -1,6 +1,6 @@
 //! Reads and writes that fail, in each command.
 use crate::call::{
-    CHECK, CHECK_WITNESS, Call, Command, PUBLISH, RUN, SECOND_READ_FAILS, all_leave, leaves,
+    CHECK, CHECK_WITNESS, Call, Command, PUBLISH, RUN, SECOND_READ_FAILS, UPDATE, all_leave, leaves,
 };
 use crate::texts::{DEMAND, FAILURE, LINE, PLAN, SMALLEST, SPF, TWELVE, WAYS, WITNESS};
 use std::test::Fail;
@@ -115,6 +115,48 @@ const FAULTS_OF_CHECK_WITNESS: &[Call<'static>] = &[
 #[test]
 fn faults_of_check_witness_are_told(rt: HostRuntime) -> Result<(), Fail> {
     all_leave(&rt, rt.alloc(), FAULTS_OF_CHECK_WITNESS)
+}
+
+/// The last read of the older certificate fails, which would find its end. It has three, as the newer one, and the matrices two.
+const UPDATED_UNREAD: Call<'static> = Call {
+    command: UPDATE,
+    files: &[&[SMALLEST], &[SMALLEST], &[DEMAND]],
+    failing_fetch: Some(2),
+    ..JUDGED_UNREAD
+};
+
+const FAULTS_OF_UPDATE: &[Call<'static>] = &[
+    UPDATED_UNREAD,
+    Call {
+        failing_fetch: Some(3),
+        read: 1,
+        ..UPDATED_UNREAD
+    },
+    Call {
+        failing_fetch: Some(5),
+        read: 1,
+        ..UPDATED_UNREAD
+    },
+    Call {
+        failing_fetch: Some(7),
+        read: 2,
+        ..UPDATED_UNREAD
+    },
+    // The plan is written in part.
+    Call {
+        failing_fetch: None,
+        failing_put: Some(5),
+        read: 3,
+        status: 5,
+        out: "yates-update 1\nsteps",
+        err: "fault: write\n",
+        ..UPDATED_UNREAD
+    },
+];
+
+#[test]
+fn faults_of_update_are_told(rt: HostRuntime) -> Result<(), Fail> {
+    all_leave(&rt, rt.alloc(), FAULTS_OF_UPDATE)
 }
 
 /// The first read fails that would find the end of a file, the plan's. Each file has two reads.
