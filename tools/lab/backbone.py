@@ -24,12 +24,14 @@ BEST = '{"topology":"t","matrices":"m","schemes":["mcf"]}'
 
 KEYS = '"k":4,"budget":4,"trees":8,"seed":7'
 
+PUBLISHED_RACKE = f'{{"topology":"t","matrices":"m","publish":"racke",{KEYS}}}'
+
 # A plan, the topology and matrices, the set of the certificate, and the ratio that it had when docs/NEARNESS.md was written.
 PUBLISHED = [
     ([plan, NETWORK, MATRICES], of_set, ratio)
     for plan, of_set, ratio in [
         (SIX_SCHEMES, "all", 3_902_787),
-        (f'{{"topology":"t","matrices":"m","publish":"racke",{KEYS}}}', "all", 3_902_787),
+        (PUBLISHED_RACKE, "all", 3_902_787),
         (f'{{"topology":"t","matrices":"m","publish":"spf",{KEYS}}}', "all", 9_010_210),
         (f'{{"topology":"t","matrices":"m","publish":"ecmp",{KEYS}}}', "all", 9_010_210),
         (f'{{"topology":"t","matrices":"m","publish":"ksp",{KEYS}}}', "all", 15_518_125),
@@ -43,6 +45,12 @@ PUBLISHED = [
 
 # A plan, the topology and matrices, how many lines the report of 24 steps and six schemes has, and what stands in it.
 REPORTED = [([SIX_SCHEMES, NETWORK, MATRICES], 151, "\nsmore,total,")]
+
+# A plan, the topology and matrices, a number of links that may fail, and the least that the grants have to sum to; the demands sum to 170736.
+PROTECTED = [
+    ([PUBLISHED_RACKE, NETWORK, MATRICES], failures, least)
+    for failures, least in [(0, 0), (1, 0), (2, 0)]
+]
 
 
 def drawn_matrices():

@@ -18,6 +18,7 @@ from .certificates import (
     UNREACHED_TOO_LOW, WIDE_NODES, WIDE_RATIO, WIDE_WEIGHT, ZERO_BEFORE_FORMAT,
 )
 from .program import TOP
+from .rates import CUT_RATES, NO_FORMS as NO_RATE_FORMS, PROTECTIONS, RATES, TWICE as RATES_TWICE, made as made_rates, rates, yes as rates_survive
 from .updates import TWICE as UPDATE_TWICE, UPDATES, plan as update_plan
 from .witnesses import ATTACKED, ATTACKS, CUT_WITNESSES, TWICE as WITNESS_TWICE, WITNESSES, witness
 
@@ -401,6 +402,7 @@ NO_FORMS = [
     ["update", "o", "n"],
     ["update", "o", "n", "m", "m"],
     ["Update", "o", "n", "m"],
+    *NO_RATE_FORMS,
 ]
 
 # Words with a number of nodes and a seed, and what stands before and after the ratio. The numbers are those of another program that draws,
@@ -456,6 +458,15 @@ CHAIN_UPDATES = [
     ),
 ]
 
+# The rates of its one pair, whose path is lost with any link.
+TO_END = "step,source,target,demand\n0,n0,n64,7\n"
+CHAIN_RATES = [
+    ([chain_certificate(1000000), TO_END, rates(0, "7 7")], *rates_survive(0)),
+    ([chain_certificate(1000000), TO_END, rates(1, "1 7")], 1, "no rule F2 place 0\n"),
+    ([chain_certificate(1000000), TO_END, rates(0, "0 11")], 1, "no rule F1 place 0\n"),
+]
+CHAIN_PROTECTIONS = {0: [([chain_certificate(1000000), TO_END], *made_rates(0, "7 7"))], 1: [([chain_certificate(1000000), TO_END], *made_rates(1, "0 0"))]}
+
 # One unit from the first node of the chain to the last one, and to the one before it.
 TO_LAST = "step,source,target,demand\n0,n0,n64,1\n"
 TO_LAST_OF_SHORT = "step,source,target,demand\n0,n0,n63,1\n"
@@ -493,6 +504,12 @@ TABLES = [
     ("updates", ["update", "o", "n", "m"], "onm", UPDATES),
     ("updates of chains", ["update", "o", "n", "m"], "onm", CHAIN_UPDATES),
     ("a file twice, as an update", ["update", "o", "o", "m"], "om", UPDATE_TWICE),
+    ("rates", ["check-rates", "c", "m", "r"], "cmr", RATES),
+    ("rates of chains", ["check-rates", "c", "m", "r"], "cmr", CHAIN_RATES),
+    ("cut rates", ["check-rates", "c", "m", "r"], "cmr", CUT_RATES),
+    ("a file twice, as rates", ["check-rates", "c", "c", "c"], "c", RATES_TWICE),
+    *((f"rates for {failures} failures", ["protect", "c", "m", str(failures)], "cm", rows) for failures, rows in PROTECTIONS.items()),
+    *((f"rates of chains for {failures} failures", ["protect", "c", "m", str(failures)], "cm", rows) for failures, rows in CHAIN_PROTECTIONS.items()),
     ("certificates that are not converted", ["check", "c"], "c", UNCONVERTED),
     ("refusals of convert", ["convert", "c"], "c", UNCONVERTED),
     ("conversions", ["convert", "c"], "c", CONVERSIONS),
