@@ -4,6 +4,7 @@ import random
 from fractions import Fraction
 
 import reference_check
+import reference_rates
 
 from . import program
 
@@ -47,10 +48,7 @@ PUBLISHED = [
 REPORTED = [([SIX_SCHEMES, NETWORK, MATRICES], 151, "\nsmore,total,")]
 
 # A plan, the topology and matrices, a number of links that may fail, and the least that the grants have to sum to; the demands sum to 170736.
-PROTECTED = [
-    ([PUBLISHED_RACKE, NETWORK, MATRICES], failures, least)
-    for failures, least in [(0, 0), (1, 0), (2, 0)]
-]
+PROTECTED = [([PUBLISHED_RACKE, NETWORK, MATRICES], failures, least) for failures, least in [(0, 170_000), (1, 142_000), (2, 5_000)]]
 
 
 def drawn_matrices():
@@ -86,3 +84,14 @@ def faults_of_drawn(text, matrices, report):
         return [f"{len(certificate['pairs'])} pairs and {len(best)} steps"]
     kept = [most_used(certificate, matrix) * 1_000_000 <= certificate["ratio"] * most for matrix, most in zip(matrices, best)]
     return [f"step {step} is above the ratio" for step, is_kept in enumerate(kept) if not is_kept]
+
+
+def faults_of_rates(text, matrices, failures, rates, least):
+    """What is wrong with rates that are written for the routing of a certificate, or that their grants sum to less than this."""
+    certificate = reference_check.read(text.encode())
+    demands = reference_rates.first_demands(reference_rates.series_of("m", matrices.encode(), certificate["names"]))
+    made = reference_rates.rates_of("r", rates.encode(), certificate)
+    failed = reference_rates.first_inequality(certificate, demands, made)
+    faults = [f"F{failed[0]} fails at {failed[1]}"] if failed else []
+    faults += reference_rates.faults_of_made(certificate, demands, failures, made)
+    return faults + ([] if sum(made.grants) >= least else [f"the grants sum to {sum(made.grants)}"])

@@ -1,5 +1,5 @@
-//! Tests of certificates: their parts, their text, the verdict on one, the best blocks of one, and updates from one to another. There is
-//! nothing else here.
+//! Tests of certificates: their parts, their text, the verdict on one, the best blocks of one, updates from one to another,
+//! and rates that survive failed links. There is nothing else here.
 #![tactic(auto)]
 
 #[cfg(test)]
@@ -10,6 +10,8 @@ mod blocks;
 mod cases;
 #[cfg(test)]
 mod cert_text_tests;
+#[cfg(test)]
+mod fault_rates_tests;
 #[cfg(test)]
 mod number_tables_tests;
 #[cfg(test)]

@@ -19,8 +19,8 @@ const STAYS: &[Stay] = &[
     Stay(11, Err(UpdateFault::NoSlack(0))),
 ];
 
-// The matrix of so many pairs with this demand each.
-fn even_matrix(alloc: Global, count: usize, demand: u32) -> Result<Matrix, AllocError>
+/// The matrix of so many pairs with this demand each.
+pub fn even_matrix(alloc: Global, count: usize, demand: u32) -> Result<Matrix, AllocError>
     ensures { IfOk result (λ m. AreDemands count m.demand) }
 {
     let demand = vec![in alloc; u64::from(demand); count]?;
