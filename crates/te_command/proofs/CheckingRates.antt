@@ -10,15 +10,17 @@ use Rattle.update_plan.proofs.ValidHeads.{valid_routing}
 use Rattle.fault_rates.specs.declared.plan.RatePlan.{RatePlan}
 use Rattle.fault_rates.specs.Answers.{verdict_by, IsRatesAnswer}
 use Rattle.fault_rates.specs.Plan.{protection_by}
+use Rattle.fault_rates.specs.Reading.{MeansRates}
 use Rattle.fault_rates.proofs.Answered.{status_small, yes_at_zero}
+use Rattle.fault_rates.proofs.OneRates.{rates_have_one_meaning}
 use Rattle.fault_rates.proofs.SomeAnswers.{answers_exist}
 use Rattle.fault_rates.proofs.Verdicts.{verdict_survives, verdict_yes}
 use Rattle.command_frame.specs.Sound.{HasText, IsSound}
 use Rattle.command_frame.specs.Table.{IsSoundEntry}
 use Rattle.te_command.specs.CheckRates.{check_rates_entry, rate_verdict_on, IsRatesProof}
 use Rattle.te_command.specs.MatrixFile.{matrices_reason}
-use Rattle.te_command.proofs.RateFiles.{rates_regular}
-use Rattle.te_command.proofs.Regular.{certificates_regular, inputs_regular}
+use Rattle.te_command.specs.RateFile.{rates_reason}
+use Rattle.te_command.proofs.Regular.{certificates_regular, inputs_regular, meant_regular}
 use Rattle.te_command.proofs.Streaming.{spelled_head}
 
 pub rates_small : (h : Head) (pairs : List Pair) (demand : List ℕ) (plan : RatePlan) (s : ℕ) (text : List ℕ) → IsRatesAnswer h pairs demand plan s text → s ≤ 1
@@ -56,7 +58,7 @@ rates_sound h series plan valid =
 
 pub check_rates_is_sound : (certificate file rates : List ℕ) → IsSoundEntry (check_rates_entry certificate file rates)
 check_rates_is_sound certificate file rates = record {
-  regular = (certificates_regular, λ c. (inputs_regular matrices_reason (series_in c.head.network), λ series. (rates_regular c.head.routes, λ plan. tt)));
+  regular = (certificates_regular, λ c. (inputs_regular matrices_reason (series_in c.head.network), λ series. (meant_regular rates_reason (MeansRates c.head.routes) (rates_have_one_meaning c.head.routes), λ plan. tt)));
   sound = λ bytes c spells rows series makes lines plan means. rates_sound c.head series plan (spelled_head bytes c spells);
   one_text = λ is bytes c spells rows series makes lines plan means s t x y p q.
       (answers_exist.one_of_rates c.head series.pairs.list (first_matrix series).demand plan s t x y p q).1;

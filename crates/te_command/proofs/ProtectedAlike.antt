@@ -12,6 +12,7 @@ use Rattle.fault_rates.specs.declared.plan.RatePlan.{RatePlan}
 use Rattle.fault_rates.specs.declared.verdict.RateVerdict.{RateVerdict}
 use Rattle.fault_rates.specs.declared.verdict.RateVerdict.TheVariants.{Yes}
 use Rattle.fault_rates.specs.Answers.{verdict_line, verdict_status, IsProtectionAnswer, IsProtectionText, IsRatesAnswer}
+use Rattle.fault_rates.specs.Reading.{MeansRates}
 use Rattle.fault_rates.proofs.Answered.{protection_is_yes, text_means}
 use Rattle.fault_rates.proofs.ShortTexts.{rate_texts_are_short}
 use Rattle.command_frame.specs.Files.{told_files, told_passes}
@@ -21,7 +22,6 @@ use Rattle.te_command.specs.Commands.{check_rates, convert, protect, reading_of}
 use Rattle.te_command.specs.DemandReading.{with_matrices}
 use Rattle.te_command.specs.InputFile.{input_limit}
 use Rattle.te_command.specs.Protect.{grants_reading}
-use Rattle.te_command.specs.RateFile.{GivesRatePlan}
 use Rattle.te_command.proofs.Alike.{after_conversion}
 use Rattle.te_command.proofs.HeadCounts.{head_has_few_pairs, head_has_few_paths}
 use Rattle.te_command.proofs.Streaming.{spelled_head}
@@ -70,9 +70,9 @@ rates_alike content file made matrices rates made_text text status at converted 
 -- ---- what `protect` writes is answered yes
 
 gives_protected : (h : Head) (demand : List ℕ) (failures : ℕ) (text : List ℕ) (is : IsProtectionText h.network h.routes demand failures text) →
-    GivesRatePlan h.routes text (Ok is.plan)
+    MeansRates h.routes text (Ok is.plan)
 gives_protected h demand failures text is =
-    subst (λ (t : List ℕ). GivesRatePlan h.routes t (Ok is.plan)) (sym is.text_is) (text_means h.routes is.plan is.protects.valid)
+    subst (λ (t : List ℕ). MeansRates h.routes t (Ok is.plan)) (sym is.text_is) (text_means h.routes is.plan is.protects.valid)
 
 protected_fits : (h : Head) (demand : List ℕ) (failures : ℕ) (text : List ℕ) → IsValidHead h → IsProtectionText h.network h.routes demand failures text →
     length text ≤ input_limit
