@@ -43,6 +43,18 @@ pub const UPDATE: Command<'static> = Command {
     publishes: false,
 };
 
+pub const PROTECT: Command<'static> = Command {
+    words: &["protect", "c", "m", "0"],
+    names: &["c", "m"],
+    publishes: false,
+};
+
+pub const CHECK_RATES: Command<'static> = Command {
+    words: &["check-rates", "c", "m", "r"],
+    names: &["c", "m", "r"],
+    publishes: false,
+};
+
 pub const PUBLISH: Command<'static> = Command {
     words: &["publish", "p"],
     names: &["p", "t", "m"],

@@ -1,10 +1,12 @@
 //! A few calls of each command over files that are told, that are on record, and that come byte by byte. The tables of all
 //! calls are data, `tools/lab/calls.py`, on which the built program is run.
-use crate::call::{CHECK, CHECK_WITNESS, Command, PUBLISH, RUN, Row, UPDATE, all_say};
+use crate::call::{
+    CHECK, CHECK_RATES, CHECK_WITNESS, Command, PROTECT, PUBLISH, RUN, Row, UPDATE, all_say,
+};
 use crate::texts::{
-    DEMAND, ENVELOPE, FAILURE, LEADING_ZERO, LINE, LINK, PLAN, SMALL_BOX, SMALLEST,
-    SMALLEST_IN_SECOND, SMALLEST_WITH_LESS, SPF, TWELVE, TWICE_A_NAME, UNENDED_WITNESS, WAYS,
-    WITNESS, WITNESS_OF_MORE, WITNESS_OVER_ZERO,
+    DEMAND, ENVELOPE, FAILURE, LEADING_ZERO, LINE, LINK, NO_DEMANDS, PLAN, RATES, SMALL_BOX,
+    SMALLEST, SMALLEST_IN_SECOND, SMALLEST_WITH_LESS, SPF, TWELVE, TWICE_A_NAME, UNENDED_WITNESS,
+    WAYS, WITNESS, WITNESS_OF_MORE, WITNESS_OVER_ZERO,
 };
 use std::test::Fail;
 
@@ -160,7 +162,7 @@ const UPDATES: &[(Command<'static>, Row<'static>)] = &[
     (
         UPDATE,
         (
-            &[&[SMALLEST], &[SMALLEST], &["step,source,target,demand\n"]],
+            &[&[SMALLEST], &[SMALLEST], &[NO_DEMANDS]],
             3,
             1,
             "no pairs\n",
@@ -201,6 +203,82 @@ const UPDATES: &[(Command<'static>, Row<'static>)] = &[
 #[test]
 fn updates_are_planned(rt: HostRuntime) -> Result<(), Fail> {
     all_say(&rt, rt.alloc(), UPDATES)
+}
+
+/// Rates. The inequalities of the certificate are not tried.
+const PROTECTED: &[(Command<'static>, Row<'static>)] = &[
+    (PROTECT, (&[SMALLEST_WITH_LESS, &[DEMAND]], 2, 0, RATES)),
+    (PROTECT, (&[&[SMALLEST], &[NO_DEMANDS]], 2, 1, "no pairs\n")),
+    (
+        PROTECT,
+        (&[TWICE_A_NAME], 1, 3, "refused: c: rule V1 at 1\n"),
+    ),
+    (
+        PROTECT,
+        (&[&[SMALLEST], &[LINK]], 2, 3, "refused: m: header\n"),
+    ),
+    (PROTECT, (&[&[SMALLEST]], 1, 4, "fault: read\n")),
+];
+
+#[test]
+fn rates_are_made(rt: HostRuntime) -> Result<(), Fail> {
+    all_say(&rt, rt.alloc(), PROTECTED)
+}
+
+/// The grant of the rates is greater than their allocation.
+const RATES_OF_MORE: &[&str] = &["yates-rates 1\nfailures 0\n", "2 1\nend\n"];
+
+/// Nine links may fail.
+const RATES_OF_NINE: &[&str] = &["yates-rates 1\nfailures 9\n", "0 1\nend\n"];
+
+/// Rates that are judged.
+const RATED: &[(Command<'static>, Row<'static>)] = &[
+    (
+        CHECK_RATES,
+        (
+            &[&[SMALLEST_IN_SECOND], &[DEMAND], &[RATES]],
+            3,
+            0,
+            "yes failures 0\n",
+        ),
+    ),
+    (
+        CHECK_RATES,
+        (
+            &[&[SMALLEST], &[DEMAND], RATES_OF_MORE],
+            3,
+            1,
+            "no rule F2 place 0\n",
+        ),
+    ),
+    (
+        CHECK_RATES,
+        (&[&[SMALLEST], &[NO_DEMANDS], &[RATES]], 3, 1, "no pairs\n"),
+    ),
+    // Rates that are refused stand before other pairs.
+    (
+        CHECK_RATES,
+        (
+            &[&[SMALLEST], &[NO_DEMANDS], RATES_OF_NINE],
+            3,
+            3,
+            "refused: r: rule G1 at 0\n",
+        ),
+    ),
+    // Matrices that are refused need no rates.
+    (
+        CHECK_RATES,
+        (&[&[SMALLEST], &[LINK]], 2, 3, "refused: m: header\n"),
+    ),
+    (
+        CHECK_RATES,
+        (&[&[SMALLEST], &[DEMAND]], 2, 4, "fault: read\n"),
+    ),
+];
+
+#[test]
+fn rates_are_judged(rt: HostRuntime) -> Result<(), Fail> {
+    all_say(&rt, rt.alloc(), RATED)
 }
 
 /// Plans.

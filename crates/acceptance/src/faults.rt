@@ -1,8 +1,9 @@
 //! Reads and writes that fail, in each command.
 use crate::call::{
-    CHECK, CHECK_WITNESS, Call, Command, PUBLISH, RUN, SECOND_READ_FAILS, UPDATE, all_leave, leaves,
+    CHECK, CHECK_RATES, CHECK_WITNESS, Call, Command, PROTECT, PUBLISH, RUN, SECOND_READ_FAILS,
+    UPDATE, all_leave, leaves,
 };
-use crate::texts::{DEMAND, FAILURE, LINE, PLAN, SMALLEST, SPF, TWELVE, WAYS, WITNESS};
+use crate::texts::{DEMAND, FAILURE, LINE, PLAN, RATES, SMALLEST, SPF, TWELVE, WAYS, WITNESS};
 use std::test::Fail;
 
 const YES: &str = "yes ratio 1000000 set all\n";
@@ -157,6 +158,75 @@ const FAULTS_OF_UPDATE: &[Call<'static>] = &[
 #[test]
 fn faults_of_update_are_told(rt: HostRuntime) -> Result<(), Fail> {
     all_leave(&rt, rt.alloc(), FAULTS_OF_UPDATE)
+}
+
+/// The last read of the certificate fails, which would find its end. It has three, and the matrices two.
+const PROTECTED_UNREAD: Call<'static> = Call {
+    command: PROTECT,
+    files: &[&[SMALLEST], &[DEMAND]],
+    failing_fetch: Some(2),
+    ..JUDGED_UNREAD
+};
+
+const FAULTS_OF_PROTECT: &[Call<'static>] = &[
+    PROTECTED_UNREAD,
+    Call {
+        failing_fetch: Some(4),
+        read: 1,
+        ..PROTECTED_UNREAD
+    },
+    // The rates are written in part.
+    Call {
+        failing_fetch: None,
+        failing_put: Some(5),
+        read: 2,
+        status: 5,
+        out: "yates-rates 1\nfailur",
+        err: "fault: write\n",
+        ..PROTECTED_UNREAD
+    },
+];
+
+#[test]
+fn faults_of_protect_are_told(rt: HostRuntime) -> Result<(), Fail> {
+    all_leave(&rt, rt.alloc(), FAULTS_OF_PROTECT)
+}
+
+/// The same, and the rates have two reads.
+const RATED_UNREAD: Call<'static> = Call {
+    command: CHECK_RATES,
+    files: &[&[SMALLEST], &[DEMAND], &[RATES]],
+    failing_fetch: Some(2),
+    ..JUDGED_UNREAD
+};
+
+const FAULTS_OF_CHECK_RATES: &[Call<'static>] = &[
+    RATED_UNREAD,
+    Call {
+        failing_fetch: Some(3),
+        read: 1,
+        ..RATED_UNREAD
+    },
+    Call {
+        failing_fetch: Some(6),
+        read: 2,
+        ..RATED_UNREAD
+    },
+    // The line is written in part.
+    Call {
+        failing_fetch: None,
+        failing_put: Some(2),
+        read: 3,
+        status: 5,
+        out: "yes fail",
+        err: "fault: write\n",
+        ..RATED_UNREAD
+    },
+];
+
+#[test]
+fn faults_of_check_rates_are_told(rt: HostRuntime) -> Result<(), Fail> {
+    all_leave(&rt, rt.alloc(), FAULTS_OF_CHECK_RATES)
 }
 
 /// The first read fails that would find the end of a file, the plan's. Each file has two reads.

@@ -64,6 +64,12 @@ pub const LINE: &str = "source,target,capacity,cost\na,b,10,1\nb,c,10,1\n";
 /// A demand from a to b.
 pub const DEMAND: &str = "step,source,target,demand\n0,a,b,1\n";
 
+/// No pair at all.
+pub const NO_DEMANDS: &str = "step,source,target,demand\n";
+
+/// The rates of the smallest certificate for this demand, where no link fails.
+pub const RATES: &str = "yates-rates 1\nfailures 0\n1 1\nend\n";
+
 /// A plan of what is published, and the same for the envelope of the steps.
 pub const SPF: &str = "{\"topology\":\"t\",\"matrices\":\"m\",\"publish\":\"spf\"}";
 

@@ -15,3 +15,4 @@ pub mod Raising
 pub mod SomeProtection
 pub mod ShortTexts
 pub mod Answered
+pub mod SomeAnswers

@@ -1,11 +1,12 @@
 -- What is answered of a certificate's routing and the demands of declared pairs: the status, and the whole text.
-use Rattle.std.specs.Prelude.{◌≡◌, ◌⊎◌, ℕ, List, [], ◌∷◌, ◌++◌, codes}
+use Rattle.std.specs.Prelude.{◌≡◌, ◌⊎◌, ◌≤◌, ℕ, List, [], ◌∷◌, ◌++◌, codes, length}
 use Rattle.std.specs.Fmt.{decimal}
 use Rattle.te_model.specs.declared.certificate.Head.{Head}
 use Rattle.te_model.specs.declared.network.Network.{Network}
 use Rattle.te_model.specs.declared.route.Pair.{Pair}
 use Rattle.te_model.specs.declared.route.PairRoutes.{PairRoutes}
-use Rattle.routing.specs.Routes.{IsRoutingOf}
+use Rattle.te_model.specs.PathRouting.{IsPathRouting}
+use Rattle.routing.specs.Routes.{AreDemands, IsRoutingOf}
 use Rattle.fault_rates.specs.declared.plan.RatePlan.{RatePlan}
 use Rattle.fault_rates.specs.declared.verdict.RateVerdict.{RateVerdict}
 use Rattle.fault_rates.specs.declared.verdict.RateVerdict.TheVariants.{Yes, No}
@@ -55,3 +56,14 @@ pub record IsProtectionText (net : Network) (routes : List PairRoutes) (demand :
 abbrev pub IsProtectionAnswer : Head → List Pair → List ℕ → ℕ → ℕ → List ℕ → Type 0
 IsProtectionAnswer h pairs demand failures status text =
     IfRoutesPairs h pairs status text ((status ≡ 0) × IsProtectionText h.network h.routes demand failures text)
+
+-- A certificate whose routes are a routing routes the declared pairs or not. There is one answer to rates, and an answer to demands of at
+-- most 2^32.
+pub record AnswersExist : Type 0 where
+  pub routed : (h : Head) (pairs : List Pair) → IsPathRouting h.network h.routes → RoutesPairs h pairs ⊎ ¬ RoutesPairs h pairs
+  pub rates : (h : Head) (pairs : List Pair) (demand : List ℕ) (plan : RatePlan) → IsPathRouting h.network h.routes →
+      (status : ℕ) × (text : List ℕ) × IsRatesAnswer h pairs demand plan status text
+  pub one_of_rates : (h : Head) (pairs : List Pair) (demand : List ℕ) (plan : RatePlan) (s t : ℕ) (x y : List ℕ) →
+      IsRatesAnswer h pairs demand plan s x → IsRatesAnswer h pairs demand plan t y → (s ≡ t) × (x ≡ y)
+  pub demands : (h : Head) (pairs : List Pair) (demand : List ℕ) (failures : ℕ) → IsPathRouting h.network h.routes →
+      AreDemands (length pairs) demand → failures ≤ 8 → (status : ℕ) × (text : List ℕ) × IsProtectionAnswer h pairs demand failures status text

@@ -1,4 +1,5 @@
 //! Laws of rates that survive failed links. A law of the definitions is the contract of a function that does nothing.
+ghost use Rattle.fault_rates.specs.Answers.{AnswersExist};
 ghost use Rattle.fault_rates.specs.File.{FilesOfRates, RateTextsAreShort};
 ghost use Rattle.fault_rates.specs.Laws.{EvenGuards, EvenProtectionsExist, GuardedGrantsSurvive};
 ghost use Rattle.fault_rates.specs.Making.{ProtectionsExist};
@@ -50,4 +51,9 @@ pub fn kept_failures_have_same_fault()
 /// paths each.
 pub fn rate_texts_are_short()
     ensures { RateTextsAreShort }
+{}
+
+/// There is one answer to rates of a certificate whose routes are a routing, and there is an answer to demands.
+pub fn answers_exist()
+    ensures { AnswersExist }
 {}

@@ -7,7 +7,7 @@ use Rattle.std.proofs.lemmas.Bool.{and_parts, lt-ltb, ltb-true}
 use Rattle.std.proofs.lemmas.Fmt.{decimal_is_IsNumeral, parse-decimal}
 use Rattle.std.proofs.lemmas.Option.{same_Some}
 use Rattle.std.proofs.lemmas.Slice.Eq.{bytes_eq-Decides}
-use Rattle.te_command.specs.Generate.{decimal_number}
+use Rattle.te_command.specs.DecimalNumber.{decimal_number}
 
 -- the word is the decimal of no number
 number_none : (word : List ℕ) → ((n : ℕ) → n < 2 ^ 64 → decimal n ≢ word) → None ≡ decimal_number word

@@ -13,6 +13,10 @@ pub mod WitnessedAlike
 pub mod Attacking
 pub mod Updating
 pub mod UpdatedAlike
+pub mod HeadCounts
+pub mod CheckingRates
+pub mod Protecting
+pub mod ProtectedAlike
 pub mod Publishing
 pub mod Reporting
 pub mod Drawing

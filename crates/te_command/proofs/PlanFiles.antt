@@ -27,6 +27,11 @@ given_by : {A F : Type 0} (reason : F → List ℕ) (r : Result A F) (value : A)
 given_by reason (Ok x) value is = ap Ok (ok_once x value is)
 given_by reason (Err e) value is = absurd (ok_or_err value (reason e) (sym is))
 
+-- what the matrices of a network give is within the limits
+pub series_in_range : (rows : List ℕ) (n : Network) (series : Series) → IsTrue (is_well_formed n) → in_words matrices_reason (series_in n rows) ≡ Ok series →
+    IsSeries (node_count n) series
+series_in_range rows n series formed reads = series_are_in_range n rows series formed (given_by matrices_reason (series_in n rows) series reads)
+
 -- what the files of a plan give is within the limits
 pub inputs_in_range : (bytes rows demands : List ℕ) (plan : Experiment) (n : Network) (series : Series) → in_words plan_reason (plan_of bytes) ≡ Ok plan →
     in_words topology_reason (topology_of rows) ≡ Ok n → in_words matrices_reason (series_in n demands) ≡ Ok series →
@@ -36,7 +41,7 @@ inputs_in_range bytes rows demands plan n series says makes reads =
       plans_are_in_range bytes plan (given_by plan_reason (plan_of bytes) plan says),
       network.0,
       network.1,
-      series_are_in_range n demands series network.0 (given_by matrices_reason (series_in n demands) series reads),
+      series_in_range demands n series network.0 reads,
     )
 
 -- what follows them is read in one way, and so is all

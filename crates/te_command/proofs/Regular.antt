@@ -6,7 +6,7 @@ use Rattle.te_model.specs.Text.{Spells}
 use Rattle.te_model.specs.Faults.{IsShapeFault, IsRuleFault}
 use Rattle.cert_text.proofs.Laws.{one_spelling, one_fault, one_rule_fault, spelled_or_ruled, some_reading}
 use Rattle.te_command.specs.CertificateFile.{certificates, GivesCertificate}
-use Rattle.te_command.specs.InputFile.{inputs, in_words}
+use Rattle.te_command.specs.InputFile.{inputs, inputs_meant, in_words, GivesMeant}
 use Rattle.te_command.specs.Refusals.{shape_reason, rule_reason}
 use Rattle.te_command.specs.Limits.{certificate_limits, input_limits}
 use Rattle.command_frame.specs.Sound.{IsRegular}
@@ -40,3 +40,31 @@ certificates_regular = record { limited = certificate_limits; once = certificate
 -- what a function of the bytes reads is read in one way
 pub inputs_regular : {A F : Type 0} (reason : F → List ℕ) (reader : List ℕ → Result A F) → IsRegular (inputs reason reader)
 inputs_regular reason reader = record { limited = input_limits; once = λ bytes x y p q. sym p ∙ q; some = λ bytes. (in_words reason (reader bytes), refl) }
+
+-- ---- what bytes mean, in one way
+
+module _ {A F : Type 0} (reason : F → List ℕ) (Means : List ℕ → Result A F → Type 0)
+    (one : (bytes : List ℕ) → (answer : Result A F) × Means bytes answer × ((other : Result A F) → Means bytes other → answer ≡ other)) where
+  same_meaning : (bytes : List ℕ) (x y : Result A F) → Means bytes x → Means bytes y → x ≡ y
+  same_meaning bytes x y means also = let is = one bytes in sym (is.2 x means) ∙ is.2 y also
+
+  value_or_fault : (value : A) (fault : F) → ◌≡◌ {A = Result A F} (Ok value) (Err fault) → ⊥
+  value_or_fault value fault same = cc
+
+  meant_once : (bytes : List ℕ) (x y : Result A (List ℕ)) → GivesMeant reason Means bytes x → GivesMeant reason Means bytes y → x ≡ y
+  meant_once bytes (Ok p) (Ok q) means also = ap (in_words reason) (same_meaning bytes (Ok p) (Ok q) means also)
+  meant_once bytes (Ok p) (Err y) means (f, also, is) = absurd (value_or_fault p f (same_meaning bytes (Ok p) (Err f) means also))
+  meant_once bytes (Err x) (Ok q) (f, means, is) also = absurd (value_or_fault q f (same_meaning bytes (Ok q) (Err f) also means))
+  meant_once bytes (Err x) (Err y) (f, means, is) (g, also, too) =
+      ap Err is ∙ (ap (in_words reason) (same_meaning bytes (Err f) (Err g) means also) ∙ sym (ap Err too))
+
+  meant_some : (bytes : List ℕ) (answer : Result A F) → Means bytes answer → (x : Result A (List ℕ)) × GivesMeant reason Means bytes x
+  meant_some bytes (Ok value) means = (Ok value, means)
+  meant_some bytes (Err fault) means = (Err (reason fault), (fault, means, refl))
+
+  pub meant_regular : IsRegular (inputs_meant reason Means)
+  meant_regular = record {
+    limited = input_limits;
+    once = meant_once;
+    some = λ bytes. let is = one bytes in meant_some bytes is.0 is.1;
+  }

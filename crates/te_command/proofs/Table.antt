@@ -1,17 +1,22 @@
 -- The table of the commands is sound.
 use Rattle.std.proofs.Common.{◌≡◌, ℕ, List, [], ◌∷◌, Bool, true, false, cond, codes, Option, Some, None, refl, subst}
-use Rattle.std.specs.Prelude.{bytes_eq}
+use Rattle.std.specs.Prelude.{bytes_eq, nat_le, if◌then◌else◌}
 use Rattle.std.specs.Option.{option_map}
+use Rattle.std.proofs.lemmas.Bool.{leb-true}
 use Rattle.command_frame.specs.Table.{OfWords, IsSoundEntry, IsSoundTable}
-use Rattle.te_command.specs.Generate.{drawn_of, nodes_and_seed, decimal_number}
-use Rattle.te_command.specs.Commands.{Command, attack, check, check_network, check_witness, convert, publish, run, generate, update, command_of, entry_of, commands}
+use Rattle.te_command.specs.DecimalNumber.{decimal_number}
+use Rattle.te_command.specs.Generate.{drawn_of, nodes_and_seed}
+use Rattle.te_command.specs.Protect.{failures_of, few_failures}
+use Rattle.te_command.specs.Commands.{Command, attack, check, check_network, check_rates, check_witness, convert, protect, publish, run, generate, update, command_of, entry_of, commands}
 use Rattle.te_command.proofs.Attacking.{attack_is_sound}
 use Rattle.te_command.proofs.Checking.{check_is_sound, check_network_is_sound}
+use Rattle.te_command.proofs.CheckingRates.{check_rates_is_sound}
 use Rattle.te_command.proofs.CheckingWitnesses.{check_witness_is_sound}
 use Rattle.te_command.proofs.Converting.{convert_is_sound}
 use Rattle.te_command.proofs.Publishing.{publish_is_sound}
 use Rattle.te_command.proofs.Reporting.{run_is_sound}
 use Rattle.te_command.proofs.Drawing.{generate_is_sound, nodes_drawn}
+use Rattle.te_command.proofs.Protecting.{protect_is_sound}
 use Rattle.te_command.proofs.Updating.{update_is_sound}
 
 entry_is_sound : (command : Command) → IsSoundEntry (entry_of command)
@@ -24,6 +29,8 @@ entry_is_sound (publish file) = publish_is_sound file
 entry_is_sound (run file) = run_is_sound file
 entry_is_sound (generate n seed) = generate_is_sound n seed
 entry_is_sound (update old new file) = update_is_sound old new file
+entry_is_sound (protect certificate file failures) = protect_is_sound certificate file failures
+entry_is_sound (check_rates certificate file rates) = check_rates_is_sound certificate file rates
 
 -- the numbers of the command are in their range, where there is one
 abbrev InRangeOf : Option Command → Type 0
@@ -39,6 +46,15 @@ drawn_in_range : (nodes seed : Option ℕ) (drawn : Option (ℕ × ℕ)) → nod
 drawn_in_range nodes seed None is = tt
 drawn_in_range nodes seed (Some drawn) is = nodes_drawn nodes seed drawn is
 
+few_in_range : (certificate file : List ℕ) (n : ℕ) (b : Bool) → nat_le n 8 ≡ b →
+    InRangeOf (option_map (protect certificate file) (if b then Some n else None))
+few_in_range certificate file n true is = leb-true n 8 is
+few_in_range certificate file n false is = tt
+
+failures_in_range : (certificate file : List ℕ) (number : Option ℕ) → InRangeOf (option_map (protect certificate file) (few_failures number))
+failures_in_range certificate file None = tt
+failures_in_range certificate file (Some n) = few_in_range certificate file n (nat_le n 8) refl
+
 asked_in_range : (words : List (List ℕ)) → InRangeOf (command_of words)
 asked_in_range [] = tt
 asked_in_range (word ∷ []) = tt
@@ -53,7 +69,11 @@ asked_in_range (word ∷ file ∷ next ∷ []) =
     (where_in_range (bytes_eq word (codes "check-witness")) (Some (check_witness file next)) _ tt
     (where_in_range (bytes_eq word (codes "gen")) (option_map (λ (d : ℕ × ℕ). generate d.0 d.1) (drawn_of file next)) None
     (drawn_in_range (decimal_number file) (decimal_number next) (drawn_of file next) refl) tt))
-asked_in_range (word ∷ file ∷ next ∷ last ∷ []) = where_in_range (bytes_eq word (codes "update")) (Some (update file next last)) None tt tt
+asked_in_range (word ∷ file ∷ next ∷ last ∷ []) =
+    where_in_range (bytes_eq word (codes "update")) (Some (update file next last)) _ tt
+    (where_in_range (bytes_eq word (codes "check-rates")) (Some (check_rates file next last)) _ tt
+    (where_in_range (bytes_eq word (codes "protect")) (option_map (protect file next) (failures_of last)) None
+    (failures_in_range file next (decimal_number last)) tt))
 asked_in_range (word ∷ file ∷ next ∷ last ∷ more ∷ words) = tt
 
 words_in_range : (words : List (List ℕ)) → OfWords commands words (λ command. (entry_of command).in_range)

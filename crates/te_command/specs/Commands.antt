@@ -6,16 +6,19 @@ use Rattle.command_frame.specs.Reading.{Reading}
 use Rattle.command_frame.specs.Table.{Entry, TableOf}
 use Rattle.te_command.specs.Attack.{attack_entry}
 use Rattle.te_command.specs.Check.{check_entry, check_network_entry}
+use Rattle.te_command.specs.CheckRates.{check_rates_entry}
 use Rattle.te_command.specs.CheckWitness.{check_witness_entry}
 use Rattle.te_command.specs.Convert.{convert_entry}
 use Rattle.te_command.specs.Generate.{drawn_of, generate_entry}
+use Rattle.te_command.specs.Protect.{failures_of, protect_entry}
 use Rattle.te_command.specs.Publish.{publish_entry}
 use Rattle.te_command.specs.Report.{run_entry}
 use Rattle.te_command.specs.Update.{update_entry}
 
 -- what is asked for: of `attack`, `check`, `check-witness` and `convert`, the name of the certificate, and of `check` that of the topology
 -- where one is given, of `check-witness` that of the witness; of `publish` and `run`, the name of the plan; of `gen`, the number of nodes and
--- the seed; of `update`, the names of the older certificate, the newer one and the matrices
+-- the seed; of `update`, the names of the older certificate, the newer one and the matrices; of `protect` and `check-rates`, the names of
+-- the certificate and the matrices, and the number of links that may fail or the name of the rates
 pub data Command : Type 0 where
   attack : List ℕ → Command
   check : List ℕ → Command
@@ -26,6 +29,8 @@ pub data Command : Type 0 where
   run : List ℕ → Command
   generate : ℕ → ℕ → Command
   update : List ℕ → List ℕ → List ℕ → Command
+  protect : List ℕ → List ℕ → ℕ → Command
+  check_rates : List ℕ → List ℕ → List ℕ → Command
 
 -- the command of the words, where they are one of the forms
 abbrev pub command_of : List (List ℕ) → Option Command
@@ -43,7 +48,11 @@ command_of (word ∷ file ∷ next ∷ []) =
     else if bytes_eq word (codes "check-witness") then Some (check_witness file next)
     else if bytes_eq word (codes "gen") then option_map (λ drawn. generate drawn.0 drawn.1) (drawn_of file next)
     else None
-command_of (word ∷ file ∷ next ∷ last ∷ []) = if bytes_eq word (codes "update") then Some (update file next last) else None
+command_of (word ∷ file ∷ next ∷ last ∷ []) =
+    if bytes_eq word (codes "update") then Some (update file next last)
+    else if bytes_eq word (codes "check-rates") then Some (check_rates file next last)
+    else if bytes_eq word (codes "protect") then option_map (protect file next) (failures_of last)
+    else None
 command_of (word ∷ file ∷ next ∷ last ∷ more ∷ words) = None
 
 -- what each reads and answers
@@ -57,6 +66,8 @@ entry_of (publish plan) = publish_entry plan
 entry_of (run plan) = run_entry plan
 entry_of (generate nodes seed) = generate_entry nodes seed
 entry_of (update old new matrices) = update_entry old new matrices
+entry_of (protect certificate matrices failures) = protect_entry certificate matrices failures
+entry_of (check_rates certificate matrices rates) = check_rates_entry certificate matrices rates
 
 -- the table of commands
 abbrev pub commands : TableOf Command

@@ -1,13 +1,9 @@
 -- What `gen` answers: the summary of the network that the seed draws. No file is read.
-use Rattle.std.specs.Prelude.{◌≡◌, ◌≤◌, ℕ, ◌^◌, List, Option, Some, None, ◌&&◌, nat_le, nat_lt, bytes_eq, decimal, if◌then◌else◌}
-use Rattle.std.specs.Str.Parse.{digits_value}
+use Rattle.std.specs.Prelude.{◌≡◌, ◌≤◌, ℕ, List, Option, Some, None, ◌&&◌, nat_le, if◌then◌else◌}
 use Rattle.generation.specs.Summary.{IsSummary, ProvesRatio}
 use Rattle.command_frame.specs.Reading.{Answers, answers}
 use Rattle.command_frame.specs.Table.{Entry}
-
--- the number of which the word is the decimal, where it is below 2^64
-abbrev pub decimal_number : List ℕ → Option ℕ
-decimal_number word = if nat_lt (digits_value 10 word) (2 ^ 64) && bytes_eq (decimal (digits_value 10 word)) word then Some (digits_value 10 word) else None
+use Rattle.te_command.specs.DecimalNumber.{decimal_number}
 
 -- 2 to 64 nodes, and a seed
 abbrev pub nodes_and_seed : Option ℕ → Option ℕ → Option (ℕ × ℕ)

@@ -9,6 +9,7 @@ use crate::reasons::{FailureReason, FormatReason, MatrixReason, PlanReason, Topo
 use cert_text::CertFault;
 use command_frame::{BytesFault, FileKind};
 use failure::{FailureFault, Failures};
+use fault_rates::{RateFault, RatePlan, read_by_routes};
 use plan::{Experiment, PlanFault, read_plan};
 use ratio_witness::{Witness, WitnessFault};
 use std::alloc::Global;
@@ -16,7 +17,7 @@ use te_model::{Certificate, Head, Network, file_limit};
 use topology::TopologyFault;
 use traffic_matrix::{MatrixFault, Series};
 
-/// The greatest file of a topology, of matrices, of failures or of a plan, in bytes.
+/// The greatest file of a topology, of matrices, of failures, of rates or of a plan, in bytes.
 const INPUT_LIMIT: u64 = 67_108_864;
 
 /// The greatest file of a witness, in bytes.
@@ -91,6 +92,43 @@ impl<'a> FileKind for Witnesses<'a> {
                 "U", rule,
             ))),
             Err(WitnessFault::Memory) => Err(BytesFault::Memory),
+        }
+    }
+}
+
+/// The rates of a certificate's routing. What a file gives keeps its rules.
+#[derive(Clone, Copy)]
+pub struct Rates<'a> {
+    pub head: &'a Head,
+}
+
+impl<'a> FileKind for Rates<'a> {
+    ghost use Rattle.fault_rates.specs.Plan.{IsValidPlan};
+    ghost use Rattle.te_command.specs.Limits.{input_limits};
+    ghost use Rattle.te_command.specs.RateFile.{rate_files};
+
+    type Value = RatePlan;
+
+    type Refusal = FormatReason;
+
+    ghost is_ready = { λ _. Unit {0} };
+
+    ghost kind = { λ of. rate_files of.head.now.routes };
+
+    ghost IsSound = { λ of. IsValidPlan of.head.now.routes };
+
+    ghost limited = { λ _. input_limits };
+
+    fn limit(&self, _start: &[u8]) -> u64 {
+        INPUT_LIMIT
+    }
+
+    fn read(&self, alloc: Global, bytes: &[u8]) -> Result<RatePlan, BytesFault<FormatReason>> {
+        match read_by_routes(alloc, self.head.routes.as_slice(), bytes) {
+            Ok(plan) => Ok(plan),
+            Err(RateFault::Shape(line)) => Err(BytesFault::Refused(FormatReason::Shape(line))),
+            Err(RateFault::Rule(rule)) => Err(BytesFault::Refused(FormatReason::Rule("G", rule))),
+            Err(RateFault::Memory) => Err(BytesFault::Memory),
         }
     }
 }

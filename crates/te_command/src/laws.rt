@@ -2,10 +2,12 @@
 ghost use Rattle.std.specs.Prelude.{◌≡◌, ◌⊎◌, ℕ, List, ◌∷◌, ◌++◌, Option, Some};
 ghost use Rattle.te_ports.specs.Ports.{Rose};
 ghost use Rattle.te_ports.specs.Record.{Read, Adds};
+ghost use Rattle.fault_rates.specs.declared.verdict.RateVerdict.TheVariants.{Yes};
+ghost use Rattle.fault_rates.specs.Answers.{verdict_line};
 ghost use Rattle.command_frame.specs.Files.{Span, span, given_files, told_files, known_files};
 ghost use Rattle.command_frame.specs.Reading.{IsTold, Means, MeansStatus, Proves, ReadFailed, RefusesUntold};
 ghost use Rattle.command_frame.specs.Order.{ReadsAlong, AsksNext};
-ghost use Rattle.te_command.specs.Commands.{Command, attack, check, check_network, check_witness, update, reading_of, MeansOneText};
+ghost use Rattle.te_command.specs.Commands.{Command, attack, check, check_network, check_rates, check_witness, protect, update, reading_of, MeansOneText};
 ghost use Rattle.te_command.specs.Attack.{SaysYesTo};
 ghost use Rattle.te_command.specs.Run.{OfToldCommand};
 ghost use Rattle.te_command.specs.Converted.{AreConverted, SayYesAlike};
@@ -77,6 +79,27 @@ pub fn attacks_are_witnessed()
     ensures converted { (content : List ℕ → Option (List ℕ)) → (file : List ℕ) → (made : List ℕ) → (witness : List ℕ) → AreConverted content file made →
         (text : List ℕ) → Means (reading_of (attack file)) (told_files content) 0 text → content witness ≡ Some text →
         (line : List ℕ) × SaysYesTo text line × Means (reading_of (check_witness made witness)) (told_files content) 0 line }
+{}
+
+/// `protect` and `check-rates` say of the file that `convert` made what they say of the one that was converted: the same status, and the
+/// same text to the byte.
+pub fn converted_files_are_protected_alike()
+    ensures protect { (content : List ℕ → Option (List ℕ)) → (file : List ℕ) → (made : List ℕ) → (matrices : List ℕ) → (failures : ℕ) →
+        AreConverted content file made → (status : ℕ) → (text : List ℕ) →
+        Means (reading_of (protect file matrices failures)) (told_files content) status text →
+        Means (reading_of (protect made matrices failures)) (told_files content) status text }
+    ensures check_rates { (content : List ℕ → Option (List ℕ)) → (file : List ℕ) → (made : List ℕ) → (matrices : List ℕ) → (rates : List ℕ) →
+        AreConverted content file made → (status : ℕ) → (text : List ℕ) →
+        Means (reading_of (check_rates file matrices rates)) (told_files content) status text →
+        Means (reading_of (check_rates made matrices rates)) (told_files content) status text }
+{}
+
+/// `check-rates` says yes, for as many failures, to what `protect` means of a told certificate and told matrices, where it is told under
+/// any name.
+pub fn protections_are_answered_yes()
+    ensures { (content : List ℕ → Option (List ℕ)) → (file : List ℕ) → (matrices : List ℕ) → (failures : ℕ) → (rates : List ℕ) → (text : List ℕ) →
+        Means (reading_of (protect file matrices failures)) (told_files content) 0 text → content rates ≡ Some text →
+        Means (reading_of (check_rates file matrices rates)) (told_files content) 0 (verdict_line failures Yes) }
 {}
 
 /// What the reads of a call gave of told files is what is told, and so it means what the told files mean.

@@ -7,6 +7,7 @@ mod commands;
 mod inputs;
 mod kind;
 pub mod laws;
+mod number;
 mod reasons;
 mod serving;
 mod top;

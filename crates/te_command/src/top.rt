@@ -16,8 +16,8 @@ use te_ports::{Depot, Sink};
 ///
 /// | Status | When | What is written |
 /// |---|---|---|
-/// | 0 | the answer is yes, a certificate is published or converted, the schemes are compared, a drawn network is summed up, or an update is planned | the line, the certificate's file, the report, the summary or the plan, to `out` |
-/// | 1 | the answer is no, or an update has no plan | the line, to `out` |
+/// | 0 | the answer is yes, a certificate is published or converted, the schemes are compared, a drawn network is summed up, an update is planned, or rates are made | the line, the certificate's file, the report, the summary, the plan or the rates, to `out` |
+/// | 1 | the answer is no, an update has no plan, or the declared pairs of rates are others | the line, to `out` |
 /// | 2 | the words are no form of a command | `usage`, to `err` |
 /// | 3 | a file is refused | the file and the reason, to `err` |
 /// | 4 | a read failed | `fault: read`, to `err` |

@@ -5,8 +5,8 @@ ghost use Rattle.te_command.specs.Commands.{command_of};
 ghost use Rattle.te_command.specs.Asked.{command_meant};
 
 use crate::commands::{
-    Attack, Check, CheckNetwork, CheckWitness, Convert, Generate, Publish, RunPlan, Update,
-    generate_of,
+    Attack, Check, CheckNetwork, CheckRates, CheckWitness, Convert, Generate, Protect, Publish,
+    RunPlan, Update, failures_of, generate_of,
 };
 use command_frame::{Answer, Ask, Fault, Table};
 use std::alloc::Global;
@@ -24,6 +24,8 @@ pub enum Command<'a> {
     Run(RunPlan<'a>),
     Generate(Generate),
     Update(Update<'a>),
+    Protect(Protect<'a>),
+    CheckRates(CheckRates<'a>),
 }
 
 impl<'a> Ask for Command<'a> {
@@ -42,6 +44,8 @@ impl<'a> Ask for Command<'a> {
             Command::Run(command) => command.answer(alloc, depot),
             Command::Generate(command) => command.answer(alloc, depot),
             Command::Update(command) => command.answer(alloc, depot),
+            Command::Protect(command) => command.answer(alloc, depot),
+            Command::CheckRates(command) => command.answer(alloc, depot),
         }
     }
 }
@@ -142,6 +146,19 @@ fn command_with_three<'a>(
             before: first,
             after: second,
             matrices: third,
+        }))
+    } else if word == "check-rates" {
+        Some(Command::CheckRates(CheckRates {
+            certificate: first,
+            matrices: second,
+            rates: third,
+        }))
+    } else if word == "protect" {
+        let failures = failures_of(third)?;
+        Some(Command::Protect(Protect {
+            certificate: first,
+            matrices: second,
+            failures,
         }))
     } else {
         None

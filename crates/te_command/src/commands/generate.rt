@@ -1,8 +1,9 @@
 //! `gen NODES SEED`: the summary of a network that is drawn from a seed.
 ghost use Rattle.std.specs.Prelude.{◌≡◌, ◌≤◌};
 ghost use Rattle.std.specs.Option.{option_map};
-ghost use Rattle.te_command.specs.Generate.{drawn_of, decimal_number};
+ghost use Rattle.te_command.specs.Generate.{drawn_of};
 
+use crate::number::decimal_number;
 use command_frame::{Answer, Ask, Fault};
 use generation::summary;
 use std::alloc::Global;
@@ -28,24 +29,12 @@ impl Ask for Generate {
     }
 }
 
-// The number of which the word is the decimal, where it is below 2^64.
-fn number(word: &str) -> Option<u64>
-    ensures { result ≡ decimal_number word.now }
-{
-    let number = word.parse::<u64>().ok()?;
-    if itoa::Buffer::new().format(number) == word {
-        Some(number)
-    } else {
-        None
-    }
-}
-
 /// What is drawn, where the words are the decimals of a number of nodes and of a seed.
 pub fn generate_of(nodes: &str, seed: &str) -> Option<Generate>
     ensures { option_map (λ g. (g.nodes, g.seed)) result ≡ drawn_of nodes.now seed.now }
 {
-    let nodes = number(nodes)?;
-    let seed = number(seed)?;
+    let nodes = decimal_number(nodes)?;
+    let seed = decimal_number(seed)?;
     if !(2..=64).contains(&nodes) {
         return None;
     }

@@ -1,7 +1,7 @@
 use Rattle.std.proofs.Common.{◌∙◌, sym, ap}
 use Rattle.std.specs.Prelude.{bytes_eq}
 use Rattle.te_command.proofs.Generating.{same_read, other_read, none_read}
-use Rattle.te_command.proofs.commands.generate.number.Goals as goal
+use Rattle.te_command.proofs.number.decimal_number.Goals as goal
 
 pub returns-in_err-number : goal.returns-in_err-number
 returns-in_err-number c = c.from_residual.ensures ∙ none_read c.args.word.now _ c.parse.ensures.value.0 c.in_err-number.ensures.value
