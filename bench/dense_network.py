@@ -1,16 +1,28 @@
 """A network with eight links a node, and matrices with all of its pairs."""
 
+HEADER = "source,target,capacity,cost\n"
 
-def write_network(name, nodes, drawn, capacities=(1, 100000)):
-    """A ring both ways, so that all nodes reach each other, and then drawn links, with capacities between these two."""
-    links = [(i, (i + 1) % nodes) for i in range(nodes)] + [((i + 1) % nodes, i) for i in range(nodes)]
-    while len(links) < 8 * nodes:
+
+def ring_ends(nodes):
+    """The ends of the links of a ring, both ways."""
+    return [(i, (i + 1) % nodes) for i in range(nodes)] + [((i + 1) % nodes, i) for i in range(nodes)]
+
+
+def dense_ends(nodes, drawn):
+    """A ring both ways, so that all nodes reach each other, and then drawn links."""
+    ends = ring_ends(nodes)
+    while len(ends) < 8 * nodes:
         tail, head = drawn.randrange(nodes), drawn.randrange(nodes)
         if tail != head:
-            links.append((tail, head))
+            ends.append((tail, head))
+    return ends
+
+
+def write_network(name, nodes, drawn, capacities=(1, 100000)):
+    """Such a network, with capacities between these two and costs up to 100."""
     with open(name, "w") as net:
-        net.write("source,target,capacity,cost\n")
-        for tail, head in links:
+        net.write(HEADER)
+        for tail, head in dense_ends(nodes, drawn):
             net.write(f"n{tail},n{head},{drawn.randint(*capacities)},{drawn.randint(1, 100)}\n")
 
 

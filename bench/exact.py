@@ -176,15 +176,24 @@ def scaled(links, demands):
     return amount, capacity, MILLION * amount / capacity
 
 
-def utilisation(links, demands):
-    """One over the greatest x for which x times the demands fit into the capacities."""
-    amount, _, unit = scaled(links, demands)
+def utilisation_program(links, demands):
+    """The program of the greatest x for which x times the demands fit into the capacities, with a flow for each source and link."""
+    amount, _, _ = scaled(links, demands)
     program, routed = LinearProgram(), {}
     program.sum["x"] = 1
     for source, target, demand in demands:
         routed.setdefault(source, {})[target] = {"x": demand / amount}
     route(program, links, routed)
-    return unit / program.greatest()
+    return program
+
+
+def least_of(links, demands, greatest):
+    """The least utilisation, in millionths, where this is the value of its program."""
+    return scaled(links, demands)[2] / greatest
+
+
+def utilisation(links, demands):
+    return least_of(links, demands, utilisation_program(links, demands).greatest())
 
 
 def utilisation_on(links, demands, paths):
