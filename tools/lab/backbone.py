@@ -42,7 +42,6 @@ PUBLISHED = [
 ]
 
 
-
 def plan_of_seeds(scheme, seed, seeds):
     return f'{{"topology":"t","matrices":"m","publish":"{scheme}","seed":{seed},"seeds":{seeds}}}'
 

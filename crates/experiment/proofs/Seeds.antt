@@ -1,5 +1,5 @@
 -- The first certificate of the least ratio among those that are made by the seeds of a plan.
-use Rattle.std.proofs.Common.{◌≡◌, ◌∙◌, ◌⊎◌, inl, inr, ℕ, zero, suc, ◌<◌, ◌≤◌, Bool, true, false, List, [], ◌∷◌, ◌++◌, append_assoc, arith, ap, refl, sym, subst, if◌then◌else◌}
+use Rattle.std.proofs.Common.{◌≡◌, ◌∙◌, ◌⊎◌, inl, inr, ℕ, zero, suc, ◌+◌, ◌<◌, ◌≤◌, Bool, true, false, List, [], ◌∷◌, ◌++◌, append_assoc, arith, ap, refl, sym, subst, if◌then◌else◌}
 use Rattle.std.specs.Prelude.{All}
 use Rattle.std.proofs.lemmas.Bool.{cases_lt}
 use Rattle.std.proofs.lemmas.List.Elements.{All-append, All-cons, All-head, All-nil, All-push, All-same, All-tail, All-weaker}
@@ -55,8 +55,10 @@ best_changes list best next is below = record {
 
 -- one certificate more
 pub made_more : (plan : Experiment) (net : Network) (series : Series) (n : ℕ) (list : List Certificate) (next : Certificate) →
-    AreMadeBySeeds plan net series n list → IsMadeByPlan (with_seed plan (later_seed plan n)) net series next → AreMadeBySeeds plan net series (suc n) (list ++ next ∷ [])
-made_more plan net series n list next made is = (list, next, made, is, refl)
+    AreMadeBySeeds plan net series n list → IsMadeByPlan (with_seed plan (later_seed plan n)) net series next → AreMadeBySeeds plan net series (n + 1) (list ++ next ∷ [])
+made_more plan net series n list next made is =
+    let one_more : suc n ≡ n + 1 = omega arith in
+    subst (λ k. AreMadeBySeeds plan net series k (list ++ next ∷ [])) one_more (list, next, made, is, refl)
 
 -- each of them is made by the plan with some seed
 abbrev IsMadeBySome : Experiment → Network → Series → Certificate → Type 0
@@ -128,4 +130,4 @@ best_exists plan net series by (suc (suc n)) some =
     let (list, best, made, is) = best_exists plan net series by (suc n) (omega arith) in
     let (next, next_is) = by (later_seed plan (suc n)) in
     let (chosen, chosen_is) = best_of_two list best next is in
-    (list ++ next ∷ [], chosen, made_more plan net series (suc n) list next made next_is, chosen_is)
+    (list ++ next ∷ [], chosen, (list, next, made, next_is, refl), chosen_is)
