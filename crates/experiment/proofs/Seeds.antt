@@ -111,6 +111,15 @@ range_with_seed plan seed range = record {
   envelope = range.envelope;
 }
 
+-- what the one of the two with the lesser ratio is
+pub lesser_is_best : (list : List Certificate) (best next kept : Certificate) → IsFirstOfLeastRatio list best →
+    (best.head.ratio ≤ next.head.ratio → kept ≡ best) → (next.head.ratio < best.head.ratio → kept ≡ next) → IsFirstOfLeastRatio (list ++ next ∷ []) kept
+lesser_is_best list best next kept is same lesser = go (cases_lt next.head.ratio best.head.ratio)
+  where
+    go : (next.head.ratio < best.head.ratio) ⊎ (best.head.ratio ≤ next.head.ratio) → IsFirstOfLeastRatio (list ++ next ∷ []) kept
+    go (inl below) = subst (IsFirstOfLeastRatio (list ++ next ∷ [])) (sym (lesser below)) (best_changes list best next is below)
+    go (inr more) = subst (IsFirstOfLeastRatio (list ++ next ∷ [])) (sym (same more)) (best_stays list best next is more)
+
 -- of the best so far and one more, one is the first of the least ratio
 best_of_two : (list : List Certificate) (best next : Certificate) → IsFirstOfLeastRatio list best →
     (c : Certificate) × IsFirstOfLeastRatio (list ++ next ∷ []) c

@@ -1,5 +1,5 @@
 //! The file of the certificate that a plan publishes.
-ghost use Rattle.std.specs.Prelude.{◌≡◌, ◌≤◌, IfOk, IfErr, OnOk, IsTrue};
+ghost use Rattle.std.specs.Prelude.{◌≡◌, ◌<◌, ◌≤◌, IfOk, IfErr, OnOk, IsTrue};
 ghost use Rattle.te_model.specs.Network.{is_well_formed, link_count, node_count};
 ghost use Rattle.te_model.specs.Text.{text};
 ghost use Rattle.scheme.specs.Fault.{IsFault};
@@ -74,6 +74,16 @@ fn certificate_by_seed(
     }
 }
 
+/// Puts the other certificate in place of the best one, if its ratio is less.
+fn keep_lesser(best: &mut Certificate, found: Certificate)
+    ensures same { best.old.head.ratio ≤ found.head.ratio → best.new ≡ best.old }
+    ensures lesser { found.head.ratio < best.old.head.ratio → best.new ≡ found }
+{
+    if found.head.ratio < best.head.ratio {
+        *best = found;
+    }
+}
+
 /// The first certificate of the least ratio among those by the plan's seeds.
 fn best_certificate(
     alloc: Global,
@@ -94,9 +104,7 @@ fn best_certificate(
     for count in 1..seed_count(plan) {
         let seed = later_seed(plan, count);
         let next = certificate_by_seed(alloc, plan, network, series, seed)?;
-        if next.head.ratio < best.head.ratio {
-            best = next;
-        }
+        keep_lesser(&mut best, next);
     }
     Ok(best)
 }

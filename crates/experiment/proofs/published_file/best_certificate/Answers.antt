@@ -1,6 +1,6 @@
 use Rattle.std.proofs.Common.{◌≡◌, ◌++◌, [], ◌∷◌, arith, refl, subst}
 use Rattle.experiment.specs.Published.{AreMadeBySeeds, IsMadeByPlan, later_seed, seed_count, with_seed}
-use Rattle.experiment.proofs.Seeds.{best_changes, best_stays, made_more, only_one, some_seed}
+use Rattle.experiment.proofs.Seeds.{lesser_is_best, made_more, only_one, some_seed}
 use Rattle.experiment.proofs.published_file.best_certificate.Goals as goal
 
 pub loop-count-init : goal.loop-count-init
@@ -14,7 +14,6 @@ loop-count-init c =
     in
     (first ∷ [], made_more plan net series 0 [] first refl made, only_one first)
 
--- the best so far, where the certificate of one seed more is not better, and this certificate where it is
 pub loop-count-preserved : goal.loop-count-preserved
 loop-count-preserved c =
     let plan = c.args.plan.now in
@@ -27,7 +26,11 @@ loop-count-preserved c =
     let made : IsMadeByPlan (with_seed plan (later_seed plan count)) net series next =
     subst (λ seed. IsMadeByPlan (with_seed plan seed) net series next) c.later_seed-seed.ensures c.in_ok-next.ensures.made
     in
-    (so_far.0 ++ next ∷ [], made_more plan net series count so_far.0 next so_far.1 made, ?)
+    (
+      so_far.0 ++ next ∷ [],
+      made_more plan net series count so_far.0 next so_far.1 made,
+      lesser_is_best so_far.0 best next c.keep_lesser.new.best so_far.2 c.keep_lesser.ensures.same c.keep_lesser.ensures.lesser,
+    )
 
 pub returns-clause-best : goal.returns-clause-best
 returns-clause-best c =
