@@ -48,7 +48,7 @@ best_changes list best next is below = record {
   earlier = list;
   later = [];
   among = refl;
-  less = All-same (λ (c : Certificate). next.head.ratio < c.head.ratio) (is.earlier ++ best ∷ is.later) list (sym is.among)
+  less = All-same (λ (c : Certificate). next.head.ratio < c.head.ratio) list (is.earlier ++ best ∷ is.later) is.among
       (all_above is.earlier is.later best next.head.ratio is.less is.least below);
   least = All-nil (λ (c : Certificate). next.head.ratio ≤ c.head.ratio);
 }

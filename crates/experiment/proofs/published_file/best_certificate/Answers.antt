@@ -36,7 +36,7 @@ pub returns-clause-best : goal.returns-clause-best
 returns-clause-best c =
     let plan = c.args.plan.now in
     let so_far = c.loop-count.invariant in
-    let every : c.loop-count.count ≡ seed_count plan = omega (arith, c.loop-count-test.false, c.loop-count.auto.count-end, c.seed_count.ensures, some_seed plan c.requires.plan) in
+    let every : c.loop-count.count ≡ seed_count plan = omega (arith, c.loop-count-test.false, c.loop-count.auto.count-end, c.seed_count-count-end.ensures, some_seed plan c.requires.plan) in
     record {
       certificates = so_far.0;
       made = subst (λ n. AreMadeBySeeds plan c.args.network.now c.args.series.now n so_far.0) every so_far.1;
