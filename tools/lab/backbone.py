@@ -44,6 +44,17 @@ PUBLISHED = [
     ]
 ]
 
+
+def plan_of_seeds(scheme, seed, seeds):
+    return f'{{"topology":"t","matrices":"m","publish":"{scheme}","seed":{seed},"seeds":{seeds}}}'
+
+
+# A plan of several seeds, the topology and matrices, and the plans of these seeds one by one.
+SEEDS = [
+    ([plan_of_seeds("racke", 2**64 - 2, 4), NETWORK, MATRICES], [plan_of_seeds("racke", seed, 1) for seed in (2**64 - 2, 2**64 - 1, 0, 1)]),
+    ([plan_of_seeds("spf", 7, 64), NETWORK, MATRICES], [plan_of_seeds("spf", 7, 1)]),
+]
+
 # A plan, the topology and matrices, how many lines the report of 24 steps and six schemes has, and what stands in it.
 REPORTED = [([SIX_SCHEMES, NETWORK, MATRICES], 151, "\nsmore,total,")]
 

@@ -51,6 +51,7 @@ def plan(draw):
     keys = {
         "failures": FAILURES, "schemes": draw.sample(SCHEMES, draw.randint(1, 6)), "recovery": draw.choice(RECOVERIES), "publish": draw.choice(OBLIVIOUS),
         "k": k, "budget": draw.choice((k, draw.randint(1, 8), 32)), "trees": draw.randint(1, 8), "seed": draw.randrange(2**64),
+        "seeds": draw.choice((1, 1, 2, 3)),
     }
     kept = {key: value for key, value in keys.items() if draw.randrange(4)}
     of_set = draw.choice(({}, {}, {"margin": [most, draw.randint(1, most)]}, {"envelope": True}))

@@ -146,6 +146,9 @@ PLANS = [
     ("its kind before a margin beside it", '{"topology":"t","matrices":"m","envelope":"true","margin":[2,1]}', "kind of envelope"),
     ("an envelope beside a margin", '{"topology":"t","matrices":"m","envelope":true,"margin":[2,1]}', "range of envelope"),
     ("the seed before the envelope", '{"topology":"t","matrices":"m","envelope":1,"seed":-1}', "kind of seed"),
+    ("no seeds", '{"topology":"t","matrices":"m","seeds":0}', "range of seeds"),
+    ("more than 64 seeds", '{"topology":"t","matrices":"m","envelope":1,"seeds":65}', "range of seeds"),
+    ("the seed before the number of seeds", '{"topology":"t","matrices":"m","seeds":[7],"seed":-1}', "kind of seed"),
 ]
 
 

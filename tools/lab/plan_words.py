@@ -20,6 +20,7 @@ VALUES = {
     "budget": "a whole number from 1 to 32, without quotes",
     "trees": "a whole number from 1 to 16, without quotes",
     "seed": "a whole number from 0 to 18446744073709551615, without quotes",
+    "seeds": "a whole number from 1 to 64, without quotes",
     "envelope": "true or false, without quotes; true is for the matrices between the least and the greatest demand of each pair, and not beside a margin",
 }
 OTHER_NAMES = {"raecke": "racke", "räcke": "racke", "optimal": "mcf", "opt": "mcf", "semimcf": "smore", "semimcfraecke": "smore", "ospf": "spf", "shortest": "spf", "vlb": "valiant"}
@@ -115,7 +116,7 @@ def range_words(key, value, said):
 def text_words(key, value, said, takes):
     """A text that is wrong, or stands where none may."""
     bare = value.strip()
-    if key in ("k", "budget", "trees", "seed") and re.fullmatch("[0-9]+", bare):
+    if key in ("k", "budget", "trees", "seed", "seeds") and re.fullmatch("[0-9]+", bare):
         return f"the number stands in quotes: {shown(in_json(value))}", takes
     if key == "envelope" and bare.lower() in ("true", "false"):
         return f"{said} stands in quotes", takes

@@ -7,8 +7,8 @@ DEFAULT_SCHEMES = ("spf", "ecmp", "ksp", "mcf", "racke", "smore")
 SCHEMES = (*DEFAULT_SCHEMES, "valiant")
 OBLIVIOUS = ("spf", "ecmp", "ksp", "racke", "valiant")
 RECOVERIES = ("none", "scale", "bypass", "reroute")
-KEYS = ("topology", "matrices", "failures", "schemes", "recovery", "publish", "margin", "k", "budget", "trees", "seed", "envelope")
-COUNTS = {"k": (1, 32), "budget": (1, 32), "trees": (1, 16), "seed": (0, 2**64 - 1)}
+KEYS = ("topology", "matrices", "failures", "schemes", "recovery", "publish", "margin", "k", "budget", "trees", "seed", "seeds", "envelope")
+COUNTS = {"k": (1, 32), "budget": (1, 32), "trees": (1, 16), "seed": (0, 2**64 - 1), "seeds": (1, 64)}
 MAX_DEPTH = 127
 
 
@@ -35,7 +35,7 @@ class Plan:
         self.recovery = members.get("recovery", "none")
         self.publish, self.names_publish = members.get("publish", "racke"), "publish" in members
         self.k, self.budget = members.get("k", 4), members.get("budget", 4)
-        self.trees, self.seed = members.get("trees", 8), members.get("seed", 0)
+        self.trees, self.seed, self.seeds = members.get("trees", 8), members.get("seed", 0), members.get("seeds", 1)
         self.margin = members.get("margin")
         self.envelope = members.get("envelope", False)
         self.twice = twice

@@ -43,6 +43,16 @@ def units():
     return faults
 
 
+def seeds():
+    """One seed, several of a scheme that is reported or is not, and several of one that draws nothing."""
+    net, series = files_of()
+    rows = [
+        ({"seed": 7}, []), ({"seed": 7, "seeds": 8}, ["the best of 8 seeds (the key seeds), and run reports racke of the first of them, 7, alone"]),
+        ({"schemes": ["smore"], "seeds": 8}, []), ({"publish": "ksp", "seeds": 2}, ["the key seeds is 2, and ksp draws nothing"]),
+    ]
+    return [it for members, wanted in rows for it in differences(warnings(plan_of(**members), net, series, []), *wanted)]
+
+
 def ways_of_ecmp():
     """The equal ways of a scheme that is published with a smaller budget, or one that is not."""
     net, series = files_of()
@@ -127,6 +137,7 @@ def warnings_of_program():
 
 CASES = [
     ("coarse units", units),
+    ("several seeds", seeds),
     ("paths of ecmp beyond the budget", ways_of_ecmp),
     ("paths of valiant beyond the budget", ways_of_valiant),
     ("paths of a certificate beyond the budget", ways_in_certificates),

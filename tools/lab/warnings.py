@@ -17,7 +17,18 @@ def warnings(plan, net, series, outages):
     found += coarse_units(net, series)
     found += demands_beyond_nodes(net, series)
     found += cuts_of_one_way(net, outages)
-    return found
+    return found + several_seeds(plan)
+
+
+def several_seeds(plan):
+    """Seeds that change nothing, or of which the report has the first alone."""
+    if plan.seeds == 1:
+        return []
+    if plan.publish != "racke":
+        return [f"the key seeds is {plan.seeds}, and {plan.publish} draws nothing: publish makes one certificate"]
+    if "racke" not in plan.schemes:
+        return []
+    return [f"publish writes the best of {plan.seeds} seeds (the key seeds), and run reports racke of the first of them, {plan.seed}, alone"]
 
 
 def counted(number, one, many):

@@ -4,6 +4,7 @@ use Rattle.std.specs.Prelude.{IfOk}
 use Rattle.std.proofs.lemmas.Result.{IfOk-weaker}
 use Rattle.te_model.specs.declared.network.Network.{Network}
 use Rattle.te_model.specs.declared.route.PairRoutes.{PairRoutes}
+use Rattle.te_model.specs.declared.certificate.Certificate.{Certificate}
 use Rattle.te_model.specs.declared.demand.DemandSet.{DemandSet}
 use Rattle.path_budget.specs.Budget.{trimmed_routes}
 use Rattle.failure.specs.declared.outage.Failures.{Failures}
@@ -12,27 +13,28 @@ use Rattle.plan.specs.declared.experiment.Experiment.{Experiment}
 use Rattle.plan.specs.declared.scheme_name.SchemeName.{SchemeName}
 use Rattle.plan.specs.Words.{scheme_word}
 use Rattle.series_simulation.specs.declared.step_row.StepRow.{StepRow}
-use Rattle.experiment.specs.Published.{published_set, IsMadeFile, IsPublished}
+use Rattle.ratio_certificate.specs.Made.{IsMade}
+use Rattle.experiment.specs.Published.{published_set, IsMadeByPlan}
 use Rattle.experiment.specs.Schemes.{AreSchemeRows, IsSchemeRouting, meaning_of}
 use Rattle.experiment.specs.Text.{scheme_lines}
 
--- the file of the scheme that the plan names is published
-pub file_by_name : {F E : Type 0} (name : SchemeName) (plan : Experiment) (net : Network) (series : Series) (set : DemandSet)
+-- a certificate of the scheme that the plan names is made by the plan
+pub made_by_name : {E : Type 0} (name : SchemeName) (plan : Experiment) (net : Network) (series : Series) (set : DemandSet)
     (kept : (meaning_of name plan).Plan → List PairRoutes) → ((p : (meaning_of name plan).Plan) → (meaning_of name plan).fixed p ≡ Some (kept p)) →
-    plan.publish ≡ name → set ≡ published_set plan series → (items : F → List ℕ) (r : Result F E) →
-    IfOk r (λ file. (p : (meaning_of name plan).Plan) × (meaning_of name plan).is_plan net series.pairs.list p
-    × IsMadeFile net (trimmed_routes plan.budget (kept p)) set (items file)) →
-    IfOk r (λ file. IsPublished plan net series (items file))
-file_by_name name plan net series set kept fixed named same items r =
+    plan.publish ≡ name → set ≡ published_set plan series → (r : Result Certificate E) →
+    IfOk r (λ c. (p : (meaning_of name plan).Plan) × (meaning_of name plan).is_plan net series.pairs.list p
+    × IsMade net (trimmed_routes plan.budget (kept p)) set c) →
+    IfOk r (IsMadeByPlan plan net series)
+made_by_name name plan net series set kept fixed named same r =
     IfOk-weaker r
-    (λ file. (p : (meaning_of name plan).Plan) × (meaning_of name plan).is_plan net series.pairs.list p
-    × IsMadeFile net (trimmed_routes plan.budget (kept p)) set (items file))
-    (λ file. IsPublished plan net series (items file))
-    (λ file is. record {
+    (λ c. (p : (meaning_of name plan).Plan) × (meaning_of name plan).is_plan net series.pairs.list p
+    × IsMade net (trimmed_routes plan.budget (kept p)) set c)
+    (IsMadeByPlan plan net series)
+    (λ c is. record {
       routes = kept is.0;
       routing = subst (λ (n : SchemeName). IsSchemeRouting n plan net series.pairs.list (kept is.0)) (sym named)
           (record { plan = is.0; planned = is.1; kept = fixed is.0 });
-      file = subst (λ (s : DemandSet). IsMadeFile net (trimmed_routes plan.budget (kept is.0)) s (items file)) same is.2;
+      made = subst (λ (s : DemandSet). IsMade net (trimmed_routes plan.budget (kept is.0)) s c) same is.2;
     })
 
 -- the lines of a scheme are those of its name

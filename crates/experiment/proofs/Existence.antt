@@ -7,6 +7,7 @@ use Rattle.te_model.specs.declared.network.Network.{Network}
 use Rattle.te_model.specs.declared.route.Pair.{Pair}
 use Rattle.te_model.specs.declared.route.PairRoutes.{PairRoutes}
 use Rattle.te_model.specs.Network.{is_well_formed, link_count, node_count}
+use Rattle.te_model.specs.declared.certificate.Certificate.{Certificate}
 use Rattle.te_model.specs.declared.demand.DemandSet.{DemandSet}
 use Rattle.te_model.specs.Pairs.{AscendPairs}
 use Rattle.te_model.specs.Text.{text}
@@ -14,7 +15,7 @@ use Rattle.routing.specs.Routes.{IsRoutingOf}
 use Rattle.routing.proofs.Splits.{splits_of}
 use Rattle.path_budget.specs.Budget.{trimmed_routes}
 use Rattle.path_budget.proofs.Trimming.{trimmed_has_few, trimmed_routing}
-use Rattle.scheme.specs.Reach.{ArePairsOf}
+use Rattle.scheme.specs.Reach.{AllReached, ArePairsOf}
 use Rattle.best_blocks.specs.Conditions.{IsSetWithin}
 use Rattle.ratio_certificate.proofs.CertificatesExist.{made_certificates_exist}
 use Rattle.failure.specs.declared.outage.Failures.{Failures}
@@ -29,13 +30,15 @@ use Rattle.series_simulation.specs.declared.step_row.StepRow.{StepRow}
 use Rattle.series_simulation.proofs.Existence.{step_rows_exist}
 use Rattle.series_simulation.proofs.SeriesLemmas.{series_pairs}
 use Rattle.experiment.specs.Laws.{PublicationsExist, ReportsExist}
-use Rattle.experiment.specs.Published.{IsMadeFile, published_set}
+use Rattle.ratio_certificate.specs.Made.{IsMade}
+use Rattle.experiment.specs.Published.{IsMadeByPlan, IsMadeFile, published_set, seed_count, with_seed}
 use Rattle.experiment.specs.Report.{lines_of_schemes}
 use Rattle.experiment.specs.Schemes.{AreSchemeRows, meaning_of}
 use Rattle.experiment.specs.Text.{header}
 use Rattle.experiment.proofs.PublishedSets.{set_within}
 use Rattle.experiment.proofs.RoutingWithin.{routing_within}
 use Rattle.experiment.proofs.SchemePlans.{name_routings}
+use Rattle.experiment.proofs.Seeds.{best_exists, range_with_seed, some_seed}
 
 -- what an oblivious scheme's plan keeps is a routing
 kept_routing : (plan : Experiment) (name : SchemeName) → is_oblivious name ≡ true → (net : Network) (pairs : List Pair) (p : (meaning_of name plan).Plan) →
@@ -48,11 +51,11 @@ kept_routing plan Racke oblivious net pairs p is = (p.routing.routes, refl, is.r
 kept_routing plan Smore oblivious net pairs p is = absurd (false≢true oblivious)
 kept_routing plan Valiant oblivious net pairs p is = (p.routing.routes, refl, is.routing)
 
--- the file of a certificate of the heaviest paths of a routing
-pub made_file_exists : (net : Network) (pairs : List Pair) (budget : ℕ) (routes : List PairRoutes) (set : DemandSet) →
+-- a certificate of the heaviest paths of a routing
+made_certificate_exists : (net : Network) (pairs : List Pair) (budget : ℕ) (routes : List PairRoutes) (set : DemandSet) →
     is_well_formed net ≡ true → 1 ≤ link_count net → ArePairsOf net pairs → AscendPairs pairs → 1 ≤ budget → budget ≤ 32 → IsRoutingOf net pairs routes →
-    IsSetWithin (length pairs) set → (file : List ℕ) × IsMadeFile net (trimmed_routes budget routes) set file
-made_file_exists net pairs budget routes set formed some are ascend some_kept few_kept of within_limits =
+    IsSetWithin (length pairs) set → (certificate : Certificate) × IsMade net (trimmed_routes budget routes) set certificate
+made_certificate_exists net pairs budget routes set formed some are ascend some_kept few_kept of within_limits =
     let kept = trimmed_routes budget routes in
     let kept_of = trimmed_routing budget net pairs routes some_kept of in
     let few = trimmed_has_few budget routes some_kept (splits_of net routes of.splits) in
@@ -60,20 +63,37 @@ made_file_exists net pairs budget routes set formed some are ascend some_kept fe
     let count : length pairs ≡ length kept =
     ap (λ (ps : List Pair). length ps) (sym kept_of.in_order) ∙ length-map kept (λ (r : PairRoutes). r.pair)
     in
-    let (certificate, made) = made_certificates_exist net kept set formed some within (subst (λ n. IsSetWithin n set) count within_limits) in
+    made_certificates_exist net kept set formed some within (subst (λ n. IsSetWithin n set) count within_limits)
+
+-- its file
+pub made_file_exists : (net : Network) (pairs : List Pair) (budget : ℕ) (routes : List PairRoutes) (set : DemandSet) →
+    is_well_formed net ≡ true → 1 ≤ link_count net → ArePairsOf net pairs → AscendPairs pairs → 1 ≤ budget → budget ≤ 32 → IsRoutingOf net pairs routes →
+    IsSetWithin (length pairs) set → (file : List ℕ) × IsMadeFile net (trimmed_routes budget routes) set file
+made_file_exists net pairs budget routes set formed some are ascend some_kept few_kept of within_limits =
+    let (certificate, made) = made_certificate_exists net pairs budget routes set formed some are ascend some_kept few_kept of within_limits in
     (text certificate, record { certificate = certificate; made = made; text_is = refl })
 
-pub publications_exist : PublicationsExist
-publications_exist plan net series range formed some is reached =
+-- a certificate by the plan
+by_plan_exists : (plan : Experiment) (net : Network) (series : Series) → InRange plan → is_well_formed net ≡ true → 1 ≤ link_count net →
+    IsSeries (node_count net) series → AllReached net series.pairs.list → (certificate : Certificate) × IsMadeByPlan plan net series certificate
+by_plan_exists plan net series range formed some is reached =
     let pairs = series.pairs.list in
     let has = name_routings plan range plan.publish in
     let (p, planned) = has.plans net formed pairs (series_pairs net series formed is) reached in
     let (routes, kept, of) = kept_routing plan plan.publish range.publish net pairs p planned in
-    let (file, made) =
-    made_file_exists net pairs plan.budget routes (published_set plan series) formed some (series_pairs net series formed is)
+    let (certificate, made) =
+    made_certificate_exists net pairs plan.budget routes (published_set plan series) formed some (series_pairs net series formed is)
     is.ascending range.budget_low range.budget_high of (set_within (node_count net) plan series range is)
     in
-    (file, record { routes = routes; routing = record { plan = p; planned = planned; kept = kept }; file = made })
+    (certificate, record { routes = routes; routing = record { plan = p; planned = planned; kept = kept }; made = made })
+
+pub publications_exist : PublicationsExist
+publications_exist plan net series range formed some is reached =
+    let (list, best, made, first) =
+    best_exists plan net series (λ seed. by_plan_exists (with_seed plan seed) net series (range_with_seed plan seed range) formed some is reached)
+    (seed_count plan) (some_seed plan range)
+    in
+    (text best, record { certificate = best; best = record { certificates = list; made = made; best = first }; text_is = refl })
 
 -- the rows of each scheme
 rows_of : (plan : Experiment) (net : Network) (series : Series) (failures : Failures) → InRange plan → is_well_formed net ≡ true →

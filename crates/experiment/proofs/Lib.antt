@@ -5,6 +5,7 @@ mod Fields
 mod Reports
 mod SchemeLines
 mod ByName
+mod Seeds
 pub mod Accepted
 pub mod SchemePlans
 pub mod Existence

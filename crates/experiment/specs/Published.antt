@@ -1,5 +1,5 @@
 -- What is published: the file of a certificate of the plan's oblivious routing.
-use Rattle.std.specs.Prelude.{◌≡◌, ℕ, ◌≤◌, List, length, Option, Some, None, if◌then◌else◌}
+use Rattle.std.specs.Prelude.{◌≡◌, ℕ, zero, suc, ◌+◌, ◌^◌, ◌%◌, ◌<◌, ◌≤◌, List, [], ◌∷◌, ◌++◌, All as Each, length, Option, Some, None, if◌then◌else◌}
 use Rattle.te_model.specs.declared.network.Network.{Network}
 use Rattle.te_model.specs.declared.route.PairRoutes.{PairRoutes}
 use Rattle.te_model.specs.declared.certificate.Certificate.{Certificate}
@@ -15,6 +15,7 @@ use Rattle.ratio_certificate.specs.Made.{IsMade}
 use Rattle.traffic_matrix.specs.First.{first_matrix}
 use Rattle.traffic_matrix.specs.declared.series.Series.{Series}
 use Rattle.plan.specs.declared.experiment.Experiment.{Experiment}
+use Rattle.plan.specs.Words.{draws}
 use Rattle.experiment.specs.Envelope.{envelope_of}
 use Rattle.experiment.specs.Schemes.{IsSchemeRouting}
 
@@ -33,12 +34,51 @@ pub record IsMadeFile (net : Network) (routes : List PairRoutes) (set : DemandSe
   pub made : IsMade net routes set certificate
   pub text_is : bytes ≡ text certificate
 
--- the file of a certificate that is made of the network, of a routing of the declared pairs by the plan's scheme, of which
--- each pair keeps the heaviest paths within the plan's budget, and of the plan's demand set
-pub record IsPublished (plan : Experiment) (net : Network) (series : Series) (bytes : List ℕ) : Type 0 where
+-- a certificate that is made of the network, of a routing of the declared pairs by the plan's scheme, of which each pair keeps the
+-- heaviest paths within the plan's budget, and of the plan's demand set
+pub record IsMadeByPlan (plan : Experiment) (net : Network) (series : Series) (certificate : Certificate) : Type 0 where
   pub routes : List PairRoutes
   pub routing : IsSchemeRouting plan.publish plan net series.pairs.list routes
-  pub file : IsMadeFile net (trimmed_routes plan.budget routes) (published_set plan series) bytes
+  pub made : IsMade net (trimmed_routes plan.budget routes) (published_set plan series) certificate
+
+-- the plan with a seed in place of its own
+abbrev pub with_seed : Experiment → ℕ → Experiment
+with_seed plan seed = record plan { seed = seed }
+
+-- the seed that comes so many after the plan's, where 0 comes after the greatest number of 64 bits
+abbrev pub later_seed : Experiment → ℕ → ℕ
+later_seed plan count = (plan.seed + count) % 2 ^ 64
+
+-- of how many seeds a certificate is made: one where the published scheme draws nothing
+abbrev pub seed_count : Experiment → ℕ
+seed_count plan = if draws plan.publish then plan.seeds else 1
+
+-- one certificate by the plan with each of its first n seeds, in order
+abbrev pub AreMadeBySeeds : Experiment → Network → Series → ℕ → List Certificate → Type 0
+AreMadeBySeeds plan net series zero certificates = certificates ≡ []
+AreMadeBySeeds plan net series (suc n) certificates =
+    (earlier : List Certificate) × (last : Certificate) × AreMadeBySeeds plan net series n earlier
+    × IsMadeByPlan (with_seed plan (later_seed plan n)) net series last × (certificates ≡ earlier ++ last ∷ [])
+
+-- the first one of the least ratio
+pub record IsFirstOfLeastRatio (certificates : List Certificate) (certificate : Certificate) : Type 0 where
+  pub earlier : List Certificate
+  pub later : List Certificate
+  pub among : certificates ≡ earlier ++ certificate ∷ later
+  pub less : Each (λ (c : Certificate). certificate.head.ratio < c.head.ratio) earlier
+  pub least : Each (λ (c : Certificate). certificate.head.ratio ≤ c.head.ratio) later
+
+-- a certificate is made of each of the plan's seeds, and this is the first of the least ratio
+pub record IsBestBySeeds (plan : Experiment) (net : Network) (series : Series) (certificate : Certificate) : Type 0 where
+  pub certificates : List Certificate
+  pub made : AreMadeBySeeds plan net series (seed_count plan) certificates
+  pub best : IsFirstOfLeastRatio certificates certificate
+
+-- the file of the best certificate by the plan's seeds
+pub record IsPublished (plan : Experiment) (net : Network) (series : Series) (bytes : List ℕ) : Type 0 where
+  pub certificate : Certificate
+  pub best : IsBestBySeeds plan net series certificate
+  pub text_is : bytes ≡ text certificate
 
 -- the bytes are no more than a certificate's file may have, and spell a valid certificate of which no inequality fails, so its ratio is an
 -- oblivious ratio of its routing

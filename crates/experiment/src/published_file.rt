@@ -1,16 +1,13 @@
 //! The file of the certificate that a plan publishes.
-ghost use Rattle.std.specs.Prelude.{◌≡◌, ◌≤◌, IfOk, IfErr, OnOk, IsTrue, length};
+ghost use Rattle.std.specs.Prelude.{◌≡◌, ◌<◌, ◌≤◌, IfOk, IfErr, OnOk, IsTrue};
 ghost use Rattle.te_model.specs.Network.{is_well_formed, link_count, node_count};
 ghost use Rattle.te_model.specs.Text.{text};
-ghost use Rattle.path_budget.specs.Budget.{trimmed_routes};
-ghost use Rattle.best_blocks.specs.Conditions.{IsSetWithin};
 ghost use Rattle.scheme.specs.Fault.{IsFault};
 ghost use Rattle.scheme.specs.declared.fault.SchemeFault.{SchemeFault};
-ghost use Rattle.scheme.specs.Reach.{AllReached, ArePairsOf};
+ghost use Rattle.scheme.specs.Reach.{AllReached};
 ghost use Rattle.traffic_matrix.specs.Limits.{IsSeries};
 ghost use Rattle.plan.specs.Plan.{InRange};
-ghost use Rattle.te_model.specs.Pairs.{AscendPairs};
-ghost use Rattle.experiment.specs.Published.{IsMadeFile, IsPublished};
+ghost use Rattle.experiment.specs.Published.{IsBestBySeeds, IsMadeByPlan, IsPublished, later_seed, seed_count, with_seed};
 
 use crate::demand_set::published_set;
 use crate::publishing::publish;
@@ -19,11 +16,98 @@ use ecmp_split::Ecmp;
 use k_paths::Ksp;
 use plan::{Experiment, SchemeName};
 use racke_mix::Racke;
-use scheme::{Oblivious, SchemeFault, Spf};
+use scheme::{SchemeFault, Spf};
 use std::alloc::Global;
-use te_model::{Certificate, DemandSet, Network, Pairs};
+use te_model::{Certificate, Network};
 use traffic_matrix::Series;
 use valiant_mix::Valiant;
+
+/// The seed that comes so many after the plan's.
+fn later_seed(plan: &Experiment, count: u32) -> u64
+    ensures { result ≡ later_seed plan.now count }
+{
+    plan.seed.wrapping_add(u64::from(count))
+}
+
+/// Of how many seeds a certificate is made.
+fn seed_count(plan: &Experiment) -> u32
+    ensures { result ≡ seed_count plan.now }
+{
+    if plan.publish.draws() { plan.seeds } else { 1 }
+}
+
+/// A certificate of the routing that the plan has with this seed in place of its own.
+fn certificate_by_seed(
+    alloc: Global,
+    plan: &Experiment,
+    network: &Network,
+    series: &Series,
+    seed: u64,
+) -> Result<Certificate, SchemeFault>
+    requires plan { InRange plan.now }
+    requires network { IsTrue (is_well_formed network.now) }
+    requires links { 1 ≤ link_count network.now }
+    requires series { IsSeries (node_count network.now) series.now }
+    ensures made { IfOk result (IsMadeByPlan (with_seed plan.now seed) network.now series.now) }
+    ensures reached { OnOk result (AllReached network.now series.now.pairs.list) }
+    ensures fault { IfErr result (IsFault network.now series.now.pairs.list) }
+{
+    let set = published_set(alloc, plan, series)?;
+    let pairs = &series.pairs;
+    match plan.publish {
+        SchemeName::Spf => publish(alloc, &Spf, network, pairs, set, plan.budget),
+        SchemeName::Ecmp => publish(alloc, &Ecmp, network, pairs, set, plan.budget),
+        SchemeName::Ksp => {
+            let scheme = Ksp { k: plan.k };
+            publish(alloc, &scheme, network, pairs, set, plan.budget)
+        }
+        SchemeName::Racke => {
+            let scheme = Racke {
+                trees: plan.trees,
+                seed,
+            };
+            publish(alloc, &scheme, network, pairs, set, plan.budget)
+        }
+        SchemeName::Valiant => publish(alloc, &Valiant, network, pairs, set, plan.budget),
+        // A plan publishes an oblivious scheme.
+        SchemeName::Mcf | SchemeName::Smore => unreachable!(),
+    }
+}
+
+/// Puts the other certificate in place of the best one, if its ratio is less.
+fn keep_lesser(best: &mut Certificate, found: Certificate)
+    ensures same { best.old.head.ratio ≤ found.head.ratio → best.new ≡ best.old }
+    ensures lesser { found.head.ratio < best.old.head.ratio → best.new ≡ found }
+{
+    if found.head.ratio < best.head.ratio {
+        *best = found;
+    }
+}
+
+/// The first certificate of the least ratio among those by the plan's seeds.
+fn best_certificate(
+    alloc: Global,
+    plan: &Experiment,
+    network: &Network,
+    series: &Series,
+) -> Result<Certificate, SchemeFault>
+    requires plan { InRange plan.now }
+    requires network { IsTrue (is_well_formed network.now) }
+    requires links { 1 ≤ link_count network.now }
+    requires series { IsSeries (node_count network.now) series.now }
+    ensures best { IfOk result (IsBestBySeeds plan.now network.now series.now) }
+    ensures reached { OnOk result (AllReached network.now series.now.pairs.list) }
+    ensures fault { IfErr result (IsFault network.now series.now.pairs.list) }
+{
+    let first = later_seed(plan, 0);
+    let mut best = certificate_by_seed(alloc, plan, network, series, first)?;
+    for count in 1..seed_count(plan) {
+        let seed = later_seed(plan, count);
+        let next = certificate_by_seed(alloc, plan, network, series, seed)?;
+        keep_lesser(&mut best, next);
+    }
+    Ok(best)
+}
 
 /// The file of a certificate.
 fn file_of(alloc: Global, certificate: &Certificate) -> Result<Vec<u8>, SchemeFault>
@@ -34,32 +118,8 @@ fn file_of(alloc: Global, certificate: &Certificate) -> Result<Vec<u8>, SchemeFa
     Ok(file)
 }
 
-/// The file of a certificate of the scheme's routing, of which each pair keeps the `budget` heaviest paths.
-fn scheme_file<S: Oblivious>(
-    alloc: Global,
-    scheme: &S,
-    network: &Network,
-    pairs: &Pairs,
-    set: DemandSet,
-    budget: u32,
-) -> Result<Vec<u8>, SchemeFault>
-    requires network { IsTrue (is_well_formed network.now) }
-    requires links { 1 ≤ link_count network.now }
-    requires pairs { ArePairsOf network.now pairs.now.list }
-    requires ascending { AscendPairs pairs.now.list }
-    requires set { IsSetWithin (length pairs.now.list) set }
-    requires some { 1 ≤ budget }
-    requires few { budget ≤ 32 }
-    ensures file { IfOk result (λ file. (plan : S.Plan) × S.Scheme.is_plan scheme.now network.now pairs.now.list plan
-        × IsMadeFile network.now (trimmed_routes budget (S.fixed_routes scheme.now plan)) set file.items) }
-    ensures reached { OnOk result (AllReached network.now pairs.now.list) }
-    ensures fault { IfErr result (IsFault network.now pairs.now.list) }
-{
-    let certificate = publish(alloc, scheme, network, pairs, set, budget)?;
-    file_of(alloc, &certificate)
-}
-
-/// The file of a certificate of the routing that the plan publishes, for the declared pairs of the series.
+/// The file of a certificate of the routing that the plan publishes, for the declared pairs of the series: of the plan's seeds the first
+/// one whose certificate has the least ratio.
 ///
 /// The network has at least one link. `NoPath` names the first declared pair without a path, exactly where there is one, and
 /// `Memory` comes where memory is wanting.
@@ -77,24 +137,6 @@ pub fn certificate_file(
     ensures reached { OnOk result (AllReached network.now series.now.pairs.list) }
     ensures fault { IfErr result (IsFault network.now series.now.pairs.list) }
 {
-    let set = published_set(alloc, plan, series)?;
-    let pairs = &series.pairs;
-    match plan.publish {
-        SchemeName::Spf => scheme_file(alloc, &Spf, network, pairs, set, plan.budget),
-        SchemeName::Ecmp => scheme_file(alloc, &Ecmp, network, pairs, set, plan.budget),
-        SchemeName::Ksp => {
-            let scheme = Ksp { k: plan.k };
-            scheme_file(alloc, &scheme, network, pairs, set, plan.budget)
-        }
-        SchemeName::Racke => {
-            let scheme = Racke {
-                trees: plan.trees,
-                seed: plan.seed,
-            };
-            scheme_file(alloc, &scheme, network, pairs, set, plan.budget)
-        }
-        SchemeName::Valiant => scheme_file(alloc, &Valiant, network, pairs, set, plan.budget),
-        // A plan publishes an oblivious scheme.
-        SchemeName::Mcf | SchemeName::Smore => unreachable!(),
-    }
+    let certificate = best_certificate(alloc, plan, network, series)?;
+    file_of(alloc, &certificate)
 }

@@ -6,8 +6,8 @@ use std::alloc::Global;
 // The recovery of a plan, the scheme that it publishes, its margin, and whether it asks for the envelope.
 type Choices = (Recovery, SchemeName, Option<(u64, u64)>, bool);
 
-// The numbers of a plan: k, the budget, the trees and the seed.
-type Numbers = (u32, u32, u32, u64);
+// The numbers of a plan: k, the budget, the trees, the seed and the number of seeds.
+type Numbers = (u32, u32, u32, u64, u32);
 
 // A plan, the schemes that it compares, whether it has a file of failures, its choices and its numbers.
 struct Planned<'a>(&'a str, &'a [SchemeName], bool, Choices, Numbers);
@@ -19,21 +19,21 @@ const PLANS: &[Planned] = &[
         &SchemeName::DEFAULT,
         false,
         (Recovery::Keep, SchemeName::Racke, None, false),
-        (4, 4, 8, 0),
+        (4, 4, 8, 0, 1),
     ),
     Planned(
-        r#"{"topology":"t","matrices":"m","failures":"f","schemes":["smore"],"recovery":"bypass","publish":"ksp","margin":[3,2],"seed":18446744073709551615}"#,
+        r#"{"topology":"t","matrices":"m","failures":"f","schemes":["smore"],"recovery":"bypass","publish":"ksp","margin":[3,2],"seed":18446744073709551615,"seeds":64}"#,
         &[SchemeName::Smore],
         true,
         (Recovery::Bypass, SchemeName::Ksp, Some((3, 2)), false),
-        (4, 4, 8, u64::MAX),
+        (4, 4, 8, u64::MAX, 64),
     ),
     Planned(
         r#"{"envelope":true,"topology":"t","matrices":"m"}"#,
         &SchemeName::DEFAULT,
         false,
         (Recovery::Keep, SchemeName::Racke, None, true),
-        (4, 4, 8, 0),
+        (4, 4, 8, 0, 1),
     ),
     // A key that stands twice, first with a fault.
     Planned(
@@ -41,7 +41,7 @@ const PLANS: &[Planned] = &[
         &SchemeName::DEFAULT,
         false,
         (Recovery::Keep, SchemeName::Racke, None, false),
-        (32, 4, 8, 0),
+        (32, 4, 8, 0, 1),
     ),
     // No envelope, beside a margin.
     Planned(
@@ -49,7 +49,7 @@ const PLANS: &[Planned] = &[
         &SchemeName::DEFAULT,
         false,
         (Recovery::Keep, SchemeName::Racke, Some((2, 1)), false),
-        (4, 4, 8, 0),
+        (4, 4, 8, 0, 1),
     ),
 ];
 
@@ -63,7 +63,7 @@ fn has_files_and_schemes(plan: &Experiment, row: &Planned) -> bool {
 // Whether a plan says what the row says.
 fn is_said(plan: &Experiment, row: &Planned) -> bool {
     let choices = (plan.recovery, plan.publish, plan.margin, plan.envelope) == row.3;
-    let numbers = (plan.k, plan.budget, plan.trees, plan.seed) == row.4;
+    let numbers = (plan.k, plan.budget, plan.trees, plan.seed, plan.seeds) == row.4;
     has_files_and_schemes(plan, row) & choices & numbers
 }
 

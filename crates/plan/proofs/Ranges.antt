@@ -91,6 +91,7 @@ record AreCounts (n : Counts) : Type 0 where
   k : IsBetween 1 32 n.k
   budget : IsBetween 1 32 n.budget
   trees : IsBetween 1 16 n.trees
+  seeds : IsBetween 1 64 n.seeds
 
 count-range : (k : Key) (default low high : ℕ) (d : Data) → IsBetween low high default → IfOk (count_of_key k default low high d) (IsBetween low high)
 count-range k default low high d is =
@@ -103,7 +104,8 @@ counts-range d =
     (λ k paths. after (count_of_key key.Budget 4 1 32 d) _ (IsBetween 1 32) AreCounts (count-range key.Budget 4 1 32 d (omega arith, omega arith))
     (λ b budget. after (count_of_key key.Trees 8 1 16 d) _ (IsBetween 1 16) AreCounts (count-range key.Trees 8 1 16 d (omega arith, omega arith))
     (λ t trees. after-any (count_of_key key.Seed 0 0 (2 ^ 64 - 1) d) _ AreCounts
-    (λ s. record { k = paths; budget = budget; trees = trees }))))
+    (λ s. after (count_of_key key.Seeds 1 1 64 d) _ (IsBetween 1 64) AreCounts (count-range key.Seeds 1 1 64 d (omega arith, omega arith))
+    (λ m seeds. record { k = paths; budget = budget; trees = trees; seeds = seeds })))))
 
 envelope-at-range : (margin : Option (ℕ × ℕ)) (d : Data) → IfOk (envelope_at margin d) (λ asked. asked ≡ true → margin ≡ None)
 envelope-at-range margin d =
@@ -125,6 +127,8 @@ parts-range f c n e files choices counts alone = record {
   budget_high = counts.budget.1;
   trees_low = counts.trees.0;
   trees_high = counts.trees.1;
+  seeds_low = counts.seeds.0;
+  seeds_high = counts.seeds.1;
   envelope = alone;
 }
 

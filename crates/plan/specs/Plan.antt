@@ -75,7 +75,8 @@ numbers_of d =
     with_value (count_of_key key.Budget 4 1 32 d) (λ b.
     with_value (count_of_key key.Trees 8 1 16 d) (λ t.
     with_value (count_of_key key.Seed 0 0 (2 ^ 64 - 1) d) (λ s.
-    Ok (record { k = k; budget = b; trees = t; seed = s })))))
+    with_value (count_of_key key.Seeds 1 1 64 d) (λ m.
+    Ok (record { k = k; budget = b; trees = t; seed = s; seeds = m }))))))
 
 -- whether the published set is the envelope of the matrices, beside this margin
 abbrev pub envelope_at : Option (ℕ × ℕ) → Data → Result Bool PlanFault
@@ -94,6 +95,7 @@ experiment_of f c n e = record {
   budget = n.budget;
   trees = n.trees;
   seed = n.seed;
+  seeds = n.seeds;
   envelope = e;
 }
 
@@ -134,4 +136,6 @@ pub record InRange (x : Experiment) : Type 0 where
   pub budget_high : x.budget ≤ 32
   pub trees_low : 1 ≤ x.trees
   pub trees_high : x.trees ≤ 16
+  pub seeds_low : 1 ≤ x.seeds
+  pub seeds_high : x.seeds ≤ 64
   pub envelope : x.envelope ≡ true → x.margin ≡ None

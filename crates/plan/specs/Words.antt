@@ -30,6 +30,16 @@ scheme_named text =
     else if bytes_eq text (scheme_word scheme.Valiant) then Some scheme.Valiant
     else None
 
+-- the schemes that draw from the seed
+abbrev pub draws : SchemeName → Bool
+draws scheme.Spf = false
+draws scheme.Ecmp = false
+draws scheme.Ksp = false
+draws scheme.Mcf = false
+draws scheme.Racke = true
+draws scheme.Smore = true
+draws scheme.Valiant = false
+
 -- the schemes whose routing is the same for every matrix
 abbrev pub is_oblivious : SchemeName → Bool
 is_oblivious scheme.Spf = true
@@ -63,6 +73,7 @@ key_word key.K = codes "k"
 key_word key.Budget = codes "budget"
 key_word key.Trees = codes "trees"
 key_word key.Seed = codes "seed"
+key_word key.Seeds = codes "seeds"
 key_word key.Envelope = codes "envelope"
 
 -- a key of names: of files, of schemes or of a recovery
@@ -75,7 +86,7 @@ is_name_key text =
 abbrev pub is_count_or_set_key : List ℕ → Bool
 is_count_or_set_key text =
     bytes_eq text (codes "margin") || bytes_eq text (codes "k") || bytes_eq text (codes "budget")
-    || bytes_eq text (codes "trees") || bytes_eq text (codes "seed") || bytes_eq text (codes "envelope")
+    || bytes_eq text (codes "trees") || bytes_eq text (codes "seed") || bytes_eq text (codes "seeds") || bytes_eq text (codes "envelope")
 
 -- a key that a plan may have
 abbrev pub is_key : List ℕ → Bool

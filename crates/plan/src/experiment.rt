@@ -29,6 +29,8 @@ pub struct Experiment {
     pub trees: u32,
     /// The seed of what is drawn.
     pub seed: u64,
+    /// Of how many seeds the best routing is published, 1 to 64: of `seed` and of those that follow it.
+    pub seeds: u32,
     /// Whether the published demand set is the envelope of the matrices: each demand from its least to its greatest one over the
     /// steps. Never beside a margin.
     pub envelope: bool,

@@ -20,6 +20,7 @@ pub enum Key {
     Budget,
     Trees,
     Seed,
+    Seeds,
     Envelope,
 }
 
@@ -41,6 +42,7 @@ impl Key {
             Key::Budget => "budget",
             Key::Trees => "trees",
             Key::Seed => "seed",
+            Key::Seeds => "seeds",
             Key::Envelope => "envelope",
         }
     }

@@ -80,6 +80,7 @@ fn is_count_or_set_key(text: &str) -> bool
         || text == "budget"
         || text == "trees"
         || text == "seed"
+        || text == "seeds"
         || text == "envelope"
 }
 
@@ -120,6 +121,7 @@ fn read_object(alloc: Global, value: &Value) -> Result<Experiment, PlanFault>
         budget: counts.budget,
         trees: counts.trees,
         seed: counts.seed,
+        seeds: counts.seeds,
         envelope,
     })
 }
@@ -217,6 +219,7 @@ struct Counts {
     budget: u32,
     trees: u32,
     seed: u64,
+    seeds: u32,
 }
 
 #[tactic(auto, unfolding(crate::specs::Plan::numbers_of))]
@@ -225,17 +228,20 @@ fn read_counts(value: &Value) -> Result<Counts, PlanFault>
     ensures k { IfOk result (λ n. (1 ≤ n.k) × (n.k ≤ 32)) }
     ensures budget { IfOk result (λ n. (1 ≤ n.budget) × (n.budget ≤ 32)) }
     ensures trees { IfOk result (λ n. (1 ≤ n.trees) × (n.trees ≤ 16)) }
+    ensures seeds { IfOk result (λ n. (1 ≤ n.seeds) × (n.seeds ≤ 64)) }
     ensures refused { IfErr result (λ e. numbers_of (view value.now) ≡ Err e) }
 {
     let k = count(value, Key::K, 4, 1, 32)?;
     let budget = count(value, Key::Budget, 4, 1, 32)?;
     let trees = count(value, Key::Trees, 8, 1, 16)?;
     let seed = count(value, Key::Seed, 0, 0, u64::MAX)?;
+    let seeds = count(value, Key::Seeds, 1, 1, 64)?;
     Ok(Counts {
         k: k as u32,
         budget: budget as u32,
         trees: trees as u32,
         seed,
+        seeds: seeds as u32,
     })
 }
 

@@ -1,7 +1,7 @@
 //! Routing schemes by their names in a plan.
 
 ghost use Rattle.std.specs.Prelude.{◌≡◌, Some};
-ghost use Rattle.plan.specs.Words.{scheme_named, scheme_word, is_oblivious};
+ghost use Rattle.plan.specs.Words.{scheme_named, scheme_word, draws, is_oblivious};
 
 /// A routing scheme, by its name in a plan.
 #[derive(Clone, Copy, Debug, PartialEq, Eq)]
@@ -69,6 +69,20 @@ impl SchemeName {
             Some(SchemeName::Valiant)
         } else {
             None
+        }
+    }
+
+    /// Whether it draws from the seed.
+    pub fn draws(self) -> bool
+        ensures { result ≡ draws self }
+    {
+        match self {
+            SchemeName::Racke | SchemeName::Smore => true,
+            SchemeName::Spf
+            | SchemeName::Ecmp
+            | SchemeName::Ksp
+            | SchemeName::Mcf
+            | SchemeName::Valiant => false,
         }
     }
 
