@@ -4,6 +4,7 @@ pub mod Costs
 pub mod Links
 pub mod Least
 pub mod Rows
+pub mod Passes
 pub mod Ways
 pub mod Pairs
 pub mod Laws

@@ -1,4 +1,5 @@
-//! Least sums of lengths in networks, and least paths, by Dijkstra's algorithm (1959).
+//! Least sums of lengths in networks, and least paths, by passes over the nodes (Bellman, 1958), and where these would be many by
+//! Dijkstra's algorithm (1959).
 //!
 //! - `distances` and `potentials`: the least sums from one node.
 //! - `least_path`: the least path between two nodes by the sum of lengths, then by the list of links.
@@ -13,6 +14,8 @@ mod cost;
 mod distance;
 mod law;
 mod length;
+mod node_order;
+mod passes;
 mod path;
 mod row;
 mod rows;

@@ -3,8 +3,10 @@ ghost use Rattle.std.specs.Prelude.{◌≡◌, IfOk};
 ghost use Rattle.shortest_path.specs.Links.{HasSoundLinks};
 ghost use Rattle.shortest_path.specs.Rows.{IsSearchGraph};
 
+use crate::node_order::Order;
+use crate::passes::{Room, room_for, search};
 use crate::rows::{Direction, rows_of};
-use crate::settle::{Arcs, settle};
+use crate::settle::Arcs;
 use std::alloc::Global;
 use std::marker::Model;
 use te_model::{Memory, Network};
@@ -17,19 +19,21 @@ pub struct Searches {
     arcs: Arcs,
     /// Marks by which every link is open.
     every: Vec<bool>,
-    /// Which nodes a search is done with.
-    done: Vec<bool>,
+    /// The order in which a search goes on from the nodes: that of the search before.
+    order: Order,
+    room: Room,
 }
 
 impl Model for Searches {
     ghost use Rattle.std.specs.Prelude.{◌≡◌, length, replicate, true};
+    ghost use Rattle.shortest_path.specs.Passes.{IsRoom};
     ghost use Rattle.shortest_path.specs.Rows.{SearchGraph};
 
     ghost Value = { SearchGraph };
 
     ghost view = { λ s. record { direction = s.arcs.direction; rows = s.arcs.rows.items; links = length s.every.items } };
 
-    ghost invariant = { λ s. (s.every.items ≡ replicate (length s.every.items) true) × (length s.done.items ≡ length s.arcs.rows.items) };
+    ghost invariant = { λ s. (s.every.items ≡ replicate (length s.every.items) true) × (s.order ≡ length s.arcs.rows.items) × IsRoom (length s.arcs.rows.items) s.room };
 }
 
 impl Searches {
@@ -46,9 +50,16 @@ impl Searches {
     {
         let rows = rows_of(alloc, net, direction)?;
         let every = vec![in alloc; true; net.links.as_slice().len()]?;
-        let done = vec![in alloc; false; net.names.as_slice().len()]?;
+        let nodes = net.names.as_slice().len();
+        let order = Order::new(alloc, nodes)?;
+        let room = room_for(alloc, nodes)?;
         let arcs = Arcs { direction, rows };
-        Ok(Searches { arcs, every, done })
+        Ok(Searches {
+            arcs,
+            every,
+            order,
+            room,
+        })
     }
 
     /// Writes into `distances` what [`distances`](crate::distances) gives. The searches are along links in `net`.
@@ -70,14 +81,15 @@ impl Searches {
         ensures same { self.new ≡ self.old }
     {
         let open = self.every.as_slice();
-        settle(
+        search(
             net,
             &self.arcs,
             lengths,
             open,
             src,
+            &mut self.order,
             distances,
-            &mut self.done,
+            &mut self.room,
         );
     }
 
@@ -100,6 +112,15 @@ impl Searches {
         ensures sums { AreLeastSums net.now lengths.now «open».now dst sums.new }
         ensures same { self.new ≡ self.old }
     {
-        settle(net, &self.arcs, lengths, open, dst, sums, &mut self.done);
+        search(
+            net,
+            &self.arcs,
+            lengths,
+            open,
+            dst,
+            &mut self.order,
+            sums,
+            &mut self.room,
+        );
     }
 }

@@ -1,7 +1,6 @@
-//! The distances of all nodes from one, nearest nodes first.
+//! The distances of all nodes from one, nearest nodes first, which needs no order of them.
 ghost use Rattle.std.specs.Prelude.{◌⊎◌, All, EachIndex, ◌≡◌, ℕ, ◌+◌, ◌*◌, ◌^◌, ◌<◌, ◌≤◌, length, slice_index_or, true, false, Some, None, MatchBool};
 ghost use Rattle.std.specs.Option.{MatchOption};
-ghost use Rattle.te_model.specs.declared.limits.TheConstants.{FORMAT_2};
 ghost use Rattle.te_model.specs.Network.{link_count, node_count};
 ghost use Rattle.shortest_path.specs.Graph.{IsNearestBelow, AreSettledDistances, IsRelaxed, AtMost, distance_at};
 ghost use Rattle.shortest_path.specs.Links.{HasSoundLinks};
@@ -38,7 +37,7 @@ fn nearest(distances: &[Option<u64>], done: &[bool]) -> Option<(usize, u64)>
 }
 
 /// Whether the distance is unknown or above `reach`.
-fn is_above(distance: Option<u64>, reach: u64) -> bool
+pub fn is_above(distance: Option<u64>, reach: u64) -> bool
     ensures { MatchBool result (AtMost distance reach → ⊥) (AtMost distance reach) }
 {
     match distance {
@@ -55,7 +54,7 @@ pub struct Arcs {
 }
 
 /// Lowers the distances of the open links' ends to those over a node at the distance `from`.
-fn relax(
+pub fn relax(
     net: &Network,
     direction: Direction,
     lengths: &[u64],
@@ -69,7 +68,7 @@ fn relax(
     requires lengths { length lengths.now ≡ link_count net.now }
     requires marks { length «open».now ≡ link_count net.now }
     requires limit { All (λ l. l ≤ 2 ^ 28) lengths.now }
-    requires near { from ≤ FORMAT_2.nodes * 2 ^ 28 }
+    requires near { from ≤ 2 ^ 50 }
     requires nodes { length distances.old ≡ node_count net.now }
     ensures { IsRelaxed (arcs_of net.now lengths.now «open».now direction row.now) from distances.old distances.new }
 {
@@ -87,7 +86,7 @@ fn relax(
 }
 
 /// Makes every distance unknown.
-fn forget(distances: &mut [Option<u64>])
+pub fn forget(distances: &mut [Option<u64>])
     ensures { EachIndex distances.new (λ v. distance_at distances.new v ≡ None) }
 {
     for distance in distances.iter_mut() {

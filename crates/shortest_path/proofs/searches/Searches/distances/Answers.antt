@@ -1,13 +1,13 @@
-use Rattle.std.proofs.Common.{◌≡◌, true, length, replicate, arith, ap, sym, ◌∙◌, subst, List, Bool}
+use Rattle.std.proofs.Common.{◌≡◌, true, length, replicate, arith, ap, sym, ◌∙◌, subst}
 use Rattle.std.proofs.lemmas.List.{length-map}
 use Rattle.shortest_path.specs.declared.rows.Direction.TheVariants.{Forward}
 use Rattle.shortest_path.specs.Graph.{AreSettledDistances}
 use Rattle.shortest_path.specs.Links.{every_link}
+use Rattle.shortest_path.specs.Passes.{IsRoom}
 use Rattle.shortest_path.specs.Rows.{IsSearchGraph, arcs_of, graph_of, AreArcRows}
 use Rattle.shortest_path.proofs.Building.{graph_of_rows}
 use Rattle.shortest_path.proofs.LeastSums.{all_open, distances_of_settled}
 use Rattle.shortest_path.proofs.Walks.{AllOpen}
-use Rattle.te_model.proofs.Lists.{written_whole}
 use Rattle.te_model.specs.Network.{link_count}
 use Rattle.shortest_path.proofs.searches.Searches.distances.Goals as goal
 
@@ -18,21 +18,21 @@ returns-clause-distances c =
     let marks = c.as_slice-open.result.now in
     let arcs = c.self.inside.arcs in
     let rows = arcs.rows.items in
-    let distances = c.settle.new.distances in
+    let distances = c.search.new.distances in
     let is : IsSearchGraph net Forward (record { direction = arcs.direction; rows = rows; links = length c.self.inside.every.items }) =
     subst (IsSearchGraph net Forward) (sym c.self.view_is) c.requires.along
     in
     let every : marks ≡ every_link net = c.as_slice-open.ensures.value ∙ (c.self.invariant.0 ∙ ap (λ n. replicate n true) is.links) in
     let open_all : AllOpen net marks = subst (AllOpen net) (sym every) (all_open net) in
     let settled : AreSettledDistances (graph_of net lengths marks Forward rows) c.args.src distances =
-    subst (λ d. AreSettledDistances (graph_of net lengths marks d rows) c.args.src distances) is.direction c.settle.ensures
+    subst (λ d. AreSettledDistances (graph_of net lengths marks d rows) c.args.src distances) is.direction c.search.ensures.distances
     in
     let size = length-map rows (arcs_of net lengths marks Forward) in
     distances_of_settled net lengths marks (graph_of net lengths marks Forward rows) c.args.src distances open_all
     (graph_of_rows net lengths marks Forward rows is.rows) settled (omega (arith, size, is.rows.count, c.requires.room))
 
-pub settle-requires-clause-rows : goal.settle-requires-clause-rows
-settle-requires-clause-rows c =
+pub search-requires-clause-rows : goal.search-requires-clause-rows
+search-requires-clause-rows c =
     let net = c.args.net.now in
     let arcs = c.self.inside.arcs in
     let is : IsSearchGraph net Forward (record { direction = arcs.direction; rows = arcs.rows.items; links = length c.self.inside.every.items }) =
@@ -40,11 +40,17 @@ settle-requires-clause-rows c =
     in
     subst (λ d. AreArcRows net d (link_count net) arcs.rows.items) (sym is.direction) is.rows
 
+pub search-requires-clause-order : goal.search-requires-clause-order
+search-requires-clause-order c =
+    let is = subst (IsSearchGraph c.args.net.now Forward) (sym c.self.view_is) c.requires.along in
+    c.self.invariant.1 ∙ is.rows.count
+
+pub search-requires-clause-room : goal.search-requires-clause-room
+search-requires-clause-room c =
+    let is = subst (IsSearchGraph c.args.net.now Forward) (sym c.self.view_is) c.requires.along in
+    subst (λ n. IsRoom n c.self.inside.room) is.rows.count c.self.invariant.2
+
 pub invariant_of-self : goal.invariant_of-self
 invariant_of-self c =
-    let old = c.self.inside.done in
-    let new = c.settle.new.done in
-    let kept : length new ≡ length old.items = c.settle.auto.done ∙ ap (λ (l : List Bool). length l) c.deref_mut.ensures.value in (
-      c.self.invariant.0,
-      ap (λ (l : List Bool). length l) (written_whole old.len new old.items kept old.ok.0) ∙ (kept ∙ c.self.invariant.1),
-    )
+    let is = subst (IsSearchGraph c.args.net.now Forward) (sym c.self.view_is) c.requires.along in
+    (c.self.invariant.0, c.search.ensures.order ∙ c.self.invariant.1, subst (λ n. IsRoom n c.search.new.room) (sym is.rows.count) c.search.ensures.room)
