@@ -20,7 +20,7 @@ mod sharing;
 pub use block::{best_block, scale};
 pub use capacity::{greatest_need, need, need_by};
 pub use law::best_blocks_exist;
-pub use metric::{Metric, metric_after, metric_of};
+pub use metric::{Metric, metric_after, metric_of, metric_with};
 pub use quotient::dearest_pair;
 pub use scaling::{Scale, scale_under};
 pub use sharing::{SharedLink, shared_link};

@@ -1,13 +1,16 @@
 //! Weights of the links, and the distances that they make.
 ghost use Rattle.std.specs.Prelude.{◌≡◌, ◌^◌, ◌<◌, ◌≤◌, All, IfOk, IsTrue, length, unwrap_or};
 ghost use Rattle.te_model.specs.Network.{is_well_formed, link_count, node_count};
+ghost use Rattle.shortest_path.specs.declared.rows.Direction.TheVariants.{Forward};
 ghost use Rattle.shortest_path.specs.Graph.{distance_at};
 ghost use Rattle.shortest_path.specs.Pairs.{AreValues};
+ghost use Rattle.shortest_path.specs.Rows.{IsSearchGraph};
 ghost use Rattle.best_blocks.specs.Metric.{distance_in, IsMetric};
 ghost use Rattle.best_blocks.specs.Rows.{distances_from, IsSameElsewhere};
 
-use crate::rows::{distance_at, rows_after, rows_under};
+use crate::rows::{distance_at, rows_after, rows_under, rows_with};
 use routing::Routing;
+use shortest_path::Searches;
 use std::alloc::Global;
 use te_model::{Items, Memory, Network};
 
@@ -85,6 +88,29 @@ pub fn metric_of(
     ensures weights { IfOk result (λ m. m.weights ≡ weights.items) }
 {
     let rows = rows_under(alloc, net, &weights, marks)?;
+    let metric = with_distances(alloc, routing, weights, rows)?;
+    Ok(metric)
+}
+
+/// What `metric_of` gives, for many weights one after the other. The searches are along links in the network.
+pub fn metric_with(
+    alloc: Global,
+    net: &Network,
+    routing: &Routing,
+    marks: &[bool],
+    searches: &mut Searches,
+    weights: Vec<u64>,
+) -> Result<Metric, Memory>
+    requires network { IsTrue (is_well_formed net.now) }
+    requires along { IsSearchGraph net.now Forward searches.old }
+    requires weights { length weights.items ≡ link_count net.now }
+    requires small { All (λ w. w ≤ 2 ^ 28) weights.items }
+    requires marks { length marks.now ≡ node_count net.now }
+    ensures metric { IfOk result (λ m. IsMetric net.now routing.now.routes marks.now m) }
+    ensures weights { IfOk result (λ m. m.weights ≡ weights.items) }
+    ensures same { searches.new ≡ searches.old }
+{
+    let rows = rows_with(alloc, net, searches, &weights, marks)?;
     let metric = with_distances(alloc, routing, weights, rows)?;
     Ok(metric)
 }

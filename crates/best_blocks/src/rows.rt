@@ -80,6 +80,30 @@ fn row_if_marked(
     }
 }
 
+/// The distances from the marked nodes. The searches are along links in the network.
+pub fn rows_with(
+    alloc: Global,
+    net: &Network,
+    searches: &mut Searches,
+    weights: &[u64],
+    marks: &[bool],
+) -> Result<Vec<Items<Option<u64>>>, Memory>
+    requires network { IsTrue (is_well_formed net.now) }
+    requires along { IsSearchGraph net.now Forward searches.old }
+    requires weights { length weights.now ≡ link_count net.now }
+    requires small { All (λ w. w ≤ 2 ^ 28) weights.now }
+    requires marks { length marks.now ≡ node_count net.now }
+    ensures rows { IfOk result (λ r. AreRowsFrom (node_count net.now) net.now weights.now marks.now r.items) }
+    ensures same { searches.new ≡ searches.old }
+{
+    let mut rows = Vec::with_capacity(alloc, marks.len())?;
+    for i in 0..marks.len() {
+        let row = row_if_marked(alloc, net, searches, weights, marks, i)?;
+        rows.push(Items::new(row))?;
+    }
+    Ok(rows)
+}
+
 /// The distances from the marked nodes.
 pub fn rows_under(
     alloc: Global,
@@ -94,11 +118,7 @@ pub fn rows_under(
     ensures { IfOk result (λ r. AreRowsFrom (node_count net.now) net.now weights.now marks.now r.items) }
 {
     let mut searches = Searches::new(alloc, net, Direction::Forward)?;
-    let mut rows = Vec::with_capacity(alloc, marks.len())?;
-    for i in 0..marks.len() {
-        let row = row_if_marked(alloc, net, &mut searches, weights, marks, i)?;
-        rows.push(Items::new(row))?;
-    }
+    let rows = rows_with(alloc, net, &mut searches, weights, marks)?;
     Ok(rows)
 }
 

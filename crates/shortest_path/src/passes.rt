@@ -1,5 +1,6 @@
 //! The distances of all nodes from one, by passes over the nodes in the order of the search before.
 ghost use Rattle.std.specs.Prelude.{◌≡◌, ℕ, ◌+◌, ◌^◌, ◌<◌, ◌≤◌, All, IfOk, IfSome, MatchBool, false, true, length};
+ghost use Rattle.te_model.specs.declared.limits.TheConstants.{FORMAT_2};
 ghost use Rattle.te_model.specs.Network.{link_count, node_count};
 ghost use Rattle.shortest_path.specs.Graph.{AreSettledDistances, NoFarther};
 ghost use Rattle.shortest_path.specs.Links.{HasSoundLinks};
@@ -49,9 +50,9 @@ fn pass(
     requires marks { length «open».now ≡ link_count net.now }
     requires limit { All (λ l. l ≤ 2 ^ 28) lengths.now }
     requires order { All (λ v. v < node_count net.now) order.now }
-    requires few { length order.now ≤ 128 }
+    requires few { length order.now ≤ FORMAT_2.nodes }
     requires part { IsPartSearch (graph_of net.now lengths.now «open».now arcs.now.direction arcs.now.rows.items) start (2 ^ 28) (2 ^ 20) distances.old scans.old }
-    ensures { (n : ℕ) → IsPartSearch (graph_of net.now lengths.now «open».now arcs.now.direction arcs.now.rows.items) start (2 ^ 28) n distances.old scans.old → IsPartSearch (graph_of net.now lengths.now «open».now arcs.now.direction arcs.now.rows.items) start (2 ^ 28) (n + 128) distances.new scans.new }
+    ensures { (n : ℕ) → IsPartSearch (graph_of net.now lengths.now «open».now arcs.now.direction arcs.now.rows.items) start (2 ^ 28) n distances.old scans.old → IsPartSearch (graph_of net.now lengths.now «open».now arcs.now.direction arcs.now.rows.items) start (2 ^ 28) (n + FORMAT_2.nodes) distances.new scans.new }
 {
     for node in order {
         let u = *node as usize;

@@ -8,6 +8,11 @@ use Rattle.te_model.proofs.Chains.{chains-append, chains_of_path}
 use Rattle.shortest_path.specs.Paths.{IsLeastPath}
 use Rattle.tree_embed.specs.TreePaths.{AreJoined}
 
+-- one node makes no walk
+pub join_start : (net : Network) (lengths chain walk : List ℕ) → walk ≡ [] → AreJoined net lengths (take 1 chain) walk
+join_start net lengths [] walk is = is
+join_start net lengths (u ∷ chain) walk is = is
+
 -- one neighbour more
 join_more : (net : Network) (lengths chain : List ℕ) (k : ℕ) (walk path : List ℕ) → suc k < length chain → AreJoined net lengths (take (suc k) chain) walk →
     IsLeastPath net lengths (slice_index chain k) (slice_index chain (suc k)) (Some path) → AreJoined net lengths (take (suc (suc k)) chain) (walk ++ path)

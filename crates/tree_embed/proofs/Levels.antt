@@ -1,10 +1,10 @@
 -- The levels that two nodes share, and the centers on the way up and down.
-use Rattle.std.proofs.Common.{inl, inr, ◌≡◌, ℕ, zero, suc, ◌+◌, ◌-◌, ◌≤◌, List, [], ◌∷◌, ◌++◌, reverse, arith, refl, ap, sym, ◌∙◌, subst}
+use Rattle.std.proofs.Common.{inl, inr, ◌≡◌, ℕ, ◌+◌, ◌-◌, ◌≤◌, List, [], ◌∷◌, ◌++◌, reverse, arith, ap, sym, ◌∙◌, subst}
 use Rattle.std.proofs.lemmas.Bool.{cases_eq}
 use Rattle.std.proofs.lemmas.List.{append_assoc, reverse-append}
 use Rattle.std.proofs.lemmas.List.FromFn.{map-range_with_len_more}
 use Rattle.tree_embed.specs.declared.centers.TheConstants.{TOP_LEVEL}
-use Rattle.tree_embed.specs.Chains.{IsLowestShared, Share, centers_between, centers_down, centers_up}
+use Rattle.tree_embed.specs.Chains.{IsLowestShared, Share, centers_down, centers_up}
 
 pub share_top : (center : ℕ → ℕ → ℕ) (v w : ℕ) → center TOP_LEVEL v ≡ center TOP_LEVEL w → Share center v w TOP_LEVEL
 share_top center v w agree l low high =

@@ -7,4 +7,5 @@ pub mod Ends
 pub mod Leading
 pub mod Only
 pub mod SumsExist
+pub mod LeastWays
 pub mod Existence

@@ -1,9 +1,9 @@
 -- The tables that a tree keeps.
-use Rattle.std.specs.Prelude.{◌≡◌, ℕ, ◌<◌, ◌≤◌, Bool, false, List, [], Option, Some, None, find, if◌then◌else◌, length, nat_le, nat_lt, slice_index, slice_index_or, unwrap_or}
+use Rattle.std.specs.Prelude.{◌≡◌, ℕ, ◌<◌, ◌≤◌, All, Bool, false, List, [], Option, Some, None, find, if◌then◌else◌, length, nat_le, nat_lt, slice_index, slice_index_or, unwrap_or}
 use Rattle.te_model.specs.declared.network.Network.{Network}
-use Rattle.te_model.specs.Network.{node_count}
+use Rattle.te_model.specs.Network.{link_count, node_count}
 use Rattle.shortest_path.specs.Graph.{distance_at}
-use Rattle.shortest_path.specs.Least.{AreLeastSums}
+use Rattle.shortest_path.specs.Least.{AreFirstLinks, AreLeastSums}
 use Rattle.shortest_path.specs.Links.{every_link}
 use Rattle.tree_embed.specs.declared.centers.TheConstants.{TOP_LEVEL}
 use Rattle.tree_embed.specs.Embedding.{Embedding, IsEmbedding}
@@ -21,6 +21,22 @@ sum_between sums s t = distance_at (sums_to sums t) s
 pub record AreSums (net : Network) (lengths : List ℕ) (sums : List (List (Option ℕ))) : Type 0 where
   pub count : length sums ≡ node_count net
   pub each : (t : ℕ) → t < node_count net → AreLeastSums net lengths (every_link net) t (sums_to sums t)
+
+-- the first links of the least paths to t
+abbrev pub firsts_to : List (List (Option ℕ)) → ℕ → List (Option ℕ)
+firsts_to firsts t = slice_index_or firsts t []
+
+-- for each node the first links of the least paths from all nodes to it, whose sums these are
+pub record AreFirsts (net : Network) (lengths : List ℕ) (sums firsts : List (List (Option ℕ))) : Type 0 where
+  pub count : length firsts ≡ node_count net
+  pub each : (t : ℕ) → t < node_count net → AreFirstLinks net lengths (every_link net) (sums_to sums t) (link_count net) (firsts_to firsts t)
+
+-- the sums and the first links of the least paths between all nodes, by lengths of at least 1
+pub record LeadBetween (net : Network) (lengths : List ℕ) (sums firsts : List (List (Option ℕ))) : Type 0 where
+  pub count : length lengths ≡ link_count net
+  pub positive : All (λ l. 1 ≤ l) lengths
+  pub sums_are : AreSums net lengths sums
+  pub firsts_are : AreFirsts net lengths sums firsts
 
 -- n rows of n entries
 pub record IsSquare {A : Type 0} (n : ℕ) (rows : List (List A)) : Type 0 where

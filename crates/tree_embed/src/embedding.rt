@@ -5,6 +5,7 @@ ghost use Rattle.tree_embed.specs.Embedding.{IsOrder};
 
 use crate::centers::{TOP_LEVEL, centers_of};
 use crate::chain::{center_in, chain_of};
+use crate::first_links::firsts_of;
 use crate::join::{join, least};
 use crate::sums::sums_of;
 use routing::cut_loops;
@@ -21,19 +22,21 @@ pub struct Tree {
     scale: u32,
     /// For each node the least sums of lengths from all nodes to it.
     sums: Items<Items<Option<u64>>>,
+    /// For each node the first links of the least paths from all nodes to it.
+    firsts: Items<Items<Option<u32>>>,
     /// For each level the centers of all nodes.
     centers: Items<Items<u32>>,
 }
 
 impl Model for Tree {
     ghost use Rattle.tree_embed.specs.Embedding.{Embedding};
-    ghost use Rattle.tree_embed.specs.Tables.{AreTables};
+    ghost use Rattle.tree_embed.specs.Tables.{AreFirsts, AreTables};
 
     ghost Value = { Embedding };
 
     ghost view = { λ t. record { network = t.network; lengths = t.lengths; order = t.order; scale = t.scale } };
 
-    ghost invariant = { λ t. AreTables (record { network = t.network; lengths = t.lengths; order = t.order; scale = t.scale }) t.sums t.centers };
+    ghost invariant = { λ t. AreTables (record { network = t.network; lengths = t.lengths; order = t.order; scale = t.scale }) t.sums t.centers × AreFirsts t.network t.lengths t.sums t.firsts };
 }
 
 /// The tree of the network with a length for each link, an order of the nodes, and a scale of 16 to 31
@@ -56,6 +59,7 @@ pub fn embed(
     ensures { IfOk result (λ t. t ≡ record { network = net.now; lengths = lengths.now; order = order.now; scale = scale }) }
 {
     let sums = sums_of(alloc, net, lengths)?;
+    let firsts = firsts_of(alloc, net, lengths, &sums)?;
     let centers = centers_of(alloc, &sums, order, scale)?;
     let network = copy_network(alloc, net)?;
     let lengths = Vec::from_slice(alloc, lengths)?;
@@ -66,6 +70,7 @@ pub fn embed(
         order: Items::new(order),
         scale,
         sums: Items::new(sums),
+        firsts: Items::new(firsts),
         centers: Items::new(centers),
     })
 }
@@ -120,16 +125,16 @@ impl Tree {
         ensures none { IfOk result (λ p. IfNone p (HasPath net.now src dst → ⊥)) }
     {
         let chain = chain_of(alloc, self.centers.as_slice(), src, dst)?;
-        let lengths = self.lengths.as_slice();
         let sums = self.sums.as_slice();
-        match join(alloc, net, lengths, sums, &chain)? {
+        let firsts = self.firsts.as_slice();
+        match join(alloc, net, sums, firsts, &chain)? {
             Some(walk) => {
                 let links = cut_loops(alloc, net, src, &walk)?;
                 Ok(Some(Path {
                     links: Items::new(links),
                 }))
             }
-            None => least(alloc, net, lengths, sums, src, dst),
+            None => least(alloc, net, sums, firsts, src, dst),
         }
     }
 }

@@ -8,6 +8,7 @@
 mod centers;
 mod chain;
 mod embedding;
+mod first_links;
 mod join;
 mod law;
 mod sums;

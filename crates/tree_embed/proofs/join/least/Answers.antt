@@ -1,22 +1,73 @@
-use Rattle.std.proofs.Common.{◌≡◌, ◌≤◌, true, replicate, arith, sym, subst, rules}
+use Rattle.std.proofs.Common.{◌≡◌, ◌≤◌, ℕ, [], Some, None, Vec, Global, arith, sym, ◌∙◌, subst}
+use Rattle.std.specs.Prelude.{MatchOption}
+use Rattle.std.proofs.lemmas.List.{get_or_read}
 use Rattle.std.proofs.lemmas.List.Elements.{All-get_or}
-use Rattle.te_model.specs.Network.{link_count}
-use Rattle.shortest_path.specs.Least.{links_of}
-use Rattle.shortest_path.proofs.Sound.{sound}
-use Rattle.shortest_path.proofs.Walks.{AllOpen}
+use Rattle.shortest_path.specs.Least.{IsLeastWalk}
+use Rattle.shortest_path.specs.Links.{every_link}
+use Rattle.shortest_path.specs.Paths.{IsLeastPath}
 use Rattle.shortest_path.proofs.LeastSums.{least_path_of_walk, all_open}
+use Rattle.tree_embed.specs.Tables.{firsts_to, sums_to}
+use Rattle.tree_embed.proofs.LeastWays.{leads_to}
 use Rattle.tree_embed.proofs.join.least.Goals as goal
 
-pub follow-requires-clause-sound : goal.follow-requires-clause-sound
-follow-requires-clause-sound c = sound c.args.net.now c.requires.network
+pub walk_along-requires-clause-sound : goal.walk_along-requires-clause-sound
+walk_along-requires-clause-sound c = c.requires.sound
 
-pub returns : goal.returns
-returns c =
+pub walk_along-requires-clause-leads : goal.walk_along-requires-clause-leads
+walk_along-requires-clause-leads c =
     let net = c.args.net.now in
-    let marks : c.deref.result.now ≡ replicate (link_count net) true = search rules in
-    let open_all : AllOpen net c.deref.result.now = subst (λ m. AllOpen net m) (sym marks) (all_open net) in
-    least_path_of_walk net c.args.lengths.now c.deref.result.now c.args.src c.args.dst (links_of c.in_ok-path.path) open_all
-    (λ h below. All-get_or (λ l. 1 ≤ l) c.args.lengths.now h 0 (omega arith) c.requires.positive) c.in_ok-path.ensures
+    let sums = c.args.sums.now in
+    let firsts = c.args.firsts.now in
+    let t = c.args.dst in
+    let lengths = c.requires.lead.0 in
+    let lead = c.requires.lead.1 in
+    let to : c.as_slice-to.result.now ≡ sums_to sums t =
+    c.as_slice-to.ensures ∙ get_or_read sums t c.index-sums-dst.result (omega (arith, lead.sums_are.count, c.requires.dst)) c.index-sums-dst.is []
+    in
+    let along : c.as_slice-along.result.now ≡ firsts_to firsts t =
+    c.as_slice-along.ensures ∙ get_or_read firsts t c.index-firsts-dst.result (omega (arith, lead.firsts_are.count, c.requires.dst)) c.index-firsts-dst.is []
+    in
+    (lengths, every_link net, leads_to net lengths sums firsts t c.as_slice-to.result.now c.as_slice-along.result.now lead c.requires.dst to along)
 
-pub follow-requires-clause-positive : goal.follow-requires-clause-positive
-follow-requires-clause-positive c = c.requires.positive
+pub returns-in-Some : goal.returns-in-Some
+returns-in-Some c = λ lengths lead.
+    let net = c.args.net.now in
+    let sums = c.args.sums.now in
+    let firsts = c.args.firsts.now in
+    let s = c.args.src in
+    let t = c.args.dst in
+    let to : c.as_slice-to.result.now ≡ sums_to sums t =
+    c.as_slice-to.ensures ∙ get_or_read sums t c.index-sums-dst.result (omega (arith, lead.sums_are.count, c.requires.dst)) c.index-sums-dst.is []
+    in
+    let along : c.as_slice-along.result.now ≡ firsts_to firsts t =
+    c.as_slice-along.ensures ∙ get_or_read firsts t c.index-firsts-dst.result (omega (arith, lead.firsts_are.count, c.requires.dst)) c.index-firsts-dst.is []
+    in
+    let leads = leads_to net lengths sums firsts t c.as_slice-to.result.now c.as_slice-along.result.now lead c.requires.dst to along in
+    let walk : IsLeastWalk net lengths (every_link net) s t (Some c.in-Some.walk.items) =
+    subst (λ o. MatchOption o (IsLeastWalk net lengths (every_link net) s t None) (λ (w : Vec ℕ Global). IsLeastWalk net lengths (every_link net) s t (Some w.items)))
+    c.in-Some.is (c.in_ok-walk.ensures lengths (every_link net) leads)
+    in
+    subst (λ l. IsLeastPath net lengths s t (Some l)) (sym c.new.ensures)
+    (least_path_of_walk net lengths (every_link net) s t (Some c.in-Some.walk.items) (all_open net)
+    (λ h below. All-get_or (λ l. 1 ≤ l) lengths h 0 (omega (arith, below, lead.count)) lead.positive) walk)
+
+pub returns-in-None : goal.returns-in-None
+returns-in-None c = λ lengths lead.
+    let net = c.args.net.now in
+    let sums = c.args.sums.now in
+    let firsts = c.args.firsts.now in
+    let s = c.args.src in
+    let t = c.args.dst in
+    let to : c.as_slice-to.result.now ≡ sums_to sums t =
+    c.as_slice-to.ensures ∙ get_or_read sums t c.index-sums-dst.result (omega (arith, lead.sums_are.count, c.requires.dst)) c.index-sums-dst.is []
+    in
+    let along : c.as_slice-along.result.now ≡ firsts_to firsts t =
+    c.as_slice-along.ensures ∙ get_or_read firsts t c.index-firsts-dst.result (omega (arith, lead.firsts_are.count, c.requires.dst)) c.index-firsts-dst.is []
+    in
+    let leads = leads_to net lengths sums firsts t c.as_slice-to.result.now c.as_slice-along.result.now lead c.requires.dst to along in
+    let walk : IsLeastWalk net lengths (every_link net) s t None =
+    subst (λ o. MatchOption o (IsLeastWalk net lengths (every_link net) s t None) (λ (w : Vec ℕ Global). IsLeastWalk net lengths (every_link net) s t (Some w.items)))
+    c.in-None.is (c.in_ok-walk.ensures lengths (every_link net) leads)
+    in
+    least_path_of_walk net lengths (every_link net) s t None (all_open net)
+    (λ h below. All-get_or (λ l. 1 ≤ l) lengths h 0 (omega (arith, below, lead.count)) lead.positive) walk

@@ -1,5 +1,6 @@
-use Rattle.std.proofs.Common.{length, arith, sym, subst, ◌∙◌}
-use Rattle.std.proofs.lemmas.List.{length-map}
+use Rattle.std.proofs.Common.{◌≡◌, length, arith, sym, subst, ◌∙◌, ◌<◌}
+use Rattle.std.proofs.lemmas.List.{length-map, length-set}
+use Rattle.std.proofs.lemmas.List.Elements.{All-set}
 use Rattle.shortest_path.specs.declared.rows.Direction.TheVariants.{Backward}
 use Rattle.shortest_path.specs.Graph.{AreSettledDistances}
 use Rattle.shortest_path.specs.Passes.{IsRoom}
@@ -39,14 +40,27 @@ search-requires-clause-rows c =
 pub search-requires-clause-order : goal.search-requires-clause-order
 search-requires-clause-order c =
     let is = subst (IsSearchGraph c.args.net.now Backward) (sym c.self.view_is) c.requires.against in
-    c.self.invariant.1 ∙ is.rows.count
+    let orders = c.self.inside.orders in
+    let order = c.index_mut-order.result.now in
+    let inside : c.min-place.result < length orders.items = omega (arith, c.min-place.ensures, c.len.ensures, orders.ok.0, c.self.invariant.1) in
+    c.index_mut-order.ensures.value ∙ (c.self.invariant.2 c.min-place.result order inside ∙ is.rows.count)
 
 pub search-requires-clause-room : goal.search-requires-clause-room
 search-requires-clause-room c =
     let is = subst (IsSearchGraph c.args.net.now Backward) (sym c.self.view_is) c.requires.against in
-    subst (λ n. IsRoom n c.self.inside.room) is.rows.count c.self.invariant.2
+    subst (λ n. IsRoom n c.self.inside.room) is.rows.count c.self.invariant.3
 
 pub invariant_of-self : goal.invariant_of-self
 invariant_of-self c =
     let is = subst (IsSearchGraph c.args.net.now Backward) (sym c.self.view_is) c.requires.against in
-    (c.self.invariant.0, c.search.ensures.order ∙ c.self.invariant.1, subst (λ n. IsRoom n c.search.new.room) (sym is.rows.count) c.search.ensures.room)
+    let orders = c.self.inside.orders in
+    let nodes = length c.self.inside.arcs.rows.items in
+    let place = c.min-place.result in
+    let new = c.search.new.order in
+    let inside : place < length orders.items = omega (arith, c.min-place.ensures, c.len.ensures, orders.ok.0, c.self.invariant.1) in
+    let same : new ≡ nodes = c.search.ensures.order ∙ (c.index_mut-order.ensures.value ∙ c.self.invariant.2 place c.index_mut-order.result.now inside) in (
+      c.self.invariant.0,
+      omega (arith, length-set orders.items place new, c.self.invariant.1),
+      All-set (λ o. o ≡ nodes) orders.items place new same c.self.invariant.2,
+      subst (λ n. IsRoom n c.search.new.room) (sym is.rows.count) c.search.ensures.room,
+    )
