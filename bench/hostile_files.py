@@ -13,7 +13,8 @@ from measured import run
 # What a file is: noise or false counts, a certificate that is refused for its numbers, one that is valid, another input file, or a plan.
 NOISE, REFUSED_HEAD, CERTIFICATE, INPUT, PLAN = range(5)
 MEGABYTE, STEPS = 1_000_000, 1000
-READING = [("check", "c"), ("check", "c", "t"), ("check-witness", "c", "w"), ("attack", "c"), ("update", "c", "c", "m"), ("convert", "c")]
+# The calls that read a certificate.
+READING = [tuple(words) for words in limits.CALLS["certificate"][1]]
 # A call, its status, and how often it is made.
 REFUSED = [(words, 3, 3) for words in READING]
 REFUSED_LATE = [(words, 3, 3 if words == ("check", "c") else 1) for words in READING]
