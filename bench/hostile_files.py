@@ -13,9 +13,11 @@ from measured import run
 # What a file is: noise or false counts, a certificate that is refused for its numbers, one that is valid, another input file, or a plan.
 NOISE, REFUSED_HEAD, CERTIFICATE, INPUT, PLAN = range(5)
 MEGABYTE, STEPS = 1_000_000, 1000
-READING = [("check", "c"), ("check", "c", "t"), ("check-witness", "c", "w"), ("attack", "c"), ("update", "c", "c", "m"), ("convert", "c")]
+# The calls that read a certificate.
+READING = [tuple(words) for words in limits.CALLS["certificate"][1]]
 # A call, its status, and how often it is made.
 REFUSED = [(words, 3, 3) for words in READING]
+REFUSED_LATE = [(words, 3, 3 if words == ("check", "c") else 1) for words in READING]
 
 
 class File(collections.namedtuple("File", "name kind form write calls")):
@@ -132,7 +134,7 @@ FILES = [
     File("sparse", NOISE, 2, sparse, REFUSED),
     *(File(f"false count of pairs, format {form}", NOISE, form, false_count(form), REFUSED) for form in (1, 2)),
     *(File(f"longest paths, format {form}", CERTIFICATE, form, longest(form, 0), valid_calls(1)) for form in (1, 2)),
-    *(File(f"longest paths of other nodes, format {form}", REFUSED_HEAD, form, longest(form, 1000), REFUSED) for form in (1, 2)),
+    *(File(f"longest paths of other nodes, format {form}", REFUSED_HEAD, form, longest(form, 1000), REFUSED_LATE) for form in (1, 2)),
     File("plan of numbers", PLAN, 0, plan_of("0"), [(RUN, 3, 3)]),
     File("plan of nested lists", PLAN, 0, plan_of("[" * 126 + "]" * 126), [(RUN, 3, 3)]),
     File("plan of objects", PLAN, 0, plan_of('{"":0}'), [(RUN, 3, 3)]),
