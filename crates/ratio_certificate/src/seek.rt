@@ -5,6 +5,8 @@ ghost use Rattle.te_model.specs.Network.{link_count};
 ghost use Rattle.centred_steps.specs.Loads.{AreLoadsWithin};
 ghost use Rattle.centred_steps.specs.Ways.{AreLastLinks};
 ghost use Rattle.centred_steps.specs.Weights.{AreWeightsUpTo};
+ghost use Rattle.shortest_path.specs.declared.rows.Direction.TheVariants.{Forward};
+ghost use Rattle.shortest_path.specs.Rows.{IsSearchGraph};
 ghost use Rattle.ratio_certificate.specs.Problems.{IsLinkOf, IsMetricOf, IsProblem, IsWeightingOf};
 ghost use Rattle.ratio_certificate.specs.Searching.{IsSearchOf};
 
@@ -12,8 +14,9 @@ use crate::problem::Problem;
 use crate::response::{Pricing, Ways, no_ways};
 use crate::rounds::first_metric;
 use crate::weighting::{Weighting, keep_lesser, weighting_of};
-use best_blocks::{Metric, Scale, SharedLink, metric_of};
+use best_blocks::{Metric, Scale, SharedLink, metric_with};
 use centred_steps::{has_load, step_weights};
+use shortest_path::{Direction, Searches};
 use std::alloc::Global;
 use te_model::Memory;
 
@@ -35,6 +38,8 @@ pub struct Search {
     pub metric: Metric,
     pub scale: Scale,
     pub best: Weighting,
+    /// Searches along links in the network.
+    pub searches: Searches,
 }
 
 /// A search at its start, where each weight is 2^20.
@@ -49,10 +54,12 @@ fn start(alloc: Global, problem: &Problem, shared: &SharedLink) -> Result<Search
         a: best.a,
         b: best.b,
     };
+    let searches = Searches::with_orders(alloc, problem.net, Direction::Forward)?;
     Ok(Search {
         metric,
         scale,
         best,
+        searches,
     })
 }
 
@@ -62,25 +69,29 @@ fn metric_after_step(
     problem: &Problem,
     shared: &SharedLink,
     metric: &Metric,
+    searches: &mut Searches,
     loads: &[u128],
     parts: u64,
 ) -> Result<Metric, Memory>
     requires problem { IsProblem problem.now }
     requires shared { IsLinkOf problem.now shared.now }
+    requires along { IsSearchGraph problem.now.net.now Forward searches.old }
     requires count { length metric.now.weights ≡ link_count problem.now.net.now }
     requires weights { AreWeightsUpTo (2 ^ 27) metric.now.weights }
     requires loads { AreLoadsWithin problem.now.net.now loads.now }
     requires parts { (1 ≤ parts) × (parts ≤ 128) }
     ensures metric { IfOk result (IsMetricOf problem.now shared.now) }
     ensures weights { IfOk result (λ m. AreWeightsUpTo (2 ^ 27) m.weights) }
+    ensures same { searches.new ≡ searches.old }
 {
     let mut weights = Vec::from_slice(alloc, metric.weights.as_slice())?;
     step_weights(problem.net, &mut weights, loads, parts);
-    metric_of(
+    metric_with(
         alloc,
         problem.net,
         problem.routing,
         shared.marks.as_slice(),
+        searches,
         weights,
     )
 }
@@ -102,7 +113,8 @@ fn advance(
     ensures { OnOk result (IsSearchOf problem.now shared.now search.new) }
 {
     let old = &search.metric;
-    let metric = metric_after_step(alloc, problem, shared, old, loads, parts)?;
+    let searches = &mut search.searches;
+    let metric = metric_after_step(alloc, problem, shared, old, searches, loads, parts)?;
     let found = weighting_of(alloc, problem, shared, &metric)?;
     search.metric = metric;
     search.scale = Scale {

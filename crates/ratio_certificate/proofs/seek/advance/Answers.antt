@@ -1,4 +1,6 @@
-use Rattle.std.proofs.Common.{◌≡◌}
+use Rattle.std.proofs.Common.{◌≡◌, sym, subst}
+use Rattle.shortest_path.specs.declared.rows.Direction.TheVariants.{Forward}
+use Rattle.shortest_path.specs.Rows.{IsSearchGraph}
 use Rattle.ratio_certificate.specs.Weighting.{IsWeighting}
 use Rattle.ratio_certificate.proofs.RoundMetrics.{lesser_is}
 use Rattle.ratio_certificate.proofs.Seeking.{small_scale, movable_weights}
@@ -24,4 +26,5 @@ returns c =
       scale = small_scale net routes set found c.requires.problem.network c.requires.problem.routing c.in_ok-found.ensures.weighting;
       link = lesser_is (λ w. w.link ≡ c.args.shared.now.link) best found lesser keeps takes c.requires.search.link c.in_ok-found.ensures.link;
       best = lesser_is (IsWeighting net routes set) best found lesser keeps takes c.requires.search.best c.in_ok-found.ensures.weighting;
+      along = subst (IsSearchGraph net Forward) (sym c.in_ok-metric.ensures.same) c.requires.search.along;
     }

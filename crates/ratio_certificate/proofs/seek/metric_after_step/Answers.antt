@@ -12,8 +12,8 @@ pub step_weights-requires-clause-weights : goal.step_weights-requires-clause-wei
 step_weights-requires-clause-weights c =
     subst (AreWeightsUpTo (2 ^ 27)) (sym (c.deref_mut.ensures.value ∙ c.in_ok-weights.ensures.items ∙ c.as_slice.ensures)) c.requires.weights
 
-pub metric_of-requires-clause-small : goal.metric_of-requires-clause-small
-metric_of-requires-clause-small c =
+pub metric_with-requires-clause-small : goal.metric_with-requires-clause-small
+metric_with-requires-clause-small c =
     let old = c.in_ok-weights.weights.items in
     let kept : length c.step_weights.new.weights ≡ length old = c.step_weights.auto.weights ∙ ap (λ (l : List ℕ). length l) c.deref_mut.ensures.value in
     rw (written_whole c.in_ok-weights.weights.len c.step_weights.new.weights old kept c.in_ok-weights.weights.ok.0) (weights_small c.step_weights.new.weights c.step_weights.ensures.weights)
@@ -21,7 +21,7 @@ metric_of-requires-clause-small c =
 pub returns-clause-metric : goal.returns-clause-metric
 returns-clause-metric c =
     let problem = c.args.problem.now in
-    subst (λ (marks : List Bool). IfOk c.metric_of.result (IsMetric problem.net.now problem.routing.now.routes marks)) c.as_slice-2.ensures c.metric_of.ensures.metric
+    subst (λ (marks : List Bool). IfOk c.metric_with.result (IsMetric problem.net.now problem.routing.now.routes marks)) c.as_slice-2.ensures c.metric_with.ensures.metric
 
 pub returns-clause-weights : goal.returns-clause-weights
 returns-clause-weights c =
@@ -29,6 +29,6 @@ returns-clause-weights c =
     let old = c.in_ok-weights.weights.items in
     let kept : length new ≡ length old = c.step_weights.auto.weights ∙ ap (λ (l : List ℕ). length l) c.deref_mut.ensures.value in
     let whole = written_whole c.in_ok-weights.weights.len new old kept c.in_ok-weights.weights.ok.0 in
-    IfOk-weaker c.metric_of.result (λ (m : Metric). m.weights ≡ new) (λ (m : Metric). AreWeightsUpTo (2 ^ 27) m.weights)
+    IfOk-weaker c.metric_with.result (λ (m : Metric). m.weights ≡ new) (λ (m : Metric). AreWeightsUpTo (2 ^ 27) m.weights)
     (λ m is. subst (AreWeightsUpTo (2 ^ 27)) (sym is) c.step_weights.ensures.weights)
-    (subst (λ (ws : List ℕ). IfOk c.metric_of.result (λ (m : Metric). m.weights ≡ ws)) whole c.metric_of.ensures.weights)
+    (subst (λ (ws : List ℕ). IfOk c.metric_with.result (λ (m : Metric). m.weights ≡ ws)) whole c.metric_with.ensures.weights)
