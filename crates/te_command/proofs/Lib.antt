@@ -14,6 +14,7 @@ pub mod Attacking
 pub mod Updating
 pub mod UpdatedAlike
 pub mod HeadCounts
+pub mod RateFiles
 pub mod CheckingRates
 pub mod Protecting
 pub mod ProtectedAlike

@@ -28,4 +28,4 @@ check_rates_text-requires-clause-demands c =
     (first_demands (node_count c.args.head.now.network) series c.requires.series)
 
 pub answer_of-requires : goal.answer_of-requires
-answer_of-requires c = rates_small _ _ _ _ _ _ c.in_ok-check_rates_text.ensures
+answer_of-requires c = rates_small c.args.head.now _ _ c.args.plan.now _ _ c.in_ok-status.ensures

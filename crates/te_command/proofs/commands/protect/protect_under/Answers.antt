@@ -28,4 +28,4 @@ protect_text-requires-clause-demands c =
     (first_demands (node_count c.args.head.now.network) series c.requires.series)
 
 pub answer_of-requires : goal.answer_of-requires
-answer_of-requires c = protection_small _ _ _ _ _ _ c.in_ok-protect_text.ensures
+answer_of-requires c = protection_small c.args.head.now _ _ _ _ _ c.in_ok-status.ensures
