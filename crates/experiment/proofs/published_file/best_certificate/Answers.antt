@@ -25,8 +25,7 @@ loop-count-preserved c =
     let so_far = c.loop-count.invariant in
     let made : IsMadeByPlan (with_seed plan (later_seed plan count)) net series next =
     subst (λ seed. IsMadeByPlan (with_seed plan seed) net series next) c.later_seed-seed.ensures c.in_ok-next.ensures.made
-    in
-    (
+    in (
       so_far.0 ++ next ∷ [],
       made_more plan net series count so_far.0 next so_far.1 made,
       lesser_is_best so_far.0 best next c.keep_lesser.new.best so_far.2 c.keep_lesser.ensures.same c.keep_lesser.ensures.lesser,
