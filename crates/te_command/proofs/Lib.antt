@@ -18,6 +18,9 @@ pub mod RateFiles
 pub mod CheckingRates
 pub mod Protecting
 pub mod ProtectedAlike
+pub mod CheckingHoses
+pub mod BoundingHoses
+pub mod HosesAlike
 pub mod Publishing
 pub mod Reporting
 pub mod Drawing

@@ -1,0 +1,63 @@
+-- What `hose` answers: the file of a hose certificate, by whose bound the routing is bounded.
+use Rattle.std.proofs.Common.{◌≡◌, ◌≤◌, ◌<◌, ℕ, List, Ok, None, length, inl, inr, refl, sym, ap, ◌∙◌, arith}
+use Rattle.std.specs.Prelude.{IsTrue}
+use Rattle.te_model.specs.declared.certificate.Head.{Head}
+use Rattle.te_model.specs.Network.{node_count}
+use Rattle.te_model.specs.Validity.{IsValidHead}
+use Rattle.hose_bound.specs.declared.hose.Hose.{Hose}
+use Rattle.hose_bound.specs.Answers.{IsHoseText}
+use Rattle.hose_bound.specs.Files.{hose_cert_text}
+use Rattle.hose_bound.specs.Reading.{MeansHose}
+use Rattle.hose_bound.specs.Rules.{IsValidHose}
+use Rattle.hose_bound.proofs.Made.{hose_certs_exist, made_is_bounded}
+use Rattle.hose_bound.proofs.Meaning.{hoses_have_one_meaning, meant_is_valid}
+use Rattle.hose_bound.proofs.ShortTexts.{hose_texts_are_short}
+use Rattle.update_plan.proofs.ValidHeads.{valid_routing}
+use Rattle.witness_search.proofs.Heads.{head_formed, head_pairs}
+use Rattle.command_frame.specs.Sound.{HasText, IsSound}
+use Rattle.command_frame.specs.Table.{IsSoundEntry}
+use Rattle.te_command.specs.BoundHose.{bound_hose_entry, bounding_of, IsTextOfCert}
+use Rattle.te_command.specs.HoseFile.{hose_reason}
+use Rattle.te_command.proofs.Regular.{certificates_regular, meant_regular}
+use Rattle.te_command.proofs.Streaming.{spelled_head}
+
+hose_form : (h : Head) (hose : Hose) (text : List ℕ) → IsValidHead h → IsHoseText h.network h.routes hose text → IsTextOfCert text
+hose_form h hose text valid is =
+    let few = hose_texts_are_short h.network is.cert (head_formed h valid) is.made.valid in
+    let same = ap (λ (t : List ℕ). length t) is.text_is in
+    record { cert = is.cert; text_is = is.text_is; short = omega (arith, few, same) }
+
+hose_text_sound : (h : Head) (hose : Hose) → IsValidHead h → IsSound (λ s text. (s ≡ 0) × IsTextOfCert text) (bounding_of h hose)
+hose_text_sound h hose valid = record {
+  once = λ s t p q. p ∙ sym q;
+  some = (0, refl);
+  of_text = λ s text is. is.0;
+  proves = λ text is. is.1;
+  form = λ s text is. (is.0, hose_form h hose text valid is.1);
+  accepted = λ text is. omega (arith, is.0);
+}
+
+hose_text_of : (h : Head) (hose : Hose) → IsValidHead h → IsValidHose (node_count h.network) hose → HasText (bounding_of h hose)
+hose_text_of h hose valid kept =
+    let made = hose_certs_exist h.network h.routes hose (head_formed h valid) (valid_routing h valid) (head_pairs h valid) kept in (
+      0,
+      hose_cert_text made.0,
+      (
+        refl,
+        record {
+          cert = made.0;
+          made = made.1;
+          bounded = made_is_bounded h.network h.routes hose made.0 (head_pairs h valid) made.1;
+          text_is = refl;
+        },
+      ),
+    )
+
+pub bound_hose_is_sound : (certificate bounds : List ℕ) → IsSoundEntry (bound_hose_entry certificate bounds)
+bound_hose_is_sound certificate bounds = record {
+  regular = (certificates_regular, λ c. (meant_regular hose_reason (MeansHose c.head.network) (hoses_have_one_meaning c.head.network), λ hose. tt));
+  sound = λ bytes c spells lines hose means. hose_text_sound c.head hose (spelled_head bytes c spells);
+  one_text = λ is. absurd is;
+  some_text = λ is bytes c spells lines hose means.
+      hose_text_of c.head hose (spelled_head bytes c spells) (meant_is_valid c.head.network lines hose means);
+}
