@@ -7,8 +7,8 @@ use Rattle.hose_bound.specs.declared.verdict.HoseVerdict.{HoseVerdict}
 use Rattle.hose_bound.specs.declared.verdict.HoseVerdict.TheVariants.{Yes, No}
 use Rattle.hose_bound.specs.Answers.{IsBoundedBy, IsHoseVerdict, hose_verdict, verdict_line, verdict_status}
 use Rattle.hose_bound.specs.Reading.{MeansHoseCert}
+use Rattle.hose_bound.proofs.Answered.{answered_bound}
 use Rattle.hose_bound.proofs.Meaning.{hose_certs_have_one_meaning}
-use Rattle.hose_bound.proofs.Verdicts.{yes_is_bounded}
 use Rattle.witness_search.proofs.Heads.{head_pairs}
 use Rattle.command_frame.specs.Sound.{IsSound}
 use Rattle.command_frame.specs.Table.{IsSoundEntry}
@@ -20,10 +20,6 @@ use Rattle.te_command.proofs.Streaming.{spelled_head}
 status_small : (v : HoseVerdict) → verdict_status v ≤ 1
 status_small Yes = omega arith
 status_small (No link rule place) = omega arith
-
-yes_at_zero : (v : HoseVerdict) → 0 ≡ verdict_status v → v ≡ Yes
-yes_at_zero Yes e = refl
-yes_at_zero (No link rule place) e = absurd (omega (arith, e))
 
 pub hose_small : (h : Head) (c : HoseCert) (s : ℕ) (text : List ℕ) → IsHoseVerdict h c s text → s ≤ 1
 hose_small h c s text is = let small = status_small (hose_verdict h.network h.routes c) in let same = is.0 in omega (arith, small, same)
@@ -37,7 +33,7 @@ hose_some h c = let v = hose_verdict h.network h.routes c in (verdict_status v, 
 -- a yes is a proof
 hose_proves : (h : Head) (c : HoseCert) (text : List ℕ) → IsValidHead h → IsHoseVerdict h c 0 text → IsBoundedBy h.network h.routes c
 hose_proves h c text valid is =
-    yes_is_bounded h.network h.routes c (head_pairs h valid) (yes_at_zero (hose_verdict h.network h.routes c) is.0)
+    answered_bound h.network h.routes c (hose_verdict h.network h.routes c) (head_pairs h valid) refl (sym is.0)
 
 hose_sound : (h : Head) (c : HoseCert) → IsValidHead h → IsSound (λ s text. s ≤ 1) (hose_verdict_on h c)
 hose_sound h c valid = record {

@@ -12,7 +12,7 @@ use Rattle.hose_bound.specs.declared.verdict.HoseVerdict.TheVariants.{Yes}
 use Rattle.hose_bound.specs.Answers.{IsHoseText, IsHoseVerdict, verdict_line, verdict_status}
 use Rattle.hose_bound.specs.Files.{hose_cert_text}
 use Rattle.hose_bound.specs.Reading.{MeansHoseCert}
-use Rattle.hose_bound.proofs.Made.{made_certs_are_yes}
+use Rattle.hose_bound.proofs.Answered.{made_certs_are_yes}
 use Rattle.hose_bound.proofs.ShortTexts.{hose_texts_are_short}
 use Rattle.witness_search.proofs.Heads.{head_formed}
 use Rattle.command_frame.specs.Files.{told_files, told_passes}

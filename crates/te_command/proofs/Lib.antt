@@ -14,7 +14,7 @@ pub mod Attacking
 pub mod Updating
 pub mod UpdatedAlike
 pub mod HeadCounts
-pub mod RateFiles
+pub mod MeantFiles
 pub mod CheckingRates
 pub mod Protecting
 pub mod ProtectedAlike
