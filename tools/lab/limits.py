@@ -16,12 +16,18 @@ DEMANDS, OUTAGES = "step,source,target,demand\n", "from,to,link\n"
 # Rates for any demand, and the calls that read the demands of a certificate.
 RATES = "yates-rates 1\nfailures 1\n0 0\nend\n"
 PROTECTED = [["protect", "c", "m", "1"], ["check-rates", "c", "m", "r"]]
+# A hose of two nodes that send nothing, a hose certificate of it, and their calls.
+BOUNDS = "yates-bounds 1\nsent 0 0\nreceived 0 0\nend\n"
+HOSE = "yates-hose 1\nsent 0 0\nreceived 0 0\nbound 0\nblocks 0\nend\n"
+HOSES = [["hose", "c", "b"], ["check-hose", "c", "h"]]
 # The files of a call, of which one is exchanged; and by the kind of this one its name, and the words of the calls that read it.
-GOOD = {"c": SMALLEST, "w": OF_SMALLEST, "t": HEADER + ROW, "m": DEMAND, "r": RATES, "f": OUTAGES + "0,0,0\n", "p": PLAN}
+GOOD = {"c": SMALLEST, "w": OF_SMALLEST, "t": HEADER + ROW, "m": DEMAND, "r": RATES, "b": BOUNDS, "h": HOSE, "f": OUTAGES + "0,0,0\n", "p": PLAN}
 CALLS = {
-    "certificate": ("c", [["check", "c"], ["check", "c", "t"], ["check-witness", "c", "w"], ["attack", "c"], ["update", "c", "c", "m"], *PROTECTED, ["convert", "c"]]),
+    "certificate": ("c", [["check", "c"], ["check", "c", "t"], ["check-witness", "c", "w"], ["attack", "c"], ["update", "c", "c", "m"], *PROTECTED, *HOSES, ["convert", "c"]]),
     "witness": ("w", [["check-witness", "c", "w"]]),
     "rates": ("r", [["check-rates", "c", "m", "r"]]),
+    "bounds": ("b", [["hose", "c", "b"]]),
+    "hose certificate": ("h", [["check-hose", "c", "h"]]),
     "topology": ("t", [["check", "c", "t"], ["publish", "p"], ["run", "p"]]),
     "matrices": ("m", [["publish", "p"], ["run", "p"], ["update", "c", "c", "m"], *PROTECTED]),
     "failures": ("f", [["run", "p"]]),
@@ -81,6 +87,14 @@ def witnesses():
     yield "numbers of one line", "witness", filled_file(OF_SMALLEST.partition(" 1000000\n1\n")[0], b" 1", INPUT), "shape at line 4"
 
 
+def hoses():
+    for kind, text, lines in (("bounds", BOUNDS, 4), ("hose certificate", HOSE, 6)):
+        below = text.partition("\n")[0] + "\n"
+        for what, head, unit, line in (("zeros", "", b"\0", 1), ("zeros below the first line", below, b"\0", 2), ("line feeds after the end", text, b"\n", lines + 1)):
+            yield from at_limit(what, kind, head, unit, INPUT, f"shape at line {line}")
+        yield "numbers of one line", kind, filled_file(text.partition("\nreceived")[0], b" 0", INPUT), "shape at line 2"
+
+
 def rates():
     below = "yates-rates 1\n"
     for what, head, unit, line in (("zeros", "", b"\0", 1), ("zeros below the first line", below, b"\0", 2), ("line feeds after the end", RATES, b"\n", 5)):
@@ -89,7 +103,7 @@ def rates():
 
 
 def inputs():
-    for kind, (name, _) in list(CALLS.items())[3:]:
+    for kind, (name, _) in list(CALLS.items())[5:]:
         yield from at_limit("blanks" if kind == "plan" else "line feeds", kind, GOOD[name], b" " if kind == "plan" else b"\n", INPUT, None)
     for what, unit in (("commas", b","), ("quotes", b'"'), ("line feeds", b"\n"), ("bytes of 255", b"\xff")):
         for kind, header in (("topology", HEADER), ("matrices", DEMANDS), ("failures", OUTAGES)):
@@ -108,7 +122,7 @@ def nested_plans():
 
 def spellings():
     """Each kind of file with CRLF, with a byte order mark, and in UTF-16."""
-    reasons = {"certificate": ["shape at line 1"] * 3, "witness": ["shape at line 1"] * 3, "rates": ["shape at line 1"] * 3, "plan": [None, "not json", "not json"]}
+    reasons = {"certificate": ["shape at line 1"] * 3, "witness": ["shape at line 1"] * 3, "rates": ["shape at line 1"] * 3, "bounds": ["shape at line 1"] * 3, "hose certificate": ["shape at line 1"] * 3, "plan": [None, "not json", "not json"]}
     for kind, (name, _) in CALLS.items():
         text = GOOD[name].replace(",", ",\n") if kind == "plan" else GOOD[name]
         spelled = (("CRLF", text.replace("\n", "\r\n").encode()), ("a byte order mark", b"\xef\xbb\xbf" + text.encode()), ("UTF-16", text.encode("utf-16")))
@@ -118,7 +132,7 @@ def spellings():
 
 def rows():
     """All rows, those of small files first."""
-    return [*spellings(), *nested_plans(), *inputs(), *rates(), *witnesses(), *certificates()]
+    return [*spellings(), *nested_plans(), *inputs(), *rates(), *hoses(), *witnesses(), *certificates()]
 
 
 def small_files(kind, file, reason):

@@ -55,6 +55,18 @@ pub const CHECK_RATES: Command<'static> = Command {
     publishes: false,
 };
 
+pub const BOUND_HOSE: Command<'static> = Command {
+    words: &["hose", "c", "b"],
+    names: &["c", "b"],
+    publishes: false,
+};
+
+pub const CHECK_HOSE: Command<'static> = Command {
+    words: &["check-hose", "c", "h"],
+    names: &["c", "h"],
+    publishes: false,
+};
+
 pub const PUBLISH: Command<'static> = Command {
     words: &["publish", "p"],
     names: &["p", "t", "m"],

@@ -1,12 +1,13 @@
 //! A few calls of each command over files that are told, that are on record, and that come byte by byte. The tables of all
 //! calls are data, `tools/lab/calls.py`, on which the built program is run.
 use crate::call::{
-    CHECK, CHECK_RATES, CHECK_WITNESS, Command, PROTECT, PUBLISH, RUN, Row, UPDATE, all_say,
+    BOUND_HOSE, CHECK, CHECK_HOSE, CHECK_RATES, CHECK_WITNESS, Command, PROTECT, PUBLISH, RUN, Row,
+    UPDATE, all_say,
 };
 use crate::texts::{
-    DEMAND, ENVELOPE, FAILURE, LEADING_ZERO, LINE, LINK, NO_DEMANDS, PLAN, RATES, SMALL_BOX,
-    SMALLEST, SMALLEST_IN_SECOND, SMALLEST_WITH_LESS, SPF, TWELVE, TWICE_A_NAME, UNENDED_WITNESS,
-    WAYS, WITNESS, WITNESS_OF_MORE, WITNESS_OVER_ZERO,
+    BOUNDS, DEMAND, ENVELOPE, FAILURE, HOSE, LEADING_ZERO, LINE, LINK, NO_DEMANDS, PLAN, RATES,
+    SMALL_BOX, SMALLEST, SMALLEST_IN_SECOND, SMALLEST_WITH_LESS, SPF, TWELVE, TWICE_A_NAME,
+    UNENDED_WITNESS, WAYS, WITNESS, WITNESS_OF_MORE, WITNESS_OVER_ZERO,
 };
 use std::test::Fail;
 
@@ -279,6 +280,70 @@ const RATED: &[(Command<'static>, Row<'static>)] = &[
 #[test]
 fn rates_are_judged(rt: HostRuntime) -> Result<(), Fail> {
     all_say(&rt, rt.alloc(), RATED)
+}
+
+/// The bound of the hose certificate is too low.
+const HOSE_OF_LESS: &[&str] = &[
+    "yates-hose 1\nsent 40 0\nreceived 0 10\nbound 999999\n",
+    "blocks 1\nlink 0\ntails 0 0\nheads 0 1000000\nend\n",
+];
+
+/// A number of it is above a million.
+const HOSE_OF_MORE: &[&str] = &[
+    "yates-hose 1\nsent 40 0\nreceived 0 10\nbound 1000000\n",
+    "blocks 1\nlink 0\ntails 0 0\nheads 0 1000001\nend\n",
+];
+
+/// Hoses. The inequalities of the certificate are not tried.
+const HOSES: &[(Command<'static>, Row<'static>)] = &[
+    (BOUND_HOSE, (&[SMALLEST_WITH_LESS, &[BOUNDS]], 2, 0, HOSE)),
+    (
+        BOUND_HOSE,
+        (
+            &[&[SMALLEST], &[HOSE]],
+            2,
+            3,
+            "refused: b: shape at line 1\n",
+        ),
+    ),
+    (BOUND_HOSE, (&[&[SMALLEST]], 1, 4, "fault: read\n")),
+    (
+        CHECK_HOSE,
+        (
+            &[&[SMALLEST_IN_SECOND], &[HOSE]],
+            2,
+            0,
+            "yes bound 1000000\n",
+        ),
+    ),
+    (
+        CHECK_HOSE,
+        (
+            &[&[SMALLEST], HOSE_OF_LESS],
+            2,
+            1,
+            "no link 0 rule H2 place 0\n",
+        ),
+    ),
+    (
+        CHECK_HOSE,
+        (
+            &[&[SMALLEST], HOSE_OF_MORE],
+            2,
+            3,
+            "refused: h: rule K4 at 0\n",
+        ),
+    ),
+    // A certificate that is refused needs no other file.
+    (
+        CHECK_HOSE,
+        (&[TWICE_A_NAME], 1, 3, "refused: c: rule V1 at 1\n"),
+    ),
+];
+
+#[test]
+fn hoses_are_bounded(rt: HostRuntime) -> Result<(), Fail> {
+    all_say(&rt, rt.alloc(), HOSES)
 }
 
 /// Plans.

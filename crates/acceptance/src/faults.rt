@@ -1,9 +1,11 @@
 //! Reads and writes that fail, in each command.
 use crate::call::{
-    CHECK, CHECK_RATES, CHECK_WITNESS, Call, Command, PROTECT, PUBLISH, RUN, SECOND_READ_FAILS,
-    UPDATE, all_leave, leaves,
+    BOUND_HOSE, CHECK, CHECK_HOSE, CHECK_RATES, CHECK_WITNESS, Call, Command, PROTECT, PUBLISH,
+    RUN, SECOND_READ_FAILS, UPDATE, all_leave, leaves,
 };
-use crate::texts::{DEMAND, FAILURE, LINE, PLAN, RATES, SMALLEST, SPF, TWELVE, WAYS, WITNESS};
+use crate::texts::{
+    BOUNDS, DEMAND, FAILURE, HOSE, LINE, PLAN, RATES, SMALLEST, SPF, TWELVE, WAYS, WITNESS,
+};
 use std::test::Fail;
 
 const YES: &str = "yes ratio 1000000 set all\n";
@@ -227,6 +229,56 @@ const FAULTS_OF_CHECK_RATES: &[Call<'static>] = &[
 #[test]
 fn faults_of_check_rates_are_told(rt: HostRuntime) -> Result<(), Fail> {
     all_leave(&rt, rt.alloc(), FAULTS_OF_CHECK_RATES)
+}
+
+/// The last read of the certificate fails, which would find its end. It has three, and each file beside it two.
+const HOSE_UNREAD: Call<'static> = Call {
+    command: BOUND_HOSE,
+    files: &[&[SMALLEST], &[BOUNDS]],
+    failing_fetch: Some(2),
+    ..JUDGED_UNREAD
+};
+
+const FAULTS_OF_HOSES: &[Call<'static>] = &[
+    HOSE_UNREAD,
+    Call {
+        failing_fetch: Some(4),
+        read: 1,
+        ..HOSE_UNREAD
+    },
+    // The hose certificate is written in part, and so is the line of the yes to it.
+    Call {
+        failing_fetch: None,
+        failing_put: Some(4),
+        read: 2,
+        status: 5,
+        out: "yates-hose 1\nsen",
+        err: "fault: write\n",
+        ..HOSE_UNREAD
+    },
+    Call {
+        command: CHECK_HOSE,
+        files: &[&[SMALLEST], &[HOSE]],
+        failing_fetch: None,
+        failing_put: Some(2),
+        read: 2,
+        status: 5,
+        out: "yes boun",
+        err: "fault: write\n",
+        ..HOSE_UNREAD
+    },
+    Call {
+        command: CHECK_HOSE,
+        files: &[&[SMALLEST], &[HOSE]],
+        failing_fetch: Some(4),
+        read: 1,
+        ..HOSE_UNREAD
+    },
+];
+
+#[test]
+fn faults_of_hoses_are_told(rt: HostRuntime) -> Result<(), Fail> {
+    all_leave(&rt, rt.alloc(), FAULTS_OF_HOSES)
 }
 
 /// The first read fails that would find the end of a file, the plan's. Each file has two reads.

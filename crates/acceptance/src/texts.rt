@@ -70,6 +70,12 @@ pub const NO_DEMANDS: &str = "step,source,target,demand\n";
 /// The rates of the smallest certificate for this demand, where no link fails.
 pub const RATES: &str = "yates-rates 1\nfailures 0\n1 1\nend\n";
 
+/// A hose of two nodes, and its certificate for the smallest certificate's routing, which fills its link.
+pub const BOUNDS: &str = "yates-bounds 1\nsent 40 0\nreceived 0 10\nend\n";
+
+pub const HOSE: &str =
+    "yates-hose 1\nsent 40 0\nreceived 0 10\nbound 1000000\nblocks 1\nlink 0\ntails 0 0\nheads 0 1000000\nend\n";
+
 /// A plan of what is published, and the same for the envelope of the steps.
 pub const SPF: &str = "{\"topology\":\"t\",\"matrices\":\"m\",\"publish\":\"spf\"}";
 

@@ -14,10 +14,13 @@ pub mod Attacking
 pub mod Updating
 pub mod UpdatedAlike
 pub mod HeadCounts
-pub mod RateFiles
+pub mod MeantFiles
 pub mod CheckingRates
 pub mod Protecting
 pub mod ProtectedAlike
+pub mod CheckingHoses
+pub mod BoundingHoses
+pub mod HosesAlike
 pub mod Publishing
 pub mod Reporting
 pub mod Drawing

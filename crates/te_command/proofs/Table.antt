@@ -7,9 +7,11 @@ use Rattle.command_frame.specs.Table.{OfWords, IsSoundEntry, IsSoundTable}
 use Rattle.te_command.specs.DecimalNumber.{decimal_number}
 use Rattle.te_command.specs.Generate.{drawn_of, nodes_and_seed}
 use Rattle.te_command.specs.Protect.{failures_of, few_failures}
-use Rattle.te_command.specs.Commands.{Command, attack, check, check_network, check_rates, check_witness, convert, protect, publish, run, generate, update, command_of, entry_of, commands}
+use Rattle.te_command.specs.Commands.{Command, attack, bound_hose, check, check_hose, check_network, check_rates, check_witness, convert, protect, publish, run, generate, update, command_of, entry_of, commands}
 use Rattle.te_command.proofs.Attacking.{attack_is_sound}
 use Rattle.te_command.proofs.Checking.{check_is_sound, check_network_is_sound}
+use Rattle.te_command.proofs.BoundingHoses.{bound_hose_is_sound}
+use Rattle.te_command.proofs.CheckingHoses.{check_hose_is_sound}
 use Rattle.te_command.proofs.CheckingRates.{check_rates_is_sound}
 use Rattle.te_command.proofs.CheckingWitnesses.{check_witness_is_sound}
 use Rattle.te_command.proofs.Converting.{convert_is_sound}
@@ -31,6 +33,8 @@ entry_is_sound (generate n seed) = generate_is_sound n seed
 entry_is_sound (update old new file) = update_is_sound old new file
 entry_is_sound (protect certificate file failures) = protect_is_sound certificate file failures
 entry_is_sound (check_rates certificate file rates) = check_rates_is_sound certificate file rates
+entry_is_sound (bound_hose certificate bounds) = bound_hose_is_sound certificate bounds
+entry_is_sound (check_hose certificate file) = check_hose_is_sound certificate file
 
 -- the numbers of the command are in their range, where there is one
 abbrev InRangeOf : Option Command → Type 0
@@ -67,8 +71,10 @@ asked_in_range (word ∷ file ∷ []) =
 asked_in_range (word ∷ file ∷ next ∷ []) =
     where_in_range (bytes_eq word (codes "check")) (Some (check_network file next)) _ tt
     (where_in_range (bytes_eq word (codes "check-witness")) (Some (check_witness file next)) _ tt
-    (where_in_range (bytes_eq word (codes "gen")) (option_map (λ (d : ℕ × ℕ). generate d.0 d.1) (drawn_of file next)) None
-    (drawn_in_range (decimal_number file) (decimal_number next) (drawn_of file next) refl) tt))
+    (where_in_range (bytes_eq word (codes "gen")) (option_map (λ (d : ℕ × ℕ). generate d.0 d.1) (drawn_of file next)) _
+    (drawn_in_range (decimal_number file) (decimal_number next) (drawn_of file next) refl)
+    (where_in_range (bytes_eq word (codes "hose")) (Some (bound_hose file next)) _ tt
+    (where_in_range (bytes_eq word (codes "check-hose")) (Some (check_hose file next)) None tt tt))))
 asked_in_range (word ∷ file ∷ next ∷ last ∷ []) =
     where_in_range (bytes_eq word (codes "update")) (Some (update file next last)) _ tt
     (where_in_range (bytes_eq word (codes "check-rates")) (Some (check_rates file next last)) _ tt

@@ -1,7 +1,7 @@
 -- The command that was read from the words.
 use Rattle.te_command.specs.declared.words.Command.{Command as Asked}
 use Rattle.te_command.specs.declared.words.Command.TheVariants as asked
-use Rattle.te_command.specs.Commands.{Command, attack, check, check_network, check_rates, check_witness, convert, protect, publish, run, generate, update}
+use Rattle.te_command.specs.Commands.{Command, attack, bound_hose, check, check_hose, check_network, check_rates, check_witness, convert, protect, publish, run, generate, update}
 
 abbrev pub command_meant : Asked → Command
 command_meant (asked.Attack c) = attack c.certificate.now
@@ -15,3 +15,5 @@ command_meant (asked.Generate c) = generate c.nodes c.seed
 command_meant (asked.Update c) = update c.before.now c.after.now c.matrices.now
 command_meant (asked.Protect c) = protect c.certificate.now c.matrices.now c.failures
 command_meant (asked.CheckRates c) = check_rates c.certificate.now c.matrices.now c.rates.now
+command_meant (asked.BoundHose c) = bound_hose c.certificate.now c.bounds.now
+command_meant (asked.CheckHose c) = check_hose c.certificate.now c.hose.now

@@ -5,7 +5,9 @@ use Rattle.std.specs.Str.{bytes_eq}
 use Rattle.command_frame.specs.Reading.{Reading}
 use Rattle.command_frame.specs.Table.{Entry, TableOf}
 use Rattle.te_command.specs.Attack.{attack_entry}
+use Rattle.te_command.specs.BoundHose.{bound_hose_entry}
 use Rattle.te_command.specs.Check.{check_entry, check_network_entry}
+use Rattle.te_command.specs.CheckHose.{check_hose_entry}
 use Rattle.te_command.specs.CheckRates.{check_rates_entry}
 use Rattle.te_command.specs.CheckWitness.{check_witness_entry}
 use Rattle.te_command.specs.Convert.{convert_entry}
@@ -18,7 +20,8 @@ use Rattle.te_command.specs.Update.{update_entry}
 -- what is asked for: of `attack`, `check`, `check-witness` and `convert`, the name of the certificate, and of `check` that of the topology
 -- where one is given, of `check-witness` that of the witness; of `publish` and `run`, the name of the plan; of `gen`, the number of nodes and
 -- the seed; of `update`, the names of the older certificate, the newer one and the matrices; of `protect` and `check-rates`, the names of
--- the certificate and the matrices, and the number of links that may fail or the name of the rates
+-- the certificate and the matrices, and the number of links that may fail or the name of the rates; of `hose` and `check-hose`, the names of
+-- the certificate and of the bounds or the hose certificate
 pub data Command : Type 0 where
   attack : List ℕ → Command
   check : List ℕ → Command
@@ -31,6 +34,8 @@ pub data Command : Type 0 where
   update : List ℕ → List ℕ → List ℕ → Command
   protect : List ℕ → List ℕ → ℕ → Command
   check_rates : List ℕ → List ℕ → List ℕ → Command
+  bound_hose : List ℕ → List ℕ → Command
+  check_hose : List ℕ → List ℕ → Command
 
 -- the command of the words, where they are one of the forms
 abbrev pub command_of : List (List ℕ) → Option Command
@@ -47,6 +52,8 @@ command_of (word ∷ file ∷ next ∷ []) =
     if bytes_eq word (codes "check") then Some (check_network file next)
     else if bytes_eq word (codes "check-witness") then Some (check_witness file next)
     else if bytes_eq word (codes "gen") then option_map (λ drawn. generate drawn.0 drawn.1) (drawn_of file next)
+    else if bytes_eq word (codes "hose") then Some (bound_hose file next)
+    else if bytes_eq word (codes "check-hose") then Some (check_hose file next)
     else None
 command_of (word ∷ file ∷ next ∷ last ∷ []) =
     if bytes_eq word (codes "update") then Some (update file next last)
@@ -68,6 +75,8 @@ entry_of (generate nodes seed) = generate_entry nodes seed
 entry_of (update old new matrices) = update_entry old new matrices
 entry_of (protect certificate matrices failures) = protect_entry certificate matrices failures
 entry_of (check_rates certificate matrices rates) = check_rates_entry certificate matrices rates
+entry_of (bound_hose certificate bounds) = bound_hose_entry certificate bounds
+entry_of (check_hose certificate file) = check_hose_entry certificate file
 
 -- the table of commands
 abbrev pub commands : TableOf Command

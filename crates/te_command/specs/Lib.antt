@@ -6,6 +6,7 @@ pub mod MatrixFile
 pub mod FailureFile
 pub mod WitnessFile
 pub mod RateFile
+pub mod HoseFile
 pub mod PlanFile
 pub mod Refusals
 pub mod PlanReading
@@ -18,6 +19,8 @@ pub mod Convert
 pub mod Generate
 pub mod CheckRates
 pub mod Protect
+pub mod CheckHose
+pub mod BoundHose
 pub mod Publish
 pub mod Report
 pub mod Update

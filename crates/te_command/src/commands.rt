@@ -1,6 +1,8 @@
 //! The commands.
 mod attack;
+mod bound_hose;
 mod check;
+mod check_hose;
 mod check_network;
 mod check_rates;
 mod check_witness;
@@ -12,7 +14,9 @@ mod run_plan;
 mod update;
 
 pub use attack::Attack;
+pub use bound_hose::BoundHose;
 pub use check::Check;
+pub use check_hose::CheckHose;
 pub use check_network::CheckNetwork;
 pub use check_rates::CheckRates;
 pub use check_witness::CheckWitness;

@@ -10,6 +10,7 @@ use cert_text::CertFault;
 use command_frame::{BytesFault, FileKind};
 use failure::{FailureFault, Failures};
 use fault_rates::{RateFault, RatePlan, read_by_routes};
+use hose_bound::{Hose, HoseCert, HoseFault};
 use plan::{Experiment, PlanFault, read_plan};
 use ratio_witness::{Witness, WitnessFault};
 use std::alloc::Global;
@@ -129,6 +130,80 @@ impl<'a> FileKind for Rates<'a> {
             Err(RateFault::Shape(line)) => Err(BytesFault::Refused(FormatReason::Shape(line))),
             Err(RateFault::Rule(rule)) => Err(BytesFault::Refused(FormatReason::Rule("G", rule))),
             Err(RateFault::Memory) => Err(BytesFault::Memory),
+        }
+    }
+}
+
+/// The hoses of a network. What a file gives keeps K1.
+#[derive(Clone, Copy)]
+pub struct Hoses<'a> {
+    pub network: &'a Network,
+}
+
+impl<'a> FileKind for Hoses<'a> {
+    ghost use Rattle.hose_bound.specs.Rules.{IsValidHose};
+    ghost use Rattle.te_command.specs.HoseFile.{bounds_files};
+    ghost use Rattle.te_command.specs.Limits.{input_limits};
+
+    type Value = Hose;
+
+    type Refusal = FormatReason;
+
+    ghost is_ready = { λ of. IsTrue (is_well_formed of.network.now) };
+
+    ghost kind = { λ of. bounds_files of.network.now };
+
+    ghost IsSound = { λ of. IsValidHose (node_count of.network.now) };
+
+    ghost limited = { λ _. input_limits };
+
+    fn limit(&self, _start: &[u8]) -> u64 {
+        INPUT_LIMIT
+    }
+
+    fn read(&self, alloc: Global, bytes: &[u8]) -> Result<Hose, BytesFault<FormatReason>> {
+        match hose_bound::read_bounds(alloc, self.network, bytes) {
+            Ok(hose) => Ok(hose),
+            Err(HoseFault::Shape(line)) => Err(BytesFault::Refused(FormatReason::Shape(line))),
+            Err(HoseFault::Rule(rule)) => Err(BytesFault::Refused(FormatReason::Rule("K", rule))),
+            Err(HoseFault::Memory) => Err(BytesFault::Memory),
+        }
+    }
+}
+
+/// The hose certificates of a network. What a file gives keeps their rules.
+#[derive(Clone, Copy)]
+pub struct HoseCerts<'a> {
+    pub network: &'a Network,
+}
+
+impl<'a> FileKind for HoseCerts<'a> {
+    ghost use Rattle.hose_bound.specs.Rules.{IsValidHoseCert};
+    ghost use Rattle.te_command.specs.HoseFile.{hose_files};
+    ghost use Rattle.te_command.specs.Limits.{input_limits};
+
+    type Value = HoseCert;
+
+    type Refusal = FormatReason;
+
+    ghost is_ready = { λ of. IsTrue (is_well_formed of.network.now) };
+
+    ghost kind = { λ of. hose_files of.network.now };
+
+    ghost IsSound = { λ of. IsValidHoseCert of.network.now };
+
+    ghost limited = { λ _. input_limits };
+
+    fn limit(&self, _start: &[u8]) -> u64 {
+        INPUT_LIMIT
+    }
+
+    fn read(&self, alloc: Global, bytes: &[u8]) -> Result<HoseCert, BytesFault<FormatReason>> {
+        match hose_bound::read(alloc, self.network, bytes) {
+            Ok(cert) => Ok(cert),
+            Err(HoseFault::Shape(line)) => Err(BytesFault::Refused(FormatReason::Shape(line))),
+            Err(HoseFault::Rule(rule)) => Err(BytesFault::Refused(FormatReason::Rule("K", rule))),
+            Err(HoseFault::Memory) => Err(BytesFault::Memory),
         }
     }
 }

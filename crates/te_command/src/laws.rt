@@ -7,8 +7,9 @@ ghost use Rattle.fault_rates.specs.Answers.{verdict_line};
 ghost use Rattle.command_frame.specs.Files.{Span, span, given_files, told_files, known_files};
 ghost use Rattle.command_frame.specs.Reading.{IsTold, Means, MeansStatus, Proves, ReadFailed, RefusesUntold};
 ghost use Rattle.command_frame.specs.Order.{ReadsAlong, AsksNext};
-ghost use Rattle.te_command.specs.Commands.{Command, attack, check, check_network, check_rates, check_witness, protect, update, reading_of, MeansOneText};
+ghost use Rattle.te_command.specs.Commands.{Command, attack, bound_hose, check, check_hose, check_network, check_rates, check_witness, protect, update, reading_of, MeansOneText};
 ghost use Rattle.te_command.specs.Attack.{SaysYesTo};
+ghost use Rattle.te_command.specs.BoundHose.{SaysYesToHose};
 ghost use Rattle.te_command.specs.Run.{OfToldCommand};
 ghost use Rattle.te_command.specs.Converted.{AreConverted, SayYesAlike};
 
@@ -100,6 +101,24 @@ pub fn protections_are_answered_yes()
     ensures { (content : List ℕ → Option (List ℕ)) → (file : List ℕ) → (matrices : List ℕ) → (failures : ℕ) → (rates : List ℕ) → (text : List ℕ) →
         Means (reading_of (protect file matrices failures)) (told_files content) 0 text → content rates ≡ Some text →
         Means (reading_of (check_rates file matrices rates)) (told_files content) 0 (verdict_line failures Yes) }
+{}
+
+/// `hose` and `check-hose` say of the file that `convert` made what they say of the one that was converted: the same status, and the
+/// same text to the byte.
+pub fn converted_files_are_bounded_alike()
+    ensures hose { (content : List ℕ → Option (List ℕ)) → (file : List ℕ) → (made : List ℕ) → (bounds : List ℕ) → AreConverted content file made →
+        (status : ℕ) → (text : List ℕ) → Means (reading_of (bound_hose file bounds)) (told_files content) status text →
+        Means (reading_of (bound_hose made bounds)) (told_files content) status text }
+    ensures check_hose { (content : List ℕ → Option (List ℕ)) → (file : List ℕ) → (made : List ℕ) → (hose : List ℕ) → AreConverted content file made →
+        (status : ℕ) → (text : List ℕ) → Means (reading_of (check_hose file hose)) (told_files content) status text →
+        Means (reading_of (check_hose made hose)) (told_files content) status text }
+{}
+
+/// `check-hose` says yes to what `hose` means of a told certificate and a told hose, where it is told under any name.
+pub fn hose_texts_are_answered_yes()
+    ensures { (content : List ℕ → Option (List ℕ)) → (file : List ℕ) → (bounds : List ℕ) → (made : List ℕ) → (text : List ℕ) →
+        Means (reading_of (bound_hose file bounds)) (told_files content) 0 text → content made ≡ Some text →
+        (line : List ℕ) × SaysYesToHose text line × Means (reading_of (check_hose file made)) (told_files content) 0 line }
 {}
 
 /// What the reads of a call gave of told files is what is told, and so it means what the told files mean.

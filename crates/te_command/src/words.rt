@@ -5,8 +5,8 @@ ghost use Rattle.te_command.specs.Commands.{command_of};
 ghost use Rattle.te_command.specs.Asked.{command_meant};
 
 use crate::commands::{
-    Attack, Check, CheckNetwork, CheckRates, CheckWitness, Convert, Generate, Protect, Publish,
-    RunPlan, Update, failures_of, generate_of,
+    Attack, BoundHose, Check, CheckHose, CheckNetwork, CheckRates, CheckWitness, Convert, Generate,
+    Protect, Publish, RunPlan, Update, failures_of, generate_of,
 };
 use command_frame::{Answer, Ask, Fault, Table};
 use std::alloc::Global;
@@ -26,6 +26,8 @@ pub enum Command<'a> {
     Update(Update<'a>),
     Protect(Protect<'a>),
     CheckRates(CheckRates<'a>),
+    BoundHose(BoundHose<'a>),
+    CheckHose(CheckHose<'a>),
 }
 
 impl<'a> Ask for Command<'a> {
@@ -46,6 +48,8 @@ impl<'a> Ask for Command<'a> {
             Command::Update(command) => command.answer(alloc, depot),
             Command::Protect(command) => command.answer(alloc, depot),
             Command::CheckRates(command) => command.answer(alloc, depot),
+            Command::BoundHose(command) => command.answer(alloc, depot),
+            Command::CheckHose(command) => command.answer(alloc, depot),
         }
     }
 }
@@ -127,6 +131,16 @@ fn command_with_two<'a>(word: &str, first: &'a str, second: &'a str) -> Option<C
     } else if word == "gen" {
         let command = generate_of(first, second)?;
         Some(Command::Generate(command))
+    } else if word == "hose" {
+        Some(Command::BoundHose(BoundHose {
+            certificate: first,
+            bounds: second,
+        }))
+    } else if word == "check-hose" {
+        Some(Command::CheckHose(CheckHose {
+            certificate: first,
+            hose: second,
+        }))
     } else {
         None
     }
