@@ -66,7 +66,7 @@ def programs_that_fail():
         with open(file, "w", encoding="ascii") as certificate:
             certificate.write(SMALLEST)
         words = {
-            "attack": ["4"], "check_speed": [file], "publish": ["spf", "4"], "rates": ["4"], "schemes": ["4", "spf"],
+            "attack": ["4"], "check_speed": [file], "hose": ["4"], "publish": ["spf", "4"], "rates": ["4"], "schemes": ["4", "spf"],
             "update": ["4"],
             "nearness": ["--recorded", "--program", false, "small"],
         }
