@@ -97,8 +97,12 @@ def judge(files, folder, number):
     if number % PROTECTED == 0:
         is_converted = number % (PROTECTED * CONVERTED) == 0
         faults += faults_of_protection(files, folder, number // PROTECTED % 9, answer_of(["convert", "c"], folder) if is_converted else None)
-    label = {0: "yes", 1: "no"}.get(want[2], "rule" if "rule" in want[1] else "shape" if "shape" in want[1] else "refused")
-    return want[0].partition(" place")[0].strip() if want[2] == 1 else label, faults
+    return kind_of(*want), faults
+
+
+def kind_of(out, err, status):
+    """What is answered, without numbers: yes, the line of a no, or the first word of a reason."""
+    return "yes" if status == 0 else out.partition(" place")[0].strip() if status == 1 else err.split()[2]
 
 
 def faults_of_protection(files, folder, failures, converted):

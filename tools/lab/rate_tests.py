@@ -6,7 +6,7 @@ import random
 import reference_check
 
 from .calls import CHAIN_PROTECTIONS, CHAIN_RATES
-from .drawn_rates import NAMES, case
+from .drawn_rates import NAMES, case, kind_of
 from .inside_tests import differences
 from .rates import CUT_RATES, PROTECTIONS, RATES, TWICE
 
@@ -82,6 +82,5 @@ def drawn(tool):
     kinds = collections.Counter()
     for number in range(400):
         files = case(17, number)
-        out, err, status = tool.answer(NAMES, files.__getitem__)
-        kinds[status if status == 0 else out.partition(" place")[0] if status == 1 else err.split()[2]] += 1
-    return [f"no answer {it!r}: {kinds}" for it in (0, "no rule F1", "no rule F2", "no rule F3", "no pairs\n", "shape", "rule") if not kinds[it]]
+        kinds[kind_of(*tool.answer(NAMES, files.__getitem__))] += 1
+    return [f"no answer {it!r}: {kinds}" for it in ("yes", "no rule F1", "no rule F2", "no rule F3", "no pairs", "shape", "rule", "header") if not kinds[it]]
