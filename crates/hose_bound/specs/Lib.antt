@@ -1,0 +1,11 @@
+pub mod Hose
+pub mod Cover
+pub mod Files
+pub mod Rules
+pub mod Verdict
+pub mod Judging
+pub mod Reading
+pub mod Lines
+pub mod Making
+pub mod Covering
+pub mod Answers
