@@ -4,6 +4,7 @@ import random
 from fractions import Fraction
 
 import reference_check
+import reference_hose
 import reference_rates
 
 from . import program
@@ -61,6 +62,10 @@ REPORTED = [([SIX_SCHEMES, NETWORK, MATRICES], 151, "\nsmore,total,")]
 # A plan, the topology and matrices, a number of links that may fail, and the least that the grants have to sum to; the demands sum to 170736.
 PROTECTED = [([PUBLISHED_RACKE, NETWORK, MATRICES], failures, least) for failures, least in [(0, 170_000), (1, 142_000), (2, 5_000)]]
 
+# The plan, the topology and matrices of a routing, to be bounded for the sums of its first matrix; and the greatest bound that it may have. The exact
+# one is 498251.
+BOUNDED = [([PUBLISHED_RACKE, NETWORK, MATRICES], 867_370)]
+
 
 def drawn_matrices():
     """Matrices of all pairs with demands from 0 to 10000."""
@@ -106,3 +111,20 @@ def faults_of_rates(text, matrices, failures, rates, least):
     faults = [f"F{failed[0]} fails at {failed[1]}"] if failed else []
     faults += reference_rates.faults_of_made(certificate, demands, failures, made)
     return faults + ([] if sum(made.grants) >= least else [f"the grants sum to {sum(made.grants)}"])
+
+
+def bounds_of_first(text, matrices):
+    """The file of bounds that are the sums of what each node sends and receives in the first matrix."""
+    certificate = reference_check.read(text.encode())
+    series, nodes = reference_rates.series_of("m", matrices.encode(), certificate["names"]), range(len(certificate["names"]))
+    sums = ([sum(series.demand(0, pair) for pair in series.pairs if pair[end] == node) for node in nodes] for end in (0, 1))
+    return "yates-bounds 1\n" + "".join(f"{word} {' '.join(map(str, amounts))}\n" for word, amounts in zip(("sent", "received"), sums)) + "end\n"
+
+
+def faults_of_hose(text, bounds, made):
+    """What is wrong with a hose certificate that is written for the routing of a certificate, and its bound."""
+    certificate = reference_check.read(text.encode())
+    hose = reference_hose.hose_of("h", made.encode(), certificate)
+    failed = reference_hose.first_inequality(certificate, hose)
+    faults = [f"H{failed[1]} fails on link {failed[0]}"] if failed else []
+    return faults + reference_hose.faults_of_made(certificate, reference_hose.bounds_of("b", bounds.encode(), certificate), hose), hose.bound

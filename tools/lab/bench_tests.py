@@ -70,7 +70,7 @@ def programs_that_fail():
         with open(file, "w", encoding="ascii") as certificate:
             certificate.write(SMALLEST)
         words = {
-            "attack": ["4"], "check_speed": [file], "hostile": ["false count of pairs, format 1"], "publish": ["ring:4:spf"],
+            "attack": ["4"], "check_speed": [file], "hose": ["4"], "hostile": ["false count of pairs, format 1"], "publish": ["ring:4:spf"],
             "rates": ["4"], "schemes": ["cube:4:spf"], "update": ["4"], "nearness": ["--recorded", "--program", false, "small"],
         }
         for name in scripts():

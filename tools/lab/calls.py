@@ -17,6 +17,9 @@ from .certificates import (
     TRIANGLE_WITHOUT_FIRST_WITH_LESS, TRIANGLE_WITHOUT_MINUS, TRIANGLE_WITH_IDLE_BLOCKS, TWICE_A_NAME, UNENDED, UNREACHED_HIGH,
     UNREACHED_TOO_LOW, WIDE_NODES, WIDE_RATIO, WIDE_WEIGHT, ZERO_BEFORE_FORMAT,
 )
+from .hoses import (
+    BOUNDED, BOUNDED_IN_PART, CUT_HOSES, HOSES, NO_FORMS as NO_HOSE_FORMS, TWICE as HOSES_TWICE, block as hose_block, bounds as hose_bounds, hose,
+)
 from .program import TOP
 from .rates import CUT_RATES, NO_FORMS as NO_RATE_FORMS, PROTECTIONS, RATES, TWICE as RATES_TWICE, made as made_rates, rates, yes as rates_survive
 from .updates import TWICE as UPDATE_TWICE, UPDATES, plan as update_plan
@@ -403,6 +406,7 @@ NO_FORMS = [
     ["update", "o", "n", "m", "m"],
     ["Update", "o", "n", "m"],
     *NO_RATE_FORMS,
+    *NO_HOSE_FORMS,
 ]
 
 # Words with a number of nodes and a seed, and what stands before and after the ratio. The numbers are those of another program that draws,
@@ -467,6 +471,16 @@ CHAIN_RATES = [
 ]
 CHAIN_PROTECTIONS = {0: [([chain_certificate(1000000), TO_END], *made_rates(0, "7 7"))], 1: [([chain_certificate(1000000), TO_END], *made_rates(1, "0 0"))]}
 
+# What the first node of the chain sends, and the last one receives, and the hose certificate that is written where the first is less.
+CHAIN_SENT, CHAIN_RECEIVED, NO_NUMBERS = "5" + " 0" * 64, "0 " * 64 + "6", "0" + " 0" * 64
+CHAIN_HOSE = hose(CHAIN_SENT, CHAIN_RECEIVED, 500000, *(hose_block(link, "1000000" + " 0" * 64, NO_NUMBERS) for link in range(64)))
+CHAIN_HOSES = [
+    ([chain_certificate(1000000), CHAIN_HOSE], 0, "yes bound 500000\n"),
+    ([chain_certificate(1000000), CHAIN_HOSE.replace("bound 500000", "bound 499999")], 1, "no link 0 rule H2 place 0\n"),
+]
+CHAIN_BOUNDED = [([chain_certificate(1000000), hose_bounds(CHAIN_SENT, CHAIN_RECEIVED)], 0, CHAIN_HOSE)]
+CHAIN_BOUNDED_IN_PART = [([chain_certificate(1000000), hose_bounds(CHAIN_SENT, "0 " * 64 + "5")], "\nbound 500000\nblocks 64\nlink 0\n")]
+
 # One unit from the first node of the chain to the last one, and to the one before it.
 TO_LAST = "step,source,target,demand\n0,n0,n64,1\n"
 TO_LAST_OF_SHORT = "step,source,target,demand\n0,n0,n63,1\n"
@@ -510,6 +524,12 @@ TABLES = [
     ("a file twice, as rates", ["check-rates", "c", "c", "c"], "c", RATES_TWICE),
     *((f"rates for {failures} failures", ["protect", "c", "m", str(failures)], "cm", rows) for failures, rows in PROTECTIONS.items()),
     *((f"rates of chains for {failures} failures", ["protect", "c", "m", str(failures)], "cm", rows) for failures, rows in CHAIN_PROTECTIONS.items()),
+    ("hose certificates", ["check-hose", "c", "h"], "ch", HOSES),
+    ("hose certificates of chains", ["check-hose", "c", "h"], "ch", CHAIN_HOSES),
+    ("cut hose certificates", ["check-hose", "c", "h"], "ch", CUT_HOSES),
+    ("a file twice, as a hose certificate", ["check-hose", "c", "c"], "c", HOSES_TWICE),
+    ("bounds", ["hose", "c", "h"], "ch", BOUNDED),
+    ("bounds of chains", ["hose", "c", "h"], "ch", CHAIN_BOUNDED),
     ("certificates that are not converted", ["check", "c"], "c", UNCONVERTED),
     ("refusals of convert", ["convert", "c"], "c", UNCONVERTED),
     ("conversions", ["convert", "c"], "c", CONVERSIONS),

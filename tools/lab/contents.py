@@ -19,9 +19,11 @@ BEGINNINGS = [
 ]
 # The first line of a file of text, in small letters: what it is.
 FIRST_LINES = [
-    (r"yates-ratio ", "a certificate, which attack, check, check-rates, check-witness, convert, protect and update read"),
+    (r"yates-ratio ", "a certificate, which attack, check, check-hose, check-rates, check-witness, convert, hose, protect and update read"),
     (r"yates-witness ", "a witness, which attack writes and check-witness reads"),
     (r"yates-rates ", "rates, which protect writes and check-rates reads"),
+    (r"yates-hose ", "a hose certificate, which hose writes and check-hose reads"),
+    (r"yates-bounds ", "bounds on what nodes send and receive, which hose reads"),
     (r"yates-update ", "the plan of an update, which update writes and no command reads"),
     (r"source,target,capacity,cost\Z", "a topology"),
     (r"step,source,target,demand\Z", "a matrix file"),

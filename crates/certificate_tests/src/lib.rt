@@ -1,5 +1,5 @@
 //! Tests of certificates: their parts, their text, the verdict on one, the best blocks of one, updates from one to another,
-//! and rates that survive failed links. There is nothing else here.
+//! rates that survive failed links, and hose bounds. There is nothing else here.
 #![tactic(auto)]
 
 #[cfg(test)]
@@ -12,6 +12,8 @@ mod cases;
 mod cert_text_tests;
 #[cfg(test)]
 mod fault_rates_tests;
+#[cfg(test)]
+mod hose_bound_tests;
 #[cfg(test)]
 mod number_tables_tests;
 #[cfg(test)]
