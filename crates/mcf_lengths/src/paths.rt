@@ -69,31 +69,26 @@ fn ways_where(
     })
 }
 
-/// The least ways to each node that is wanted, in the order of the nodes.
+/// The least ways to each node that is wanted, in the order of the nodes. The searches are against links in the network.
 fn ways_toward(
     alloc: Global,
     net: &Network,
+    searches: &mut Searches,
     lengths: &[u64],
     wanted: &[bool],
 ) -> Result<Vec<LeastWays>, Memory>
     requires sound { HasSoundLinks net.now }
+    requires against { IsSearchGraph net.now Backward searches.old }
     requires lengths { length lengths.now ≡ link_count net.now }
     requires limit { All (λ l. l ≤ 2 ^ 28) lengths.now }
     requires positive { All (λ l. 1 ≤ l) lengths.now }
     requires wanted { length wanted.now ≡ node_count net.now }
-    ensures { IfOk result (λ w. AreWaysToward net.now lengths.now wanted.now w.items) }
+    ensures ways { IfOk result (λ w. AreWaysToward net.now lengths.now wanted.now w.items) }
+    ensures same { searches.new ≡ searches.old }
 {
-    let mut searches = Searches::new(alloc, net, Direction::Backward)?;
     let mut ways = Vec::with_capacity(alloc, wanted.len())?;
     for node in 0..wanted.len() {
-        let to = ways_where(
-            alloc,
-            net,
-            &mut searches,
-            lengths,
-            node as u32,
-            wanted[node],
-        )?;
+        let to = ways_where(alloc, net, searches, lengths, node as u32, wanted[node])?;
         ways.push(to)?;
     }
     Ok(ways)
@@ -130,7 +125,37 @@ fn path_by(alloc: Global, net: &Network, ways: &LeastWays, pair: Pair) -> Result
 /// The ways to a destination are made once for all pairs that have it.
 ///
 /// `lengths` has one number of 1 to 2^28 for each link, and `wanted` marks the destinations of the
-/// pairs. `Memory` comes where memory is wanting.
+/// pairs. The searches are against links in the network. `Memory` comes where memory is wanting.
+pub fn least_paths_with(
+    alloc: Global,
+    net: &Network,
+    pairs: &Pairs,
+    wanted: &[bool],
+    searches: &mut Searches,
+    lengths: &[u64],
+) -> Result<Vec<Path>, Memory>
+    requires network { IsTrue (is_well_formed net.now) }
+    requires pairs { ArePairsOf net.now pairs.now.list }
+    requires reached { AllReached net.now pairs.now.list }
+    requires wanted { MarksDestinations net.now pairs.now.list wanted.now }
+    requires against { IsSearchGraph net.now Backward searches.old }
+    requires lengths { length lengths.now ≡ link_count net.now }
+    requires limit { All (λ l. l ≤ 2 ^ 28) lengths.now }
+    requires positive { All (λ l. 1 ≤ l) lengths.now }
+    ensures paths { IfOk result (λ p. AreLeastPaths net.now lengths.now pairs.now.list (map (λ q. q.links) p.items)) }
+    ensures same { searches.new ≡ searches.old }
+{
+    let ways = ways_toward(alloc, net, searches, lengths, wanted)?;
+    let list = pairs.list.as_slice();
+    let mut paths = Vec::with_capacity(alloc, list.len())?;
+    for p in 0..list.len() {
+        let pair = list[p];
+        paths.push(path_by(alloc, net, &ways[pair.dst as usize], pair)?)?;
+    }
+    Ok(paths)
+}
+
+/// The least path of each pair, as `least_paths_with` gives them.
 pub fn least_paths(
     alloc: Global,
     net: &Network,
@@ -147,12 +172,7 @@ pub fn least_paths(
     requires positive { All (λ l. 1 ≤ l) lengths.now }
     ensures { IfOk result (λ p. AreLeastPaths net.now lengths.now pairs.now.list (map (λ q. q.links) p.items)) }
 {
-    let ways = ways_toward(alloc, net, lengths, wanted)?;
-    let list = pairs.list.as_slice();
-    let mut paths = Vec::with_capacity(alloc, list.len())?;
-    for p in 0..list.len() {
-        let pair = list[p];
-        paths.push(path_by(alloc, net, &ways[pair.dst as usize], pair)?)?;
-    }
+    let mut searches = Searches::new(alloc, net, Direction::Backward)?;
+    let paths = least_paths_with(alloc, net, pairs, wanted, &mut searches, lengths)?;
     Ok(paths)
 }

@@ -11,7 +11,7 @@ ghost use Rattle.rate_sweeps.specs.Sweeps.{ArePathsOfPairs, AreRates, links_in};
 ghost use Rattle.mcf_lengths.specs.Rounds.{AreLengths};
 ghost use Rattle.mcf_lengths.specs.Sweeps.{AreCommodities, AreLeastSweeps, IsFewRouting, IsNoWorse};
 
-use crate::paths::{destinations, least_paths};
+use crate::paths::{destinations, least_paths, least_paths_with};
 use path_budget::trim;
 use rate_sweeps::{
     COUNTED, Descent, MAX_PARTS, Rates, STAGES, Sweep, TURNS, UNCOUNTED, add_counted,
@@ -19,6 +19,7 @@ use rate_sweeps::{
     take_turn,
 };
 use routing::Routing;
+use shortest_path::{Direction, Searches};
 use std::alloc::Global;
 use te_model::{Items, Matrix, Memory, Network, Pairs, Path};
 
@@ -46,9 +47,18 @@ impl<'a> Commodities<'a> {
         ensures sweeps { IfOk result (λ s. AreLeastSweeps 30 self.now.net.now self.now.pairs.now.list s.items) }
         ensures rates { AreRates self.now.net.now rates.new }
     {
+        let mut searches = Searches::with_orders(alloc, self.net, Direction::Backward)?;
         let mut sweeps = Vec::with_capacity(alloc, COUNTED)?;
         for i in 0..UNCOUNTED + COUNTED {
-            let paths = least_paths(alloc, self.net, self.pairs, self.wanted, &rates.weights)?;
+            let lengths = &rates.weights;
+            let paths = least_paths_with(
+                alloc,
+                self.net,
+                self.pairs,
+                self.wanted,
+                &mut searches,
+                lengths,
+            )?;
             let weight = take_sweep(alloc, self.net, self.matrix, &paths, rates, parts)?;
             add_counted(&mut sweeps, i, weight, paths)?;
         }
