@@ -6,10 +6,11 @@ import tempfile
 import types
 
 import reference_check
+import reference_hose
 import reference_rates
 import reference_witness
 
-from . import answers, campaigns, changes, drawn_certificates, drawn_folders, drawn_rates, failing_calls, large_certificates, limits, program
+from . import answers, campaigns, changes, drawn_certificates, drawn_folders, drawn_hoses, drawn_rates, failing_calls, large_certificates, limits, program
 from .inputs import read_failures, read_matrices, read_topology
 from .plans import read_plan
 
@@ -43,6 +44,14 @@ def faults_of_judges():
     return [f"{judge.__name__} of {got!r}" for judge, got, may_be in JUDGED if judge(OWN, got) is not may_be]
 
 
+def reason_of_bounds(data):
+    try:
+        reference_hose.bounds_of("b", data, reference_check.certificate_of("c", limits.GOOD["c"].encode()))
+    except reference_check.Refused as refusal:
+        return refusal.args[0].partition("refused: b: ")[2].rstrip("\n")
+    return None
+
+
 def reason_of(kind, data):
     """The reason of the second readers for a file of a row of `limits`, or none."""
     if kind == "certificate":
@@ -53,6 +62,11 @@ def reason_of(kind, data):
     if kind == "rates":
         files = {"c": limits.GOOD["c"].encode(), "m": limits.GOOD["m"].encode(), "r": data}
         return reference_rates.answer("cmr", files.__getitem__)[1].partition("refused: r: ")[2].rstrip("\n") or None
+    if kind == "hose certificate":
+        files = {"c": limits.GOOD["c"].encode(), "h": data}
+        return reference_hose.answer("ch", files.__getitem__)[1].partition("refused: h: ")[2].rstrip("\n") or None
+    if kind == "bounds":
+        return reason_of_bounds(data)
     net = read_topology(limits.GOOD["t"].encode())[0]
     readers = {"topology": read_topology, "plan": read_plan, "matrices": lambda it: read_matrices(it, net), "failures": lambda it: read_failures(it, 1, 1)}
     faults = readers[kind](data)[1]
@@ -88,7 +102,7 @@ def faults_of_drawn():
         faults += [f"network {number // drawn_certificates.OF_ONE}: {told}"] * (told[2] != 0)
         statuses.append(reference_check.check_bytes("c", drawn_certificates.case(7, number)["c"])[2])
     faults += [f"{statuses.count(it)} of {len(statuses)} have status {it}" for it in (0, 1, 3) if 5 * statuses.count(it) < len(statuses)]
-    cases = [(kind.case(7, number), kind.case(7, number)) for kind in (drawn_certificates, drawn_rates, drawn_folders, answers) for number in range(4)]
+    cases = [(kind.case(7, number), kind.case(7, number)) for kind in (drawn_certificates, drawn_rates, drawn_hoses, drawn_folders, answers) for number in range(4)]
     return faults + ["another case the second time"] * any(first != second for first, second in cases)
 
 

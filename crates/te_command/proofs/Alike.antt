@@ -84,3 +84,21 @@ after_conversion content file made made_text next before status text at (inr (c,
       (made_text, at, fits_file made_text (upgraded_certificate c) upgraded, upgraded),
       alike c then (subst (λ (x : Certificate). MeansAfter (next x) (told_passes content) then status text) same means),
     )
+
+-- And what is meant of the one that `convert` made is meant of the file that was converted.
+pub before_conversion : (content : List ℕ → Option (List ℕ)) (file made made_text : List ℕ) (next : Certificate → Reading) (before : List FileRead)
+    (status : ℕ) (text : List ℕ) → content made ≡ Some made_text → Means (reading_of (convert file)) (told_files content) 0 made_text →
+    ((c : Certificate) (now : List FileRead) → MeansAfter (next (upgraded_certificate c)) (told_passes content) now status text →
+    MeansAfter (next c) (told_passes content) now status text) →
+    MeansAfter (reads Certificate certificates made next) (told_passes content) before status text →
+    MeansAfter (reads Certificate certificates file next) (told_passes content) before status text
+before_conversion content file made made_text next before status text at (inl (three, now, refused, ended)) alike means = absurd (omega (arith, three))
+before_conversion content file made made_text next before status text at (inr (c, now, (bytes, told_as, few, spells), ((zero, is), ended))) alike (inl (three, then, inl ((all, told_is, long), line), over)) =
+    let fits = fits_file made_text (upgraded_certificate c) (spells_upgraded c bytes made_text spells is) in
+    absurd (not_longer made_text all (some_once (content made) made_text all at told_is) fits long)
+before_conversion content file made made_text next before status text at (inr (c, now, (bytes, told_as, few, spells), ((zero, is), ended))) alike (inl (three, then, inr (all, words, told_is, short, refused, line), over)) =
+    let same = some_once (content made) all made_text told_is at in
+    absurd (spelled_accepted made_text (upgraded_certificate c) words (spells_upgraded c bytes made_text spells is) (subst (λ b. GivesCertificate b (Err words)) same refused))
+before_conversion content file made made_text next before status text at (inr (c, now, (bytes, told_as, few, spells), ((zero, is), ended))) alike (inr (d, then, (all, told_is, short, spelled), means)) =
+    let same = one_certificate (content made) made_text all (upgraded_certificate c) d at told_is (spells_upgraded c bytes made_text spells is) spelled in
+    inr (c, then, (bytes, told_as, few, spells), alike c then (subst (λ (x : Certificate). MeansAfter (next x) (told_passes content) then status text) same means))

@@ -1,5 +1,5 @@
 -- What `hose` and `check-hose` say of a file and of the one that `convert` makes of it, and what the second says of the first's text.
-use Rattle.std.proofs.Common.{◌≡◌, ◌≤◌, ℕ, List, [], length, Option, Some, Ok, inl, inr, refl, sym, ap, ◌∙◌, subst, arith}
+use Rattle.std.proofs.Common.{◌≡◌, ◌≤◌, ◌↔◌, ℕ, List, [], length, Option, Some, Ok, inl, inr, refl, sym, ap, ◌∙◌, subst, arith}
 use Rattle.te_ports.specs.Record.{Read as FileRead}
 use Rattle.te_model.specs.declared.certificate.Certificate.{Certificate}
 use Rattle.te_model.specs.declared.certificate.Head.{Head}
@@ -21,34 +21,40 @@ use Rattle.te_command.specs.BoundHose.{bounds_reading, SaysYesToHose}
 use Rattle.te_command.specs.CheckHose.{hose_cert_reading}
 use Rattle.te_command.specs.Commands.{bound_hose, check_hose, convert, reading_of}
 use Rattle.te_command.specs.InputFile.{input_limit}
-use Rattle.te_command.proofs.Alike.{after_conversion}
+use Rattle.te_command.proofs.Alike.{after_conversion, before_conversion}
 use Rattle.te_command.proofs.Streaming.{spelled_head}
 
-after_bounds : (c : Certificate) (content : List ℕ → Option (List ℕ)) (bounds : List ℕ) (before : List FileRead) (status : ℕ) (text : List ℕ) →
-    MeansAfter (bounds_reading bounds c.head) (told_passes content) before status text →
-    MeansAfter (bounds_reading bounds (upgraded_certificate c).head) (told_passes content) before status text
-after_bounds c content bounds before status text (inl refused) = inl refused
-after_bounds c content bounds before status text (inr (hose, now, gives, (is, ended))) = inr (hose, now, gives, (is, ended))
+-- of a head no more counts than its network and its routes
 
-after_hose_cert : (c : Certificate) (content : List ℕ → Option (List ℕ)) (file : List ℕ) (before : List FileRead) (status : ℕ) (text : List ℕ) →
-    MeansAfter (hose_cert_reading file c.head) (told_passes content) before status text →
-    MeansAfter (hose_cert_reading file (upgraded_certificate c).head) (told_passes content) before status text
-after_hose_cert c content file before status text (inl refused) = inl refused
-after_hose_cert c content file before status text (inr (cert, now, gives, (is, ended))) = inr (cert, now, gives, (is, ended))
+bounds_alike : (c : Certificate) (content : List ℕ → Option (List ℕ)) (bounds : List ℕ) (before : List FileRead) (status : ℕ) (text : List ℕ) →
+    MeansAfter (bounds_reading bounds c.head) (told_passes content) before status text
+    ↔ MeansAfter (bounds_reading bounds (upgraded_certificate c).head) (told_passes content) before status text
+bounds_alike c content bounds before status text = (λ means. means, λ means. means)
 
-pub hoses_alike : (content : List ℕ → Option (List ℕ)) (file made bounds made_text text : List ℕ) (status : ℕ) → content made ≡ Some made_text →
-    Means (reading_of (convert file)) (told_files content) 0 made_text → Means (reading_of (bound_hose file bounds)) (told_files content) status text →
-    Means (reading_of (bound_hose made bounds)) (told_files content) status text
-hoses_alike content file made bounds made_text text status at converted means =
+hose_certs_alike : (c : Certificate) (content : List ℕ → Option (List ℕ)) (file : List ℕ) (before : List FileRead) (status : ℕ) (text : List ℕ) →
+    MeansAfter (hose_cert_reading file c.head) (told_passes content) before status text
+    ↔ MeansAfter (hose_cert_reading file (upgraded_certificate c).head) (told_passes content) before status text
+hose_certs_alike c content file before status text = (λ means. means, λ means. means)
+
+module _ (content : List ℕ → Option (List ℕ)) (file made made_text : List ℕ) (at : content made ≡ Some made_text)
+    (converted : Means (reading_of (convert file)) (told_files content) 0 made_text) (status : ℕ) (text : List ℕ) where
+  pub bounds_of_converted : (bounds : List ℕ) →
+      Means (reading_of (bound_hose file bounds)) (told_files content) status text ↔ Means (reading_of (bound_hose made bounds)) (told_files content) status text
+  bounds_of_converted bounds = (
     after_conversion content file made made_text (λ spelled. bounds_reading bounds spelled.head) [] status text at converted
-    (λ c now. after_bounds c content bounds now status text) means
+        (λ c now. (bounds_alike c content bounds now status text).0),
+    before_conversion content file made made_text (λ spelled. bounds_reading bounds spelled.head) [] status text at converted
+        (λ c now. (bounds_alike c content bounds now status text).1),
+  )
 
-pub hose_certs_alike : (content : List ℕ → Option (List ℕ)) (file made hose made_text text : List ℕ) (status : ℕ) → content made ≡ Some made_text →
-    Means (reading_of (convert file)) (told_files content) 0 made_text → Means (reading_of (check_hose file hose)) (told_files content) status text →
-    Means (reading_of (check_hose made hose)) (told_files content) status text
-hose_certs_alike content file made hose made_text text status at converted means =
+  pub hose_certs_of_converted : (hose : List ℕ) →
+      Means (reading_of (check_hose file hose)) (told_files content) status text ↔ Means (reading_of (check_hose made hose)) (told_files content) status text
+  hose_certs_of_converted hose = (
     after_conversion content file made made_text (λ spelled. hose_cert_reading hose spelled.head) [] status text at converted
-    (λ c now. after_hose_cert c content hose now status text) means
+        (λ c now. (hose_certs_alike c content hose now status text).0),
+    before_conversion content file made made_text (λ spelled. hose_cert_reading hose spelled.head) [] status text at converted
+        (λ c now. (hose_certs_alike c content hose now status text).1),
+  )
 
 -- ---- what `hose` writes is answered yes
 

@@ -18,7 +18,7 @@ use te_model::{Certificate, Head, Network, file_limit};
 use topology::TopologyFault;
 use traffic_matrix::{MatrixFault, Series};
 
-/// The greatest file of a topology, of matrices, of failures, of rates or of a plan, in bytes.
+/// The greatest file of a topology, of matrices, of failures, of rates, of a hose, of a hose certificate or of a plan, in bytes.
 const INPUT_LIMIT: u64 = 67_108_864;
 
 /// The greatest file of a witness, in bytes.

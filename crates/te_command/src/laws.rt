@@ -1,5 +1,5 @@
 //! Laws of what commands mean. A law of the definitions is the contract of a function that does nothing.
-ghost use Rattle.std.specs.Prelude.{◌≡◌, ◌⊎◌, ℕ, List, ◌∷◌, ◌++◌, Option, Some};
+ghost use Rattle.std.specs.Prelude.{◌≡◌, ◌⊎◌, ◌↔◌, ℕ, List, ◌∷◌, ◌++◌, Option, Some};
 ghost use Rattle.te_ports.specs.Ports.{Rose};
 ghost use Rattle.te_ports.specs.Record.{Read, Adds};
 ghost use Rattle.fault_rates.specs.declared.verdict.RateVerdict.TheVariants.{Yes};
@@ -103,14 +103,13 @@ pub fn protections_are_answered_yes()
         Means (reading_of (check_rates file matrices rates)) (told_files content) 0 (verdict_line failures Yes) }
 {}
 
-/// `hose` and `check-hose` say of the file that `convert` made what they say of the one that was converted: the same status, and the
-/// same text to the byte.
+/// `hose` and `check-hose` mean of the file that `convert` made what they mean of the one that was converted, and nothing else.
 pub fn converted_files_are_bounded_alike()
     ensures hose { (content : List ℕ → Option (List ℕ)) → (file : List ℕ) → (made : List ℕ) → (bounds : List ℕ) → AreConverted content file made →
-        (status : ℕ) → (text : List ℕ) → Means (reading_of (bound_hose file bounds)) (told_files content) status text →
+        (status : ℕ) → (text : List ℕ) → Means (reading_of (bound_hose file bounds)) (told_files content) status text ↔
         Means (reading_of (bound_hose made bounds)) (told_files content) status text }
     ensures check_hose { (content : List ℕ → Option (List ℕ)) → (file : List ℕ) → (made : List ℕ) → (hose : List ℕ) → AreConverted content file made →
-        (status : ℕ) → (text : List ℕ) → Means (reading_of (check_hose file hose)) (told_files content) status text →
+        (status : ℕ) → (text : List ℕ) → Means (reading_of (check_hose file hose)) (told_files content) status text ↔
         Means (reading_of (check_hose made hose)) (told_files content) status text }
 {}
 
