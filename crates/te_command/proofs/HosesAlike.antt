@@ -1,16 +1,14 @@
 -- What `hose` and `check-hose` say of a file and of the one that `convert` makes of it, and what the second says of the first's text.
-use Rattle.std.proofs.Common.{◌≡◌, ◌≤◌, ◌↔◌, ℕ, List, [], length, Option, Some, Ok, inl, inr, refl, sym, ap, ◌∙◌, subst, arith}
+use Rattle.std.proofs.Common.{◌≡◌, ◌≤◌, ◌↔◌, ℕ, List, [], length, Option, Some, Ok, inl, inr, refl, sym, ap, subst, arith}
 use Rattle.te_ports.specs.Record.{Read as FileRead}
 use Rattle.te_model.specs.declared.certificate.Certificate.{Certificate}
 use Rattle.te_model.specs.declared.certificate.Head.{Head}
 use Rattle.te_model.specs.Upgrade.{upgraded_certificate}
 use Rattle.te_model.specs.Validity.{IsValidHead}
 use Rattle.hose_bound.specs.declared.hose.Hose.{Hose}
-use Rattle.hose_bound.specs.declared.hose.HoseCert.{HoseCert}
 use Rattle.hose_bound.specs.declared.verdict.HoseVerdict.{HoseVerdict}
 use Rattle.hose_bound.specs.declared.verdict.HoseVerdict.TheVariants.{Yes}
 use Rattle.hose_bound.specs.Answers.{IsHoseText, IsHoseVerdict, verdict_line, verdict_status}
-use Rattle.hose_bound.specs.Files.{hose_cert_text}
 use Rattle.hose_bound.specs.Reading.{MeansHoseCert}
 use Rattle.hose_bound.proofs.Answered.{made_certs_are_yes}
 use Rattle.hose_bound.proofs.ShortTexts.{hose_texts_are_short}

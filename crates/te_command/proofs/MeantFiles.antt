@@ -1,5 +1,5 @@
 -- What a reader answers that says what bytes mean, or falls short of memory.
-use Rattle.std.proofs.Common.{◌≡◌, ◌⊎◌, Result, Ok, Err, inl, inr, ap, subst}
+use Rattle.std.proofs.Common.{◌≡◌, ◌⊎◌, Result, Ok, Err, inl, inr, subst}
 
 module _ {A F : Type 0} (Means : Result A F → Type 0) (short : F) where
   value_or_short : (value : A) → ◌≡◌ {A = Result A F} (Ok value) (Err short) → ⊥

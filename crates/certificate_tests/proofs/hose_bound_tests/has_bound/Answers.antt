@@ -2,7 +2,7 @@ use Rattle.std.proofs.Common.{List, length, arith, sym, subst, refl, ◌<◌, �
 use Rattle.std.specs.Prelude.{IsTrue}
 use Rattle.te_model.specs.declared.network.Network.{Network}
 use Rattle.te_model.specs.declared.route.PairRoutes.{PairRoutes}
-use Rattle.te_model.specs.Network.{is_well_formed, link_count, node_count}
+use Rattle.te_model.specs.Network.{is_well_formed}
 use Rattle.certificate_tests.proofs.RatioCertificateLaws.{sample_within}
 use Rattle.certificate_tests.proofs.hose_bound_tests.has_bound.Goals as goal
 

@@ -1,9 +1,6 @@
-use Rattle.std.proofs.Common.{List, length, arith, sym, subst, refl, ◌<◌, ◌^◌}
-use Rattle.std.specs.Prelude.{IsTrue}
+use Rattle.std.proofs.Common.{arith, sym, subst, ◌<◌, ◌^◌}
 use Rattle.te_model.specs.declared.network.Network.{Network}
-use Rattle.te_model.specs.declared.route.PairRoutes.{PairRoutes}
-use Rattle.te_model.specs.Network.{is_well_formed, link_count, node_count}
-use Rattle.certificate_tests.proofs.RatioCertificateLaws.{sample_within}
+use Rattle.te_model.specs.Network.{link_count, node_count}
 use Rattle.certificate_tests.proofs.hose_bound_tests.is_printed_again.Goals as goal
 
 pub read_and_print-requires-clause-nodes : goal.read_and_print-requires-clause-nodes
