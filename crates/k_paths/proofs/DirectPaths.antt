@@ -29,7 +29,7 @@ use Rattle.te_model.proofs.Marks.{nodes_visited-is}
 use Rattle.k_paths.proofs.Visits.{distinct-apart, distinct-append, chains-before, visits-is}
 use Rattle.k_paths.proofs.ClassLeast.{chains-same_end, visited-append}
 
-sum_parts : (b : Bool) (cost x : ℕ) (o : Option ℕ) → (if b then sum_with cost o else None) ≡ Some x → (b ≡ true) × ((y : ℕ) × (o ≡ Some y) × (x ≡ cost + y))
+pub sum_parts : (b : Bool) (cost x : ℕ) (o : Option ℕ) → (if b then sum_with cost o else None) ≡ Some x → (b ≡ true) × ((y : ℕ) × (o ≡ Some y) × (x ≡ cost + y))
 sum_parts true cost x None is = cc
 sum_parts true cost x (Some y) is = (refl, (y, refl, cc))
 sum_parts false cost x o is = cc
@@ -38,14 +38,14 @@ sum_of_parts : (b : Bool) (cost y : ℕ) (o : Option ℕ) → b ≡ true → o �
 sum_of_parts b cost y o is at = rw (is, at) refl
 
 -- how a path of the class goes on after the prefix
-record GoesOn (net : Network) (s t v : ℕ) (prefix excluded : List ℕ) (k : ℕ) (ks : List ℕ) : Type 0 where
-  inside : k < link_count net
-  starts : tail_of net k ≡ v
-  new : has_number (nodes_visited net s prefix) (head_of net k) ≡ false
-  allowed : has_number excluded k ≡ false
-  walk : Walk net (every_link net) (head_of net k) t ks
+pub record GoesOn (net : Network) (s t v : ℕ) (prefix excluded : List ℕ) (k : ℕ) (ks : List ℕ) : Type 0 where
+  pub inside : k < link_count net
+  pub starts : tail_of net k ≡ v
+  pub new : has_number (nodes_visited net s prefix) (head_of net k) ≡ false
+  pub allowed : has_number excluded k ≡ false
+  pub walk : Walk net (every_link net) (head_of net k) t ks
 
-goes_on : (net : Network) (s t v : ℕ) (prefix excluded q : List ℕ) → chains net s v prefix ≡ true → (m : InClass net s t prefix excluded q) →
+pub goes_on : (net : Network) (s t v : ℕ) (prefix excluded q : List ℕ) → chains net s v prefix ≡ true → (m : InClass net s t prefix excluded q) →
     GoesOn net s t v prefix excluded m.next m.rest
 goes_on net s t v prefix excluded q chain m =
     let k = m.next in
@@ -71,7 +71,7 @@ goes_on net s t v prefix excluded q chain m =
     }
 
 -- the link has a sum, at most that of the rest of the path
-sum_of_rest : (net : Network) (ways : Ways) (s v : ℕ) (prefix excluded : List ℕ) (k : ℕ) (ks : List ℕ) → AreWays net ways →
+pub sum_of_rest : (net : Network) (ways : Ways) (s v : ℕ) (prefix excluded : List ℕ) (k : ℕ) (ks : List ℕ) → AreWays net ways →
     GoesOn net s ways.dst v prefix excluded k ks →
     (z : ℕ) × (sum_over net ways s prefix excluded v k ≡ Some (slice_index ways.costs k + z)) × (z ≤ sum_along ways.costs ks)
 sum_of_rest net ways s v prefix excluded k ks are on =

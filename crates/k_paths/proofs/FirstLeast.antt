@@ -2,14 +2,9 @@
 use Rattle.std.proofs.Common.{◌⊎◌, inl, inr, ◌≡◌, ℕ, ◌+◌, ◌<◌, ◌≤◌, Option, Some, None, arith, ap, sym, ◌∙◌, subst}
 use Rattle.std.specs.Prelude.{MatchOption}
 use Rattle.std.proofs.lemmas.Bool.{cases_lt}
-use Rattle.k_paths.specs.Ways.{IsFirstLeastAt}
+use Rattle.k_paths.specs.Ways.{IsFirstLeastAt, IsFirstLeast}
 
--- the first of the least values so far, with the value
-abbrev pub IsFirstSoFar : (ℕ → Option ℕ) → ℕ → Option (ℕ × ℕ) → Type 0
-IsFirstSoFar value n best =
-    MatchOption best ((k : ℕ) → k < n → value k ≡ None) (λ r. IsFirstLeastAt value n r.0 r.1)
-
-pub so_far_skip : (value : ℕ → Option ℕ) (n : ℕ) (best : Option (ℕ × ℕ)) → IsFirstSoFar value n best → value n ≡ None → IsFirstSoFar value (n + 1) best
+pub so_far_skip : (value : ℕ → Option ℕ) (n : ℕ) (best : Option (ℕ × ℕ)) → IsFirstLeast value n best → value n ≡ None → IsFirstLeast value (n + 1) best
 so_far_skip value n None so none = λ k below. elim (cases_lt k n) [
   | inl lt ↦ so k lt
   | inr ge ↦ let e : k ≡ n = omega arith in ap value e ∙ none
@@ -28,9 +23,9 @@ same_value value n k y z at e is =
     let both : Some z ≡ Some y = sym is ∙ (ap value e ∙ at) in
     cc
 
-pub so_far_more : (value : ℕ → Option ℕ) (n y : ℕ) (best new : Option (ℕ × ℕ)) → IsFirstSoFar value n best → value n ≡ Some y →
+pub so_far_more : (value : ℕ → Option ℕ) (n y : ℕ) (best new : Option (ℕ × ℕ)) → IsFirstLeast value n best → value n ≡ Some y →
     MatchOption best (new ≡ Some (n, y)) (λ r. ((y < r.1) × (new ≡ Some (n, y))) ⊎ ((r.1 ≤ y) × (new ≡ best))) →
-    IsFirstSoFar value (n + 1) new
+    IsFirstLeast value (n + 1) new
 so_far_more value n y None new so at is =
     let here : IsFirstLeastAt value (n + 1) n y = record {
       inside = omega arith;
@@ -41,7 +36,7 @@ so_far_more value n y None new so at is =
       ];
     }
     in
-    subst (λ o. IsFirstSoFar value (n + 1) o) (sym is) here
+    subst (λ o. IsFirstLeast value (n + 1) o) (sym is) here
 so_far_more value n y (Some r) new so at is = elim is [
   | inl (lt_y, is_new) ↦
       let here : IsFirstLeastAt value (n + 1) n y = record {
@@ -53,7 +48,7 @@ so_far_more value n y (Some r) new so at is = elim is [
         ];
       }
       in
-      subst (λ o. IsFirstSoFar value (n + 1) o) (sym is_new) here
+      subst (λ o. IsFirstLeast value (n + 1) o) (sym is_new) here
   | inr (ge_y, is_old) ↦
       let here : IsFirstLeastAt value (n + 1) r.0 r.1 = record {
         inside = omega (arith, so.inside);
@@ -70,5 +65,21 @@ so_far_more value n y (Some r) new so at is = elim is [
         ];
       }
       in
-      subst (λ o. IsFirstSoFar value (n + 1) o) (sym is_old) here
+      subst (λ o. IsFirstLeast value (n + 1) o) (sym is_old) here
 ]
+
+-- the same of more numbers, which have no value
+pub so_far_jump : (value : ℕ → Option ℕ) (n m : ℕ) (best : Option (ℕ × ℕ)) → IsFirstLeast value n best → n ≤ m →
+    ((k : ℕ) → n ≤ k → k < m → value k ≡ None) → IsFirstLeast value m best
+so_far_jump value n m None so le none = λ k below. elim (cases_lt k n) [
+  | inl lt ↦ so k lt
+  | inr ge ↦ none k ge below
+]
+so_far_jump value n m (Some r) so le none = record {
+  inside = omega (arith, so.inside, le);
+  is = so.is;
+  least = λ k z below is. elim (cases_lt k n) [
+    | inl lt ↦ so.least k z lt is
+    | inr ge ↦ let at = none k ge below in let never : None ≡ Some z = sym at ∙ is in cc
+  ];
+}

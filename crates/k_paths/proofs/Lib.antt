@@ -4,10 +4,12 @@ pub mod Visits
 pub mod ClassLeast
 pub mod Deviating
 pub mod Prefixes
+pub mod Bounds
 pub mod Splitting
 pub mod Starting
 pub mod Rounds
 pub mod EvenSplits
 pub mod FirstLeast
+pub mod LinkRows
 pub mod DirectPaths
 pub mod Existence

@@ -14,7 +14,8 @@ use Rattle.shortest_path.proofs.Tight.{least_walk_apart}
 use Rattle.k_paths.specs.declared.candidate.Candidate.{Candidate}
 use Rattle.k_paths.specs.Classes.{InClass}
 use Rattle.shortest_path.specs.Costs.{HasCosts, IsBefore}
-use Rattle.k_paths.specs.Search.{IsLeastCandidate, IsPathSearch}
+use Rattle.shortest_path.specs.declared.ways.Ways.{Ways}
+use Rattle.k_paths.specs.Search.{IsLeastCandidate, IsDueSearch}
 use Rattle.k_paths.proofs.Ordering.{below-trans, below-cases}
 
 -- the first so far after one that comes before it
@@ -30,13 +31,18 @@ first_kept costs x y not_below = elim (below-cases costs x y) [
   | inr other ↦ elim other [ inl below ↦ absurd (not_below below) | inr above ↦ inr above ]
 ]
 
-pub search_none : (net : Network) (marks : List Bool) (costs : List ℕ) (s t : ℕ) → AllOpen net marks →
-    IsLeastWalk net costs marks s t None → IsPathSearch net s t [] []
-search_none net marks costs s t open_all none = record {
-  least = λ c has. absurd (omega (arith, has.1));
-  after = λ c has q of_c. All-nil (λ f. IsBefore net f q);
-  cover = λ q path. absurd (none q (walk_of_chains net marks s t q open_all (chains_of_path net s t q path)));
-}
+pub search_none : (net : Network) (marks : List Bool) (costs : List ℕ) (s : ℕ) (ways : Ways) → AllOpen net marks →
+    IsLeastWalk net costs marks s ways.dst None → IsDueSearch net s ways [] [] []
+search_none net marks costs s ways open_all none = (
+  record {
+    least = λ c has. absurd (omega (arith, has.1));
+    bounds = λ c has. absurd (omega (arith, has.1));
+    after = λ c has q of_c. All-nil (λ f. IsBefore net f q);
+    later = λ c has q of_c. All-nil (λ f. IsBefore net f q);
+    cover = λ q path. absurd (none q (walk_of_chains net marks s ways.dst q open_all (chains_of_path net s ways.dst q path)));
+  },
+  λ k below. absurd (omega (arith, below)),
+)
 
 in_whole : (net : Network) (s t : ℕ) (q : List ℕ) → (s ≡ t → ⊥) → is_path net s t q ≡ true → InClass net s t [] [] q
 in_whole net s t [] apart path = absurd (apart (eqb-true s t (chains_of_path net s t [] path)))
@@ -46,9 +52,10 @@ some_links : (net : Network) (s t : ℕ) (q : List ℕ) → (s ≡ t → ⊥) �
 some_links net s t [] apart path = absurd (apart (eqb-true s t (chains_of_path net s t [] path)))
 some_links net s t (h ∷ hs) apart path = omega arith
 
-pub search_some : (net : Network) (marks : List Bool) (costs : List ℕ) (s t : ℕ) (p : List ℕ) → AllOpen net marks → HasCosts net costs → (s ≡ t → ⊥) →
-    IsLeastWalk net costs marks s t (Some p) → IsPathSearch net s t [] ([] ++ (record { links = p; fixed = 0; excluded = [] }) ∷ [])
-search_some net marks costs s t p open_all has apart least =
+pub search_some : (net : Network) (marks : List Bool) (costs : List ℕ) (s : ℕ) (ways : Ways) (p : List ℕ) → AllOpen net marks → HasCosts net costs → (s ≡ ways.dst → ⊥) →
+    IsLeastWalk net costs marks s ways.dst (Some p) → IsDueSearch net s ways [] ([] ++ (record { links = p; fixed = 0; excluded = [] }) ∷ []) []
+search_some net marks costs s ways p open_all has apart least =
+    let t = ways.dst in
     let only : Candidate = record { links = p; fixed = 0; excluded = [] } in
     let long : (h : ℕ) → h < link_count net → 1 ≤ slice_index costs h = λ h below. All-get_or (λ c. 1 ≤ c) costs h 0 (omega (arith, has.count)) has.positive in
     let path : is_path net s t p ≡ true = path_of_walk net marks s t p least.0 (least_walk_apart net costs marks s t p long least) in
@@ -60,12 +67,16 @@ search_some net marks costs s t p open_all has apart least =
         | inr below ↦ inr (subst (λ c. IsBelow c p q) has.are below)
       ];
     }
-    in
-    record {
-      least = λ c has_c. elim (Contains-push_cases [] only c has_c) [
-        | inl never ↦ absurd (omega (arith, never.1))
-        | inr is ↦ subst (λ x. IsLeastCandidate net s t x) is mine
-      ];
-      after = λ c has_c q of_c. All-nil (λ f. IsBefore net f q);
-      cover = λ q path_q. inr (only, Contains-push [] only, in_whole net s t q apart path_q);
-    }
+    in (
+      record {
+        least = λ c has_c. elim (Contains-push_cases [] only c has_c) [
+          | inl never ↦ absurd (omega (arith, never.1))
+          | inr is ↦ subst (λ x. IsLeastCandidate net s t x) is mine
+        ];
+        bounds = λ c has_c. absurd (omega (arith, has_c.1));
+        after = λ c has_c q of_c. All-nil (λ f. IsBefore net f q);
+        later = λ c has_c q of_c. All-nil (λ f. IsBefore net f q);
+        cover = λ q path_q. inr (inl (only, Contains-push [] only, in_whole net s t q apart path_q));
+      },
+      λ k below. absurd (omega (arith, below)),
+    )

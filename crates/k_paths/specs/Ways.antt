@@ -28,7 +28,7 @@ pub record IsFirstLeastAt (value : ℕ → Option ℕ) (n h x : ℕ) : Type 0 wh
   pub is : value h ≡ Some x
   pub least : (k z : ℕ) → k < n → value k ≡ Some z → (x < z) ⊎ ((x ≡ z) × (h ≤ k))
 
--- of the numbers below n, the first that has the least value, or none where none has a value
-abbrev pub IsFirstLeastValue : (ℕ → Option ℕ) → ℕ → Option ℕ → Type 0
-IsFirstLeastValue value n first =
-    MatchOption first ((k : ℕ) → k < n → value k ≡ None) (λ h. (x : ℕ) × IsFirstLeastAt value n h x)
+-- of the numbers below n, the first that has the least value, with the value, or none where none has one
+abbrev pub IsFirstLeast : (ℕ → Option ℕ) → ℕ → Option (ℕ × ℕ) → Type 0
+IsFirstLeast value n best =
+    MatchOption best ((k : ℕ) → k < n → value k ≡ None) (λ r. IsFirstLeastAt value n r.0 r.1)

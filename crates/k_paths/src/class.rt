@@ -1,17 +1,19 @@
-//! The least paths of classes, and the splitting of a class.
+//! The least paths of classes, and the splitting of a class into classes with bounds.
 ghost use Rattle.std.specs.Prelude.{if◌then◌else◌, [], ◌≡◌, ◌<◌, ◌≤◌, ◌++◌, ◌∷◌, IfOk, IsTrue, OnOk, length, take};
 ghost use Rattle.te_model.specs.Network.{node_count};
 ghost use Rattle.te_model.specs.Path.{is_path};
 ghost use Rattle.shortest_path.specs.Links.{HasSoundLinks};
 ghost use Rattle.k_paths.specs.Classes.{IsLeastIn, IsPrefix, excluded_at};
-ghost use Rattle.k_paths.specs.Search.{IsLeastCandidate, Splits};
+ghost use Rattle.k_paths.specs.Outgoing.{AreOutgoing};
+ghost use Rattle.k_paths.specs.Search.{IsBounded, IsClassOf, IsLeastCandidate, Splits};
 ghost use Rattle.shortest_path.specs.Ways.{AreWays};
 
-use crate::candidate::Candidate;
+use crate::candidate::{BoundedClass, Candidate};
 use crate::direct::{first_link, meets};
 use crate::marks::class_marks;
+use crate::outgoing::Outgoing;
 use crate::sums::least_sums;
-use shortest_path::{Ways, follow, way_from};
+use shortest_path::{Ways, follow, length_along, way_from};
 use std::alloc::Global;
 use te_model::{Items, Memory, Network};
 
@@ -55,38 +57,38 @@ fn join_links(alloc: Global, prefix: &[u32], first: u32, way: &[u32]) -> Result<
     Ok(links)
 }
 
-/// The least path of those that begin with the first links of a path and go on with a link that is not excluded.
+/// The least path of the class.
 ///
 /// It goes on along the least way over all links, where this meets none of the first nodes.
-pub fn deviation(
+pub fn least_of(
     alloc: Global,
     net: &Network,
     ways: &Ways,
     src: u32,
-    links: &[u32],
-    fixed: usize,
-    excluded: &[u32],
+    class: &BoundedClass,
 ) -> Result<Option<Vec<u32>>, Memory>
     requires sound { HasSoundLinks net.now }
     requires ways { AreWays net.now ways.now }
-    requires path { IsTrue (is_path net.now src ways.now.dst links.now) }
-    requires inside { fixed < length links.now }
-    ensures { IfOk result (IsLeastIn net.now src ways.now.dst (take fixed links.now) excluded.now) }
+    requires class { IsBounded net.now src ways.now class.now }
+    ensures { IfOk result (IsLeastIn net.now src ways.now.dst class.now.prefix class.now.excluded) }
 {
-    let prefix = &links[..fixed];
     let all = net.links.as_slice();
-    let node = all[links[fixed] as usize].tail;
-    match first_link(net, ways, src, prefix, excluded, node) {
-        None => Ok(None),
-        Some(first) => {
-            match way_from(alloc, net, ways, all[first as usize].head)? {
-                Some(way) if !meets(all, src, prefix, &way) => {
-                    let found = join_links(alloc, prefix, first, &way)?;
-                    Ok(Some(found))
-                }
-                _ => detour(alloc, net, ways, src, prefix, excluded, node),
-            }
+    let link = all[class.first as usize];
+    let prefix = class.prefix.as_slice();
+    match way_from(alloc, net, ways, link.head)? {
+        Some(way) if !meets(all, src, prefix, &way) => {
+            let found = join_links(alloc, prefix, class.first, &way)?;
+            Ok(Some(found))
         }
+        _ => detour(
+            alloc,
+            net,
+            ways,
+            src,
+            prefix,
+            class.excluded.as_slice(),
+            link.tail,
+        ),
     }
 }
 
@@ -113,19 +115,59 @@ fn excluded_at_place(
     Ok(list)
 }
 
-/// Adds candidates for all paths of a class but its least.
+/// The class of the paths that leave the links at a place over a link that is not excluded, or `None`
+/// where there is no such path.
+fn class_at(
+    alloc: Global,
+    net: &Network,
+    ways: &Ways,
+    outgoing: &Outgoing,
+    src: u32,
+    links: &[u32],
+    place: usize,
+    excluded: Vec<u32>,
+) -> Result<Option<BoundedClass>, Memory>
+    requires sound { HasSoundLinks net.now }
+    requires ways { AreWays net.now ways.now }
+    requires outgoing { AreOutgoing net.now outgoing.now }
+    requires path { IsTrue (is_path net.now src ways.now.dst links.now) }
+    requires inside { place < length links.now }
+    ensures { IfOk result (IsClassOf net.now src ways.now (take place links.now) excluded.items) }
+{
+    let prefix = &links[..place];
+    let all = net.links.as_slice();
+    let node = all[links[place] as usize].tail;
+    match first_link(net, ways, outgoing, src, prefix, &excluded, node) {
+        None => Ok(None),
+        Some((first, sum)) => {
+            let bound = length_along(ways.costs.as_slice(), prefix) + sum;
+            let prefix = Items::new(Vec::from_slice(alloc, prefix)?);
+            let excluded = Items::new(excluded);
+            Ok(Some(BoundedClass {
+                prefix,
+                excluded,
+                first,
+                bound,
+            }))
+        }
+    }
+}
+
+/// Adds classes of all paths of a candidate's class but its least.
 pub fn split(
     alloc: Global,
     net: &Network,
     ways: &Ways,
+    outgoing: &Outgoing,
     src: u32,
     class: &Candidate,
-    next: &mut Vec<Candidate>,
+    bounded: &mut Vec<BoundedClass>,
 ) -> Result<(), Memory>
     requires sound { HasSoundLinks net.now }
     requires ways { AreWays net.now ways.now }
+    requires outgoing { AreOutgoing net.now outgoing.now }
     requires least { IsLeastCandidate net.now src ways.now.dst class.now }
-    ensures { OnOk result (Splits net.now src ways.now.dst class.now next.old.items next.new.items) }
+    ensures { OnOk result (Splits net.now src ways.now class.now bounded.old.items bounded.new.items) }
 {
     let links = class.links.as_slice();
     for place in class.fixed..links.len() {
@@ -136,16 +178,8 @@ pub fn split(
             class.excluded.as_slice(),
             place,
         )?;
-        match deviation(alloc, net, ways, src, links, place, &excluded)? {
-            Some(found) => {
-                let links = Items::new(found);
-                let excluded = Items::new(excluded);
-                next.push(Candidate {
-                    links,
-                    fixed: place,
-                    excluded,
-                })?;
-            }
+        match class_at(alloc, net, ways, outgoing, src, links, place, excluded)? {
+            Some(part) => bounded.push(part)?,
             None => {}
         }
     }

@@ -1,12 +1,14 @@
 //! The least path of a class where the least way over all links goes on from its prefix.
-ghost use Rattle.std.specs.Prelude.{◌≡◌, ◌⊎◌, ◌<◌, ◌≤◌, All, Some, MatchOption, length, slice_index_or};
+ghost use Rattle.std.specs.Prelude.{◌≡◌, ◌⊎◌, ◌^◌, ◌<◌, ◌≤◌, ℕ, All, Some, IfSome, MatchOption, length, slice_index_or};
 ghost use Rattle.std.specs.List.{list_any};
-ghost use Rattle.te_model.specs.Network.{link_count, no_link};
+ghost use Rattle.te_model.specs.Network.{link_count, node_count, no_link};
 ghost use Rattle.shortest_path.specs.Links.{HasSoundLinks};
 ghost use Rattle.shortest_path.specs.Ways.{AreWays};
-ghost use Rattle.k_paths.specs.Ways.{IsFirstLeastValue, is_visited, sum_over};
+ghost use Rattle.k_paths.specs.Outgoing.{AreOutgoing};
+ghost use Rattle.k_paths.specs.Ways.{IsFirstLeast, is_visited, sum_over};
 
 use crate::marks::{is_allowed, is_visited};
+use crate::outgoing::Outgoing;
 use shortest_path::Ways;
 use te_model::{Link, Network};
 
@@ -25,7 +27,8 @@ fn sum_over(
     requires ways { AreWays net.now ways.now }
     requires prefix { All (λ k. k < link_count net.now) prefix.now }
     requires link { h < link_count net.now }
-    ensures { result ≡ sum_over net.now ways.now src prefix.now excluded.now node h }
+    ensures is { result ≡ sum_over net.now ways.now src prefix.now excluded.now node h }
+    ensures small { IfSome result (λ x. x ≤ 2 ^ 65) }
 {
     let links = net.links.as_slice();
     let link = links[h as usize];
@@ -42,7 +45,8 @@ fn sum_over(
 
 /// The link of the lesser sum, the first where the sums are equal.
 fn lesser(best: Option<(u32, u128)>, h: u32, sum: u128) -> Option<(u32, u128)>
-    ensures { MatchOption best (result ≡ Some (h, sum)) (λ r. ((sum < r.1) × (result ≡ Some (h, sum))) ⊎ ((r.1 ≤ sum) × (result ≡ best))) }
+    ensures is { MatchOption best (result ≡ Some (h, sum)) (λ r. ((sum < r.1) × (result ≡ Some (h, sum))) ⊎ ((r.1 ≤ sum) × (result ≡ best))) }
+    ensures small { (n : ℕ) → IfSome best (λ r. r.1 ≤ n) → sum ≤ n → IfSome result (λ r. r.1 ≤ n) }
 {
     match best {
         None => Some((h, sum)),
@@ -50,30 +54,35 @@ fn lesser(best: Option<(u32, u128)>, h: u32, sum: u128) -> Option<(u32, u128)>
     }
 }
 
-/// The first link of the least sum, of those over which a path that begins with the prefix may go on.
+/// The first link of the least sum, of those over which a path that begins with the prefix may go on,
+/// with the sum.
 pub fn first_link(
     net: &Network,
     ways: &Ways,
+    outgoing: &Outgoing,
     src: u32,
     prefix: &[u32],
     excluded: &[u32],
     node: u32,
-) -> Option<u32>
+) -> Option<(u32, u128)>
     requires sound { HasSoundLinks net.now }
     requires ways { AreWays net.now ways.now }
+    requires outgoing { AreOutgoing net.now outgoing.now }
     requires prefix { All (λ k. k < link_count net.now) prefix.now }
-    ensures { IsFirstLeastValue (sum_over net.now ways.now src prefix.now excluded.now node) (link_count net.now) result }
+    requires node { node < node_count net.now }
+    ensures first { IsFirstLeast (sum_over net.now ways.now src prefix.now excluded.now node) (link_count net.now) result }
+    ensures small { IfSome result (λ r. r.1 ≤ 2 ^ 65) }
 {
+    let nexts = outgoing.nexts.as_slice();
     let mut best: Option<(u32, u128)> = None;
-    for h in 0..net.links.as_slice().len() {
-        if let Some(sum) = sum_over(net, ways, src, prefix, excluded, node, h as u32) {
-            best = lesser(best, h as u32, sum);
+    let mut h = outgoing.firsts.as_slice()[node as usize];
+    while (h as usize) < nexts.len() {
+        if let Some(sum) = sum_over(net, ways, src, prefix, excluded, node, h) {
+            best = lesser(best, h, sum);
         }
+        h = nexts[h as usize];
     }
-    match best {
-        Some((h, _)) => Some(h),
-        None => None,
-    }
+    best
 }
 
 /// Whether one of the links of the way leads to a node of the prefix.

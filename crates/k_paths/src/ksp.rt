@@ -2,8 +2,10 @@
 ghost use Rattle.std.specs.Prelude.{◌≡◌, ◌≤◌};
 ghost use Rattle.shortest_path.specs.Ways.{AreWays};
 ghost use Rattle.k_paths.specs.Even.{IsEvenSplit};
+ghost use Rattle.k_paths.specs.Outgoing.{AreOutgoing};
 
-use crate::least::k_least_by;
+use crate::least::k_least_along;
+use crate::outgoing::{Outgoing, outgoing_links};
 use routing::{Routing, even_mix};
 use scheme::{Oblivious, PairSplit, Scheme, SchemeFault, fixed_routing};
 use shortest_path::{Searches, Ways, ways_to};
@@ -27,14 +29,21 @@ pub struct KspPlan {
     pub routing: Routing,
 }
 
+/// The least ways to a node, and the links that leave each node.
+#[derive(Drop)]
+pub struct KspWays {
+    pub ways: Ways,
+    pub outgoing: Outgoing,
+}
+
 impl PairSplit for Ksp {
-    type Toward = Ways;
+    type Toward = KspWays;
 
     ghost limit = { 32 };
 
     ghost splits = { λ ksp. IsEvenSplit ksp.k };
 
-    ghost is_toward = { λ _ net dst ways. AreWays net ways × (ways.dst ≡ dst) };
+    ghost is_toward = { λ _ net dst toward. AreWays net toward.ways × (toward.ways.dst ≡ dst) × AreOutgoing net toward.outgoing };
 
     fn toward(
         &self,
@@ -42,18 +51,20 @@ impl PairSplit for Ksp {
         net: &Network,
         searches: &mut Searches,
         dst: u32,
-    ) -> Result<Ways, Memory> {
-        ways_to(alloc, net, searches, dst)
+    ) -> Result<KspWays, Memory> {
+        let ways = ways_to(alloc, net, searches, dst)?;
+        let outgoing = outgoing_links(alloc, net)?;
+        Ok(KspWays { ways, outgoing })
     }
 
     fn split(
         &self,
         alloc: Global,
         net: &Network,
-        toward: &Ways,
+        toward: &KspWays,
         pair: Pair,
     ) -> Result<Option<Vec<PathShare>>, Memory> {
-        let paths = k_least_by(alloc, net, toward, pair.src, self.k)?;
+        let paths = k_least_along(alloc, net, &toward.ways, &toward.outgoing, pair.src, self.k)?;
         if paths.is_empty() {
             return Ok(None);
         }

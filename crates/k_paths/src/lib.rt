@@ -10,9 +10,10 @@ mod law;
 mod least;
 mod marks;
 mod order;
+mod outgoing;
 mod search;
 mod sums;
 
-pub use ksp::{Ksp, KspPlan};
+pub use ksp::{Ksp, KspPlan, KspWays};
 pub use law::{even_splits_exist, first_paths_exist};
 pub use least::{k_least, k_least_by};

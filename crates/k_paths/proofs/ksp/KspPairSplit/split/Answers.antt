@@ -32,5 +32,5 @@ returns-clause-some c =
     (omega (arith, some, length-map paths.items (λ (p : Path). p.links), paths.ok.0))
     (subst (λ t. AreLeast c.args.net.now c.args.pair.src t c.args.self.now.k order) c.requires.toward.1 c.in_ok-paths.ensures) c.in_ok-merged.ensures
 
-pub k_least_by-requires-clause-apart : goal.k_least_by-requires-clause-apart
-k_least_by-requires-clause-apart c = λ e. c.requires.pair.apart (e ∙ c.requires.toward.1)
+pub k_least_along-requires-clause-apart : goal.k_least_along-requires-clause-apart
+k_least_along-requires-clause-apart c = λ e. c.requires.pair.apart (e ∙ c.requires.toward.1)

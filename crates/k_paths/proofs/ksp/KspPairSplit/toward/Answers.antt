@@ -1,0 +1,5 @@
+use Rattle.shortest_path.proofs.Sound.{sound}
+use Rattle.k_paths.proofs.ksp.KspPairSplit.toward.Goals as goal
+
+pub outgoing_links-requires : goal.outgoing_links-requires
+outgoing_links-requires c = sound c.args.net.now c.requires.network
