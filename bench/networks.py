@@ -1,16 +1,32 @@
-"""The networks of `publish` and `schemes`, by name: drawn ones with eight links a node, a ring, a cube and a fat tree. Links of one line rate, or of
-three, have the cost 1.
+"""The networks of `publish`, `schemes` and `nearness`, by name: drawn ones with eight links a node, a ring, a torus, a mesh, a cube and a fat tree. Links of
+one line rate, or of three, have the cost 1.
 """
 import os
 import random
 
 from dense_network import HEADER, dense_ends, ring_ends, write_matrices, write_network
 
-LINE_RATES, SEED, MOST_NODES = (10, 40, 100), 7, 128
+LINE_RATES, SEED, MOST_NODES, MOST_LINKS = (10, 40, 100), 7, 128, 1024
 
 
 class NoNetwork(Exception):
     """Why there is no network of this name with so many nodes."""
+
+
+def torus_ends(nodes):
+    """A square with a link from each node to its four neighbours, where the first row and column are neighbours of the last."""
+    side = next((k for k in range(3, MOST_NODES) if k * k == nodes), None)
+    if side is None:
+        raise NoNetwork("a torus has 9, 16, 25, 36, 49, 64, 81, 100 or 121 nodes")
+    fibres = [(i, i // side * side + (i + 1) % side) for i in range(nodes)] + [(i, (i + side) % nodes) for i in range(nodes)]
+    return [ends for tail, head in fibres for ends in ((tail, head), (head, tail))]
+
+
+def mesh_ends(nodes):
+    """Links between all nodes."""
+    if nodes * (nodes - 1) > MOST_LINKS:
+        raise NoNetwork("a mesh has 2 to 32 nodes")
+    return [(i, j) for i in range(nodes) for j in range(nodes) if i != j]
 
 
 def cube_ends(nodes):
@@ -21,13 +37,19 @@ def cube_ends(nodes):
     return [(i, i ^ 1 << digit) for i in range(nodes) for digit in range(digits)]
 
 
+def ports_of(nodes):
+    """How many ports a switch of a fat tree with so many switches has."""
+    ports = next((k for k in range(2, MOST_NODES, 2) if 5 * k * k // 4 == nodes), None)
+    if ports is None:
+        raise NoNetwork("a fat tree has 5, 20, 45, 80 or 125 nodes")
+    return ports
+
+
 def fat_tree_ends(nodes):
     """A fat tree of switches of k ports (Leiserson, 1985; as Al-Fares and others, 2008): k pods of k / 2 edge and k / 2 aggregation switches, and
     k * k / 4 core switches. The cores come first, and then pod by pod the aggregation switches and the edge switches.
     """
-    ports = next((k for k in range(2, MOST_NODES, 2) if 5 * k * k // 4 == nodes), None)
-    if ports is None:
-        raise NoNetwork("a fat tree has 5, 20, 45, 80 or 125 nodes")
+    ports = ports_of(nodes)
     half, fibres = ports // 2, []
     for pod in range(ports):
         first = half * half + pod * ports
@@ -42,10 +64,24 @@ NETWORKS = {
     "equal": (64, dense_ends, (10,)),
     "rates": (64, dense_ends, LINE_RATES),
     "ring": (64, lambda nodes, _: ring_ends(nodes), (10,)),
+    "torus": (64, lambda nodes, _: torus_ends(nodes), (10,)),
+    "mesh": (32, lambda nodes, _: mesh_ends(nodes), (10,)),
     "cube": (64, lambda nodes, _: cube_ends(nodes), (10,)),
     "fat-tree": (80, lambda nodes, _: fat_tree_ends(nodes), (10,)),
 }
 NAMES = ("drawn", *NETWORKS)
+
+
+def write_exchange(folder, name, nodes, demand=100):
+    """Writes tm.csv: each node, of a fat tree each edge switch, sends so much to the one half the way round."""
+    senders = list(range(nodes))
+    if name == "fat-tree":
+        ports = ports_of(nodes)
+        pods = range(ports * ports // 4, nodes, ports)
+        senders = [pod + place for pod in pods for place in range(ports // 2, ports)]
+    rows = [f"0,n{node},n{senders[place - len(senders) // 2]},{demand}\n" for place, node in enumerate(senders)]
+    with open(os.path.join(folder, "tm.csv"), "w", encoding="ascii") as file:
+        file.writelines(["step,source,target,demand\n", *rows])
 
 
 def nodes_of(name):

@@ -4,12 +4,15 @@ values that are recorded of them. No clause says how near they are, so this is w
 import importlib.machinery
 import importlib.util
 import os
+import tempfile
 
 import reference_check
 
 from .program import TOP
 
 NETWORKS = ("small", "abilene", "backbone")
+# A regular network and a scheme, of which a margin has a greater ratio than all matrices where the weights for these are not offered.
+MARGINS = (("fat-tree", "racke"),)
 # The greatest quotient of a published ratio over the least that is true of its routing, and of each kind by its scheme, a step at a time.
 OF_RATIOS = 1.02
 OF_STEPS = {("mcf", "parts / optimum"): 1.003, ("mcf", "optimum / low"): 1.02, ("smore", "parts / optimum on paths"): 1.01}
@@ -37,9 +40,21 @@ def faults_of(program, network):
         steps, found = script.quotients(lab, network, values)
     except (SystemExit, reference_check.ShapeFault) as fault:
         return [f"{fault}"]
-    faults = [f"set {name}, ratio {published}: {quotient} of the exact one" for name, published, _, quotient, *_ in ratios if is_above(quotient, OF_RATIOS)]
+    faults = [f"set {name}, ratio {published}: {quotient} of the exact one" for name, _, published, _, quotient, *_ in ratios if is_above(quotient, OF_RATIOS)]
     for (scheme, kind), most in OF_STEPS.items():
         quotients = found.get((scheme, kind), [])
         faults += [f"{scheme}, {kind}: {len(quotients)} steps of {steps}"] * (len(quotients) != steps)
         faults += [f"{scheme}, step {step}, {kind}: {quotient}" for step, quotient in enumerate(quotients) if is_above(quotient, most)]
     return faults + values.wrong
+
+
+def faults_of_margin(program, network, scheme):
+    """What is wrong where a margin, which has fewer matrices, has a greater ratio than all matrices."""
+    script = nearness()
+    try:
+        with tempfile.TemporaryDirectory() as room:
+            lab = script.laboratory(program, network, room)
+            for_all, for_margin = (lab.certificate({"publish": scheme, **keys})["ratio"] for keys in script.SETS.values())
+    except (SystemExit, reference_check.ShapeFault) as fault:
+        return [f"{fault}"]
+    return [f"the ratio is {for_margin} for a margin, and {for_all} for all matrices"] if for_margin > for_all * script.MOST_OF_MARGIN else []

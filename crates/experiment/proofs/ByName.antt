@@ -13,7 +13,7 @@ use Rattle.plan.specs.declared.experiment.Experiment.{Experiment}
 use Rattle.plan.specs.declared.scheme_name.SchemeName.{SchemeName}
 use Rattle.plan.specs.Words.{scheme_word}
 use Rattle.series_simulation.specs.declared.step_row.StepRow.{StepRow}
-use Rattle.ratio_certificate.specs.Made.{IsMade}
+use Rattle.ratio_certificate.specs.Offers.{IsMadeWithinAll}
 use Rattle.experiment.specs.Published.{published_set, IsMadeByPlan}
 use Rattle.experiment.specs.Schemes.{AreSchemeRows, IsSchemeRouting, meaning_of}
 use Rattle.experiment.specs.Text.{scheme_lines}
@@ -23,18 +23,21 @@ pub made_by_name : {E : Type 0} (name : SchemeName) (plan : Experiment) (net : N
     (kept : (meaning_of name plan).Plan → List PairRoutes) → ((p : (meaning_of name plan).Plan) → (meaning_of name plan).fixed p ≡ Some (kept p)) →
     plan.publish ≡ name → set ≡ published_set plan series → (r : Result Certificate E) →
     IfOk r (λ c. (p : (meaning_of name plan).Plan) × (meaning_of name plan).is_plan net series.pairs.list p
-    × IsMade net (trimmed_routes plan.budget (kept p)) set c) →
+    × IsMadeWithinAll net (trimmed_routes plan.budget (kept p)) set c) →
     IfOk r (IsMadeByPlan plan net series)
 made_by_name name plan net series set kept fixed named same r =
     IfOk-weaker r
     (λ c. (p : (meaning_of name plan).Plan) × (meaning_of name plan).is_plan net series.pairs.list p
-    × IsMade net (trimmed_routes plan.budget (kept p)) set c)
+    × IsMadeWithinAll net (trimmed_routes plan.budget (kept p)) set c)
     (IsMadeByPlan plan net series)
-    (λ c is. record {
+    (λ c is.
+    let within = subst (λ (s : DemandSet). IsMadeWithinAll net (trimmed_routes plan.budget (kept is.0)) s c) same is.2 in
+    record {
       routes = kept is.0;
       routing = subst (λ (n : SchemeName). IsSchemeRouting n plan net series.pairs.list (kept is.0)) (sym named)
           (record { plan = is.0; planned = is.1; kept = fixed is.0 });
-      made = subst (λ (s : DemandSet). IsMade net (trimmed_routes plan.budget (kept is.0)) s c) same is.2;
+      made = within.made;
+      all_matrices = within.all_matrices;
     })
 
 -- the lines of a scheme are those of its name

@@ -17,7 +17,7 @@ use Rattle.path_budget.specs.Budget.{trimmed_routes}
 use Rattle.path_budget.proofs.Trimming.{trimmed_has_few, trimmed_routing}
 use Rattle.scheme.specs.Reach.{AllReached, ArePairsOf}
 use Rattle.best_blocks.specs.Conditions.{IsSetWithin}
-use Rattle.ratio_certificate.proofs.CertificatesExist.{made_certificates_exist}
+use Rattle.ratio_certificate.proofs.OffersOfAll.{made_certificates_exist}
 use Rattle.failure.specs.declared.outage.Failures.{Failures}
 use Rattle.traffic_matrix.specs.declared.series.Series.{Series}
 use Rattle.traffic_matrix.specs.Limits.{IsSeries}
@@ -30,7 +30,7 @@ use Rattle.series_simulation.specs.declared.step_row.StepRow.{StepRow}
 use Rattle.series_simulation.proofs.Existence.{step_rows_exist}
 use Rattle.series_simulation.proofs.SeriesLemmas.{series_pairs}
 use Rattle.experiment.specs.Laws.{PublicationsExist, ReportsExist}
-use Rattle.ratio_certificate.specs.Made.{IsMade}
+use Rattle.ratio_certificate.specs.Offers.{IsMadeWithinAll}
 use Rattle.experiment.specs.Published.{IsMadeByPlan, IsMadeFile, published_set, seed_count, with_seed}
 use Rattle.experiment.specs.Report.{lines_of_schemes}
 use Rattle.experiment.specs.Schemes.{AreSchemeRows, meaning_of}
@@ -54,7 +54,7 @@ kept_routing plan Valiant oblivious net pairs p is = (p.routing.routes, refl, is
 -- a certificate of the heaviest paths of a routing
 made_certificate_exists : (net : Network) (pairs : List Pair) (budget : ℕ) (routes : List PairRoutes) (set : DemandSet) →
     is_well_formed net ≡ true → 1 ≤ link_count net → ArePairsOf net pairs → AscendPairs pairs → 1 ≤ budget → budget ≤ 32 → IsRoutingOf net pairs routes →
-    IsSetWithin (length pairs) set → (certificate : Certificate) × IsMade net (trimmed_routes budget routes) set certificate
+    IsSetWithin (length pairs) set → (certificate : Certificate) × IsMadeWithinAll net (trimmed_routes budget routes) set certificate
 made_certificate_exists net pairs budget routes set formed some are ascend some_kept few_kept of within_limits =
     let kept = trimmed_routes budget routes in
     let kept_of = trimmed_routing budget net pairs routes some_kept of in
@@ -71,7 +71,7 @@ pub made_file_exists : (net : Network) (pairs : List Pair) (budget : ℕ) (route
     IsSetWithin (length pairs) set → (file : List ℕ) × IsMadeFile net (trimmed_routes budget routes) set file
 made_file_exists net pairs budget routes set formed some are ascend some_kept few_kept of within_limits =
     let (certificate, made) = made_certificate_exists net pairs budget routes set formed some are ascend some_kept few_kept of within_limits in
-    (text certificate, record { certificate = certificate; made = made; text_is = refl })
+    (text certificate, record { certificate = certificate; made = made.made; text_is = refl })
 
 -- a certificate by the plan
 by_plan_exists : (plan : Experiment) (net : Network) (series : Series) → InRange plan → is_well_formed net ≡ true → 1 ≤ link_count net →
@@ -84,8 +84,15 @@ by_plan_exists plan net series range formed some is reached =
     let (certificate, made) =
     made_certificate_exists net pairs plan.budget routes (published_set plan series) formed some (series_pairs net series formed is)
     is.ascending range.budget_low range.budget_high of (set_within (node_count net) plan series range is)
-    in
-    (certificate, record { routes = routes; routing = record { plan = p; planned = planned; kept = kept }; made = made })
+    in (
+      certificate,
+      record {
+        routes = routes;
+        routing = record { plan = p; planned = planned; kept = kept };
+        made = made.made;
+        all_matrices = made.all_matrices;
+      },
+    )
 
 pub publications_exist : PublicationsExist
 publications_exist plan net series range formed some is reached =

@@ -1,7 +1,7 @@
 mod RoutingWithin
 mod Envelopes
 mod PublishedSets
-mod Fields
+pub mod JoinedFields
 mod Reports
 mod SchemeLines
 mod ByName

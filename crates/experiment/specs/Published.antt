@@ -10,7 +10,9 @@ use Rattle.te_model.specs.Inequalities.{Holds, first_failure}
 use Rattle.te_model.specs.Ratio.{IsObliviousRatio}
 use Rattle.te_model.specs.Text.{Spells, text}
 use Rattle.path_budget.specs.Budget.{trimmed_routes}
+use Rattle.ratio_certificate.specs.Form.{made_set, HasBounds}
 use Rattle.ratio_certificate.specs.Made.{IsMade}
+use Rattle.ratio_certificate.specs.Offers.{AreWithinAllMatrices}
 use Rattle.traffic_matrix.specs.First.{first_matrix}
 use Rattle.traffic_matrix.specs.declared.series.Series.{Series}
 use Rattle.plan.specs.declared.experiment.Experiment.{Experiment}
@@ -34,11 +36,14 @@ pub record IsMadeFile (net : Network) (routes : List PairRoutes) (set : DemandSe
   pub text_is : bytes ≡ text certificate
 
 -- a certificate that is made of the network, of a routing of the declared pairs by the plan's scheme, of which each pair keeps the
--- heaviest paths within the plan's budget, and of the plan's demand set
+-- heaviest paths within the plan's budget, and of the plan's demand set; between bounds no block needs more than by the weights of some
+-- certificate that is made for all matrices
 pub record IsMadeByPlan (plan : Experiment) (net : Network) (series : Series) (certificate : Certificate) : Type 0 where
   pub routes : List PairRoutes
   pub routing : IsSchemeRouting plan.publish plan net series.pairs.list routes
   pub made : IsMade net (trimmed_routes plan.budget routes) (published_set plan series) certificate
+  pub all_matrices : HasBounds (published_set plan series) →
+      AreWithinAllMatrices net (trimmed_routes plan.budget routes) (made_set net (published_set plan series)) certificate.blocks
 
 -- the plan with a seed in place of its own
 abbrev pub with_seed : Experiment → ℕ → Experiment

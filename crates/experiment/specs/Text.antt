@@ -44,10 +44,10 @@ pub record AmountsAtMost (bound : ℕ) (f : Figures) : Type 0 where
   pub lost_failed : f.lost_failed ≤ bound
   pub lost_no_path : f.lost_no_path ≤ bound
 
--- a lower bound, or a dash
-abbrev pub low_text : Option ℕ → List ℕ
-low_text None = codes "-"
-low_text (Some low) = decimal low
+-- a number in decimal, or a dash for none
+abbrev pub number_or_dash : Option ℕ → List ℕ
+number_or_dash None = codes "-"
+number_or_dash (Some number) = decimal number
 
 abbrev pub header : List ℕ
 header = codes "scheme,step,offered,delivered,lost_full,lost_failed,lost_no_path,peak,parts,low\n"
@@ -56,7 +56,7 @@ header = codes "scheme,step,offered,delivered,lost_full,lost_failed,lost_no_path
 abbrev pub line : List ℕ → List ℕ → Figures → Option ℕ → List ℕ
 line word step f low =
     join_with_byte 44 (word ∷ step ∷ decimal f.offered ∷ decimal f.delivered ∷ decimal f.lost_full ∷ decimal f.lost_failed
-    ∷ decimal f.lost_no_path ∷ decimal f.peak ∷ decimal f.parts ∷ low_text low ∷ [])
+    ∷ decimal f.lost_no_path ∷ decimal f.peak ∷ decimal f.parts ∷ number_or_dash low ∷ [])
     ++ 10 ∷ []
 
 abbrev pub step_line : List ℕ → StepRow → List ℕ

@@ -5,12 +5,14 @@
 //! - `publish`: a certificate of an oblivious scheme's routing.
 //! - `certificate_file`: the file of the certificate that a plan publishes.
 //! - `report`: the report of a plan's schemes over a series.
+//! - `fields`: the fields of a line of a report.
 //! - `published_files_are_accepted`: what every published file is.
 //! - `publications_exist`, `reports_exist`: what a plan asks for exists.
 #![tactic(auto)]
 
 mod demand_set;
 mod envelope;
+pub mod fields;
 mod figures;
 mod laws;
 mod lines;

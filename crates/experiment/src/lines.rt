@@ -1,36 +1,11 @@
 //! The lines of a scheme.
-ghost use Rattle.std.specs.Prelude.{◌≡◌, ◌∷◌, ◌++◌, OnOk, codes, decimal};
-ghost use Rattle.experiment.specs.Text.{line, step_line, low_text};
+ghost use Rattle.std.specs.Prelude.{◌≡◌, ◌++◌, OnOk, codes};
+ghost use Rattle.experiment.specs.Text.{line, step_line};
 
+use crate::fields::{print_field, print_number, print_number_or_dash};
 use crate::figures::Figures;
 use series_simulation::StepRow;
 use te_model::Memory;
-
-// Writes a comma and a field.
-fn print_field(text: &mut Vec<u8>, field: &str) -> Result<(), Memory>
-    ensures { OnOk result (text.new.items ≡ text.old.items ++ 44 ∷ field.now) }
-{
-    text.push(b',')?;
-    text.extend_from_slice(field.as_bytes())?;
-    Ok(())
-}
-
-// Writes a comma and a number.
-fn print_number(text: &mut Vec<u8>, number: u128) -> Result<(), Memory>
-    ensures { OnOk result (text.new.items ≡ text.old.items ++ 44 ∷ decimal number) }
-{
-    print_field(text, itoa::Buffer::new().format(number))
-}
-
-// Writes a comma, and the number or a dash.
-fn print_low(text: &mut Vec<u8>, low: Option<u128>) -> Result<(), Memory>
-    ensures { OnOk result (text.new.items ≡ text.old.items ++ 44 ∷ low_text low) }
-{
-    match low {
-        Some(bound) => print_number(text, bound),
-        None => print_field(text, "-"),
-    }
-}
 
 // Writes a line.
 fn print_line(
@@ -51,7 +26,7 @@ fn print_line(
     print_number(text, figures.lost_no_path)?;
     print_number(text, figures.peak)?;
     print_number(text, figures.parts)?;
-    print_low(text, low)?;
+    print_number_or_dash(text, low)?;
     text.push(b'\n')?;
     Ok(())
 }

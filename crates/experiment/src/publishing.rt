@@ -3,7 +3,7 @@ ghost use Rattle.std.specs.Prelude.{◌≡◌, ◌≤◌, IfOk, IfErr, OnOk, IsT
 ghost use Rattle.te_model.specs.Network.{is_well_formed, link_count};
 ghost use Rattle.path_budget.specs.Budget.{trimmed_routes};
 ghost use Rattle.best_blocks.specs.Conditions.{IsSetWithin};
-ghost use Rattle.ratio_certificate.specs.Made.{IsMade};
+ghost use Rattle.ratio_certificate.specs.Offers.{IsMadeWithinAll};
 ghost use Rattle.routing.specs.Routes.{HasFewPaths, IsRoutingOf};
 ghost use Rattle.scheme.specs.Fault.{IsFault};
 ghost use Rattle.scheme.specs.Reach.{AllReached, ArePairsOf};
@@ -42,7 +42,7 @@ fn budgeted_routing<S: Oblivious>(
 
 /// A certificate of the scheme's routing of the pairs, of each of which the `budget` heaviest paths are kept. Its format is the
 /// first where the network has at most 64 nodes and 512 links and the set is no box, and else the second, in which a margin stands
-/// as its box.
+/// as its box. Between bounds no block needs more than by the weights that are found for all matrices.
 ///
 /// `NoPath` names the first pair without a path, exactly where there is one, and `Memory` comes
 /// where memory is wanting.
@@ -62,7 +62,7 @@ pub fn publish<S: Oblivious>(
     requires some { 1 ≤ budget }
     requires few { budget ≤ 32 }
     ensures made { IfOk result (λ c. (plan : S.Plan) × S.Scheme.is_plan scheme.now net.now pairs.now.list plan
-        × IsMade net.now (trimmed_routes budget (S.fixed_routes scheme.now plan)) set c) }
+        × IsMadeWithinAll net.now (trimmed_routes budget (S.fixed_routes scheme.now plan)) set c) }
     ensures reached { OnOk result (AllReached net.now pairs.now.list) }
     ensures fault { IfErr result (IsFault net.now pairs.now.list) }
 {

@@ -21,19 +21,19 @@ use Rattle.best_blocks.proofs.BlocksExist.{best_blocks_exist}
 use Rattle.best_blocks.proofs.Needs.{is_need, no_need, pays_more}
 use Rattle.best_blocks.proofs.SharedExist.{shared_link_exists, shares_on_exist}
 use Rattle.best_blocks.proofs.SharesListed.{listed_some, some_listed}
+use Rattle.ratio_certificate.specs.declared.offers.Offer.{Offer}
 use Rattle.ratio_certificate.specs.declared.weighting.Weighting.{Weighting}
-use Rattle.ratio_certificate.specs.Form.{made_format, made_set, IsFormatFor}
-use Rattle.ratio_certificate.specs.Laws.{MadeCertificatesExist}
+use Rattle.ratio_certificate.specs.Form.{IsFormatFor}
 use Rattle.ratio_certificate.specs.Made.{IsMadeIn}
 use Rattle.ratio_certificate.specs.Making.{head_with, AreBlocksOf, AreMadeBlocks, AreSharedLinks}
+use Rattle.ratio_certificate.specs.Offers.{AreOffers, AreWithinOffers}
 use Rattle.ratio_certificate.specs.Places.{no_shared, weighting_at}
 use Rattle.ratio_certificate.specs.Steps.{AreWeightings}
 use Rattle.ratio_certificate.proofs.Certificates.{blocks_numbers, made_certificate}
 use Rattle.ratio_certificate.proofs.LinkLists.{block_added, link_added, link_left_out, no_blocks, no_links, rounds_start}
-use Rattle.ratio_certificate.proofs.MadeBlocks.{blocks_polished, made_blocks, within_limit, within_start, AreMaking}
-use Rattle.ratio_certificate.proofs.MadeForms.{format_for, set_within}
+use Rattle.ratio_certificate.proofs.MadeBlocks.{blocks_polished, made_blocks, within_limit, within_offers, within_start, AreMaking}
+use Rattle.ratio_certificate.proofs.OffersExist.{starts_exist}
 use Rattle.ratio_certificate.proofs.PolishExists.{polished_exist}
-use Rattle.ratio_certificate.proofs.RoundsExist.{best_rounds_exist}
 use Rattle.ratio_certificate.proofs.Weighed.{all_small}
 
 -- the links with a share
@@ -77,7 +77,7 @@ made_blocks_exist net routes wanted links start list formed within are weighting
     (blocks ++ block ∷ [], block_added n net routes wanted list blocks block so_far best)) (length list) (omega arith)
 
 -- blocks of which each has a need have a greatest one
-greatest_need_exists : (net : Network) (blocks : List Block) → All (λ b. IsNeed net b (need_of net b)) blocks → (need : ℕ) × IsGreatestNeed net blocks need
+pub greatest_need_exists : (net : Network) (blocks : List Block) → All (λ b. IsNeed net b (need_of net b)) blocks → (need : ℕ) × IsGreatestNeed net blocks need
 greatest_need_exists net [] all = (0, no_need net)
 greatest_need_exists net (b ∷ bs) all =
     let (rest, greatest) = greatest_need_exists net bs (All-tail (λ x. IsNeed net x (need_of net x)) b bs all) in
@@ -96,7 +96,7 @@ greatest_need_exists net (b ∷ bs) all =
     )
 
 -- each made block has a need
-made_needs : (net : Network) (routes : List PairRoutes) (wanted : DemandSet) (blocks : List Block) → is_well_formed net ≡ true → IsRoutingWithin net routes →
+pub made_needs : (net : Network) (routes : List PairRoutes) (wanted : DemandSet) (blocks : List Block) → is_well_formed net ≡ true → IsRoutingWithin net routes →
     AreMadeBlocks net routes wanted blocks → All (λ b. IsNeed net b (need_of net b)) blocks
 made_needs net routes wanted blocks formed within are k d below =
     let has = blocks_numbers net routes wanted blocks formed within are k d below in
@@ -105,7 +105,7 @@ made_needs net routes wanted blocks formed within are k d below =
     is_need net b (need_of net b) small.b.0 (capacities_positive net formed b.link (are.below k d below)) refl
 
 -- the certificate of made blocks and their greatest need
-certificate_made : (format : ℕ) (net : Network) (routes : List PairRoutes) (wanted : DemandSet) (links : List SharedLink) (start list : List Weighting) (blocks : List Block) (ratio : ℕ) →
+pub certificate_made : (format : ℕ) (net : Network) (routes : List PairRoutes) (wanted : DemandSet) (links : List SharedLink) (start list : List Weighting) (blocks : List Block) (ratio : ℕ) →
     is_well_formed net ≡ true → 1 ≤ link_count net → IsRoutingWithin net routes → IsSetWithin (length routes) wanted → IsFormatFor net wanted format →
     AreMaking net routes wanted links start list blocks → IsGreatestNeed net blocks ratio →
     IsMadeIn format net routes wanted (record { head = head_with format net routes wanted ratio; blocks = blocks })
@@ -116,25 +116,21 @@ certificate_made format net routes wanted links start list blocks ratio formed s
     (made_blocks net routes wanted links start list blocks all) (within_start net routes wanted blocks polished) polished (omega (arith, bound)) greatest
 
 -- a certificate of a format that has room for the network, and sets of this form
-pub made_in_exists : (format : ℕ) (net : Network) (routes : List PairRoutes) (wanted : DemandSet) → is_well_formed net ≡ true →
-    1 ≤ link_count net → IsRoutingWithin net routes → IsSetWithin (length routes) wanted → IsFormatFor net wanted format →
-    (c : Certificate) × IsMadeIn format net routes wanted c
-made_in_exists format net routes wanted formed some within set room =
+pub made_in_exists : (format : ℕ) (net : Network) (routes : List PairRoutes) (wanted : DemandSet) (offers : List Offer) → is_well_formed net ≡ true →
+    1 ≤ link_count net → IsRoutingWithin net routes → IsSetWithin (length routes) wanted → IsFormatFor net wanted format → AreOffers net offers →
+    (c : Certificate) × IsMadeIn format net routes wanted c × AreWithinOffers net routes wanted offers c.blocks
+made_in_exists format net routes wanted offers formed some within set room offered =
     let (links, are) = shared_links_exist net routes wanted within in
-    let (start, rounds) = best_rounds_exist net routes wanted links formed within are in
-    let (list, polished) = polished_exist net routes wanted links start formed within are (rounds_start net routes wanted links start rounds) in
+    let (start, starts) = starts_exist net routes wanted links offers formed within are offered in
+    let (list, polished) = polished_exist net routes wanted links start formed within are (rounds_start net routes wanted links start starts.rounds) in
     let (blocks, made) = made_blocks_exist net routes wanted links start list formed within are polished.weightings in
     let all : AreMaking net routes wanted links start list blocks =
-    record { links_are = are; rounds = rounds; polished = polished.weightings; done = polished.done; blocks_are = made }
+    record { links_are = are; rounds = starts.rounds; polished = polished.weightings; done = polished.done; blocks_are = made }
     in
     let (ratio, greatest) =
     greatest_need_exists net blocks (made_needs net routes wanted blocks formed within (made_blocks net routes wanted links start list blocks all))
     in (
       record { head = head_with format net routes wanted ratio; blocks = blocks },
       certificate_made format net routes wanted links start list blocks ratio formed some within set room all greatest,
+      within_offers net routes wanted links offers start list blocks formed all starts,
     )
-
-pub made_certificates_exist : MadeCertificatesExist
-made_certificates_exist net routes wanted formed some within set =
-    made_in_exists (made_format net wanted) net routes (made_set net wanted) formed some within
-    (set_within (length routes) (made_format net wanted) wanted set) (format_for net wanted formed)

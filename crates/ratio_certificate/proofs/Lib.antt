@@ -10,11 +10,14 @@ pub mod ScaleOnly
 pub mod Settling
 pub mod StartingNeed
 pub mod RoundMetrics
+pub mod Offered
 pub mod Stepping
 pub mod Trying
 pub mod LinkLists
 pub mod Responses
 pub mod Responding
+pub mod OtherMarks
+pub mod BoundedNeeds
 pub mod Searched
 pub mod Seeking
 pub mod Certificates
@@ -26,4 +29,6 @@ pub mod NextRoundExists
 pub mod RoundsExist
 pub mod Finding
 pub mod PolishExists
+pub mod OffersExist
 pub mod CertificatesExist
+pub mod OffersOfAll

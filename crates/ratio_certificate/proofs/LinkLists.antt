@@ -9,16 +9,19 @@ use Rattle.te_model.specs.declared.route.PairRoutes.{PairRoutes}
 use Rattle.te_model.specs.declared.certificate.Block.{Block}
 use Rattle.te_model.specs.declared.demand.DemandSet.{DemandSet}
 use Rattle.te_model.specs.Certificate.{empty_block}
+use Rattle.te_model.specs.Network.{link_count}
 use Rattle.te_model.proofs.Choices.{pushed_count, pushed_each}
 use Rattle.best_blocks.specs.declared.sharing.SharedLink.{SharedLink}
 use Rattle.best_blocks.specs.Best.{IsBestBlock}
 use Rattle.best_blocks.specs.Sharing.{HasShare, IsSharedLink}
+use Rattle.ratio_certificate.specs.declared.offers.Offer.{Offer}
 use Rattle.ratio_certificate.specs.declared.problem.Problem.{Problem}
 use Rattle.ratio_certificate.specs.declared.weighting.Weighting.{Weighting}
 use Rattle.ratio_certificate.specs.Making.{AreBlocksOf, AreSharedLinks}
+use Rattle.ratio_certificate.specs.Offering.{AreStarts, NeedsNoMoreThanOffers}
 use Rattle.ratio_certificate.specs.Places.{no_shared, no_weighting, shared_at, weighting_at}
-use Rattle.ratio_certificate.specs.Problems.{AreLinksOf, AreWeightingsOf}
-use Rattle.ratio_certificate.specs.Rising.{AreBestRounds, NeedsNoMore}
+use Rattle.ratio_certificate.specs.Problems.{AreLinksOf, AreWeightingsOf, IsProblem}
+use Rattle.ratio_certificate.specs.Rising.{AreWithinRounds, NeedsNoMore}
 use Rattle.ratio_certificate.specs.Steps.{AreWeightings}
 use Rattle.ratio_certificate.specs.Weighting.{IsWeighting}
 
@@ -87,7 +90,7 @@ link_left_out m net routes set links are none = record {
   ];
 }
 
-pub no_rounds : (net : Network) (routes : List PairRoutes) (set : DemandSet) (links : List SharedLink) → AreBestRounds 0 net routes set links []
+pub no_rounds : (net : Network) (routes : List PairRoutes) (set : DemandSet) (links : List SharedLink) → AreWithinRounds 0 net routes set links []
 no_rounds net routes set links = record {
   count = refl;
   links_are = λ k below. absurd (omega arith);
@@ -97,8 +100,8 @@ no_rounds net routes set links = record {
 }
 
 pub round_added : (n : ℕ) (net : Network) (routes : List PairRoutes) (set : DemandSet) (links : List SharedLink) (list : List Weighting) (w : Weighting) →
-    AreBestRounds n net routes set links list → w.link ≡ (shared_at links n).link → IsWeighting net routes set w → NeedsNoMore net routes set w.link 15 w →
-    w.need ≤ 1000000 * 2 ^ 42 → AreBestRounds (n + 1) net routes set links (list ++ w ∷ [])
+    AreWithinRounds n net routes set links list → w.link ≡ (shared_at links n).link → IsWeighting net routes set w → NeedsNoMore net routes set w.link 15 w →
+    w.need ≤ 1000000 * 2 ^ 42 → AreWithinRounds (n + 1) net routes set links (list ++ w ∷ [])
 round_added n net routes set links list w are is weighting least small = record {
   count = pushed_count list w n are.count;
   links_are = pushed_each (λ k x. x.link ≡ (shared_at links k).link) list w no_weighting n are.count are.links_are is;
@@ -107,9 +110,20 @@ round_added n net routes set links list w are is weighting least small = record 
   small = pushed_each (λ k x. x.need ≤ 1000000 * 2 ^ 42) list w no_weighting n are.count are.small small;
 }
 
+pub no_starts : (net : Network) (routes : List PairRoutes) (set : DemandSet) (links : List SharedLink) (offers : List Offer) → AreStarts 0 net routes set links offers []
+no_starts net routes set links offers = record { rounds = no_rounds net routes set links; offers_are = λ k below. absurd (omega arith) }
+
+pub start_added : (n : ℕ) (net : Network) (routes : List PairRoutes) (set : DemandSet) (links : List SharedLink) (offers : List Offer) (list : List Weighting) (w : Weighting) →
+    AreStarts n net routes set links offers list → w.link ≡ (shared_at links n).link → IsWeighting net routes set w → NeedsNoMore net routes set w.link 15 w →
+    w.need ≤ 1000000 * 2 ^ 42 → NeedsNoMoreThanOffers (length offers) net routes set offers w → AreStarts (n + 1) net routes set links offers (list ++ w ∷ [])
+start_added n net routes set links offers list w are is weighting least small offered = record {
+  rounds = round_added n net routes set links list w are.rounds is weighting least small;
+  offers_are = pushed_each (λ k x. NeedsNoMoreThanOffers (length offers) net routes set offers x) list w no_weighting n are.rounds.count are.offers_are offered;
+}
+
 -- the rounds are weights from which the polish starts
 pub rounds_start : (net : Network) (routes : List PairRoutes) (set : DemandSet) (links : List SharedLink) (list : List Weighting) →
-    AreBestRounds (length links) net routes set links list → AreWeightings net routes set links list list
+    AreWithinRounds (length links) net routes set links list → AreWeightings net routes set links list list
 rounds_start net routes set links list are = record {
   count = are.count;
   links_are = are.links_are;
@@ -128,6 +142,11 @@ block_added n net routes set list blocks b are best = record {
   each = pushed_each (λ k (x : Block). IsBestBlock net routes set (weighting_at list k).link (weighting_at list k).weights x) blocks b (empty_block 0) n
       are.count are.each best;
 }
+
+-- the links that were made, read as a slice
+pub links_read : (p : Problem) (links ls : List SharedLink) → ls ≡ links → IsProblem p →
+    AreSharedLinks (link_count p.net.now) p.net.now p.routing.now.routes p.set.now links → AreLinksOf p ls
+links_read p links ls is problem are = subst (AreLinksOf p) (sym is) (record { problem = problem; each = are.each })
 
 -- a link that was read from a list of links with a share
 pub shared_read : (p : Problem) (links : List SharedLink) (k : ℕ) (l : SharedLink) → k < length links → l ≡ get_or links k l → AreLinksOf p links →

@@ -21,12 +21,15 @@ use Rattle.best_blocks.specs.Sharing.{HasShare, IsSharedLink}
 use Rattle.te_model.proofs.Valid.{block_small}
 use Rattle.best_blocks.proofs.Needs.{is_need, pays_more}
 use Rattle.best_blocks.proofs.NeedLaws.{need_of_block, needs_are_one, scale_of_block}
+use Rattle.ratio_certificate.specs.declared.offers.Offer.{Offer}
 use Rattle.ratio_certificate.specs.declared.weighting.Weighting.{Weighting}
 use Rattle.ratio_certificate.specs.Made.{HasBlock, IsOwnBest, IsWithinStart}
 use Rattle.ratio_certificate.specs.Making.{AreBlocksOf, AreMadeBlocks, ArePaidBy, AreSharedLinks}
-use Rattle.ratio_certificate.specs.Places.{no_shared, shared_at, weighting_at}
+use Rattle.ratio_certificate.specs.Offering.{AreStarts}
+use Rattle.ratio_certificate.specs.Offers.{AreWithinOffers, IsWithinWeights}
+use Rattle.ratio_certificate.specs.Places.{no_offer, no_shared, offer_at, shared_at, weighting_at}
 use Rattle.ratio_certificate.specs.Polished.{IsFine, IsPolished, IsWithinRounds, IsWorst, IsWorstBlock}
-use Rattle.ratio_certificate.specs.Rising.{AreBestRounds, NeedsNoMore}
+use Rattle.ratio_certificate.specs.Rising.{AreWithinRounds, NeedsNoMore}
 use Rattle.ratio_certificate.specs.Steps.{AreWeightings, IsDone, IsSettledAt}
 use Rattle.ratio_certificate.specs.Weighting.{AreWeights}
 use Rattle.ratio_certificate.proofs.Certificates.{blocks_numbers}
@@ -36,7 +39,7 @@ use Rattle.ratio_certificate.proofs.Settling.{settled_block}
 -- all that is known once the blocks are made
 pub record AreMaking (net : Network) (routes : List PairRoutes) (set : DemandSet) (links : List SharedLink) (start list : List Weighting) (blocks : List Block) : Type 0 where
   pub links_are : AreSharedLinks (link_count net) net routes set links
-  pub rounds : AreBestRounds (length links) net routes set links start
+  pub rounds : AreWithinRounds (length links) net routes set links start
   pub polished : AreWeightings net routes set links start list
   pub done : IsDone net routes set list
   pub blocks_are : AreBlocksOf (length list) net routes set list blocks
@@ -188,18 +191,20 @@ pub within_start : (net : Network) (routes : List PairRoutes) (set : DemandSet) 
     All (IsWithinStart net routes set) blocks
 within_start net routes set blocks polished k d below best is_best = polished.rounds k d below 0 (omega arith) _ refl best is_best
 
--- the same from lists that are lent to each call
-pub making_read : (net : Network) (routes : List PairRoutes) (set : DemandSet) (links first second third : List SharedLink) (start list lent : List Weighting) (blocks : List Block) →
-    first ≡ links → second ≡ links → third ≡ links → lent ≡ list → AreSharedLinks (link_count net) net routes set links →
-    AreBestRounds (length first) net routes set first start → AreWeightings net routes set second start list → IsDone net routes set list →
-    AreBlocksOf (length lent) net routes set lent blocks → AreMaking net routes set links start list blocks
-making_read net routes set links first second third start list lent blocks is_first is_second is_third is_lent are rounds polished done made = record {
-  links_are = are;
-  rounds = subst (λ (x : List SharedLink). AreBestRounds (length x) net routes set x start) is_first rounds;
-  polished = subst (λ (x : List SharedLink). AreWeightings net routes set x start list) is_second polished;
-  done = done;
-  blocks_are = subst (λ (x : List Weighting). AreBlocksOf (length x) net routes set x blocks) is_lent made;
-}
+-- no block needs more than the best block of each offer for its link
+pub within_offers : (net : Network) (routes : List PairRoutes) (set : DemandSet) (links : List SharedLink) (offers : List Offer) (start list : List Weighting) (blocks : List Block) →
+    is_well_formed net ≡ true → AreMaking net routes set links start list blocks → AreStarts (length links) net routes set links offers start →
+    AreWithinOffers net routes set offers blocks
+within_offers net routes set links offers start list blocks formed all starts =
+    All-from_get_or (λ b. All (λ o. IsWithinWeights net routes set o.link o.weights b) offers) blocks (empty_block 0) (λ k below.
+    let b = block_at blocks k in
+    let within = inside_links net routes set links start list blocks k all below in
+    let need = need_is net routes set links start list blocks k formed all below in
+    let same : (weighting_at start k).link ≡ b.link = all.rounds.links_are k within ∙ sym (link_is net routes set links start list blocks k all below) in
+    All-from_get_or (λ o. IsWithinWeights net routes set o.link o.weights b) offers no_offer (λ i inside of_link best is_best.
+    let o = offer_at offers i in
+    let bound = starts.offers_are k within i inside (same ∙ of_link) (need_of net best) (need_of_block net routes set o.link o.weights best is_best) in
+    omega (arith, need, all.polished.no_more k within, bound)))
 
 -- the limit of ratios pays for the blocks
 pub within_limit : (net : Network) (routes : List PairRoutes) (set : DemandSet) (links : List SharedLink) (start list : List Weighting) (blocks : List Block) →

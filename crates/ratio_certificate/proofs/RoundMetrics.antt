@@ -6,7 +6,7 @@ use Rattle.std.proofs.lemmas.List.{get_or-replicate}
 use Rattle.te_model.specs.declared.network.Network.{Network}
 use Rattle.te_model.specs.declared.route.PairRoutes.{PairRoutes}
 use Rattle.te_model.specs.declared.demand.DemandSet.{DemandSet}
-use Rattle.te_model.specs.Network.{is_well_formed, link_count}
+use Rattle.te_model.specs.Network.{is_well_formed, link_count, node_count}
 use Rattle.te_model.proofs.WellFormed.{capacities_positive}
 use Rattle.best_blocks.specs.declared.metric.Metric.{Metric}
 use Rattle.best_blocks.specs.declared.sharing.SharedLink.{SharedLink}
@@ -18,6 +18,7 @@ use Rattle.best_blocks.specs.Under.{IsNeedUnder}
 use Rattle.best_blocks.proofs.NeedLaws.{needs_are_one}
 use Rattle.ratio_certificate.specs.declared.raising.NextRound.{NextRound}
 use Rattle.ratio_certificate.specs.declared.weighting.Weighting.{Weighting}
+use Rattle.ratio_certificate.specs.Problems.{IsStartingMetric}
 use Rattle.ratio_certificate.specs.Rising.{IsRoundAfter, IsRoundMetric, NeedsNoMore}
 use Rattle.ratio_certificate.specs.Rounds.{greatest_of_round, starting_weights, IsNextRound, IsWeightRound}
 use Rattle.ratio_certificate.specs.Weighting.{AreWeights, IsWeighting}
@@ -61,6 +62,14 @@ pub first_made : {E : Type 0} (net : Network) (routes : List PairRoutes) (l : Sh
 first_made net routes l marks weights (Ok m) is_marks are metric kept =
     first_round net routes l m (subst (λ (x : List Bool). IsMetric net routes x m) is_marks metric) (kept ∙ are)
 first_made net routes l marks weights (Err e) is_marks are metric kept = tt
+
+-- the metric with a row for each node, if it was made
+pub starting_made : {E : Type 0} (net : Network) (routes : List PairRoutes) (marks : List Bool) (weights : List ℕ) (r : Result Metric E) →
+    marks ≡ replicate (node_count net) true → weights ≡ replicate (link_count net) (2 ^ 20) → IfOk r (λ m. IsMetric net routes marks m) →
+    IfOk r (λ m. m.weights ≡ weights) → IfOk r (IsStartingMetric net routes)
+starting_made net routes marks weights (Ok m) is_marks are metric kept =
+    record { metric = subst (λ (x : List Bool). IsMetric net routes x m) is_marks metric; weights_are = kept ∙ are }
+starting_made net routes marks weights (Err e) is_marks are metric kept = tt
 
 -- the next round's weights stay small
 next_high : (net : Network) (routes : List PairRoutes) (l : SharedLink) (k : ℕ) (m : Metric) (next : NextRound) → IsRoundMetric net routes l k m →
@@ -117,7 +126,7 @@ first_least net routes set l m w formed shared is weighting link_is weights_are 
     omega (arith, same)
 
 -- the lesser of two is one of them
-chosen : (first second result : Weighting) → (first.need ≤ second.need → result ≡ first) → (second.need < first.need → result ≡ second) →
+pub chosen : (first second result : Weighting) → (first.need ≤ second.need → result ≡ first) → (second.need < first.need → result ≡ second) →
     ((result ≡ first) ⊎ (result ≡ second)) × (result.need ≤ first.need) × (result.need ≤ second.need)
 chosen first second result keeps takes = elim (cases_lt second.need first.need) [
   | inl lt ↦ let same = ap (λ (w : Weighting). w.need) (takes lt) in (inr (takes lt), omega (arith, same, lt), omega (arith, same))

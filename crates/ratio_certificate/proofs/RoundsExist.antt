@@ -1,8 +1,8 @@
--- That each link with a share has its rounds, and a best one of them.
-use Rattle.std.proofs.Common.{◌≡◌, ℕ, ◌+◌, ◌*◌, ◌^◌, ◌<◌, ◌≤◌, true, List, [], ◌∷◌, ◌++◌, length, replicate, arith, refl, subst, sym, inl, inr, ◌∙◌}
+-- That each link with a share has its rounds.
+use Rattle.std.proofs.Common.{◌≡◌, ℕ, ◌+◌, ◌*◌, ◌^◌, ◌<◌, ◌≤◌, true, List, replicate, arith, refl, inl, inr, ◌∙◌}
 use Rattle.std.proofs.lemmas.Bool.{cases_lt}
 use Rattle.std.proofs.lemmas.List.{length-replicate}
-use Rattle.std.proofs.lemmas.List.Elements.{All-get_or, All-replicate}
+use Rattle.std.proofs.lemmas.List.Elements.{All-replicate}
 use Rattle.te_model.specs.declared.network.Network.{Network}
 use Rattle.te_model.specs.declared.route.PairRoutes.{PairRoutes}
 use Rattle.te_model.specs.declared.demand.DemandSet.{DemandSet}
@@ -14,17 +14,14 @@ use Rattle.best_blocks.specs.Sharing.{IsSharedLink}
 use Rattle.best_blocks.proofs.MetricsExist.{metric_exists}
 use Rattle.ratio_certificate.specs.declared.rounds.Rounds.{Rounds}
 use Rattle.ratio_certificate.specs.declared.weighting.Weighting.{Weighting}
-use Rattle.ratio_certificate.specs.Making.{AreSharedLinks}
-use Rattle.ratio_certificate.specs.Places.{no_shared, shared_at}
-use Rattle.ratio_certificate.specs.Rising.{AreBestRounds, AreRoundsTo, NeedsNoMore}
+use Rattle.ratio_certificate.specs.Rising.{AreRoundsTo}
 use Rattle.ratio_certificate.specs.Weighting.{IsWeighting}
-use Rattle.ratio_certificate.proofs.LinkLists.{no_rounds, round_added}
 use Rattle.ratio_certificate.proofs.NextRoundExists.{next_round_exists}
 use Rattle.ratio_certificate.proofs.RoundMetrics.{first_least, first_round, first_small, lesser_is, lesser_small, next_least, next_small, round_after_round, round_weights}
 use Rattle.ratio_certificate.proofs.WeightingsExist.{metric_weighting_exists}
 
 -- the lesser of two, and the first of equal ones
-lesser_exists : (first second : Weighting) → (w : Weighting) × (first.need ≤ second.need → w ≡ first) × (second.need < first.need → w ≡ second)
+pub lesser_exists : (first second : Weighting) → (w : Weighting) × (first.need ≤ second.need → w ≡ first) × (second.need < first.need → w ≡ second)
 lesser_exists first second = elim (cases_lt second.need first.need) [
   | inl lt ↦ (second, λ le. absurd (omega (arith, lt, le)), λ less. refl)
   | inr ge ↦ (first, λ le. refl, λ less. absurd (omega (arith, ge, less)))
@@ -79,17 +76,3 @@ pub rounds_exist : (net : Network) (routes : List PairRoutes) (wanted : DemandSe
 rounds_exist net routes wanted l formed within shared =
     step_by_step (λ k (r : Rounds). AreRoundsTo k net routes wanted l r) 15 (first_rounds_exist net routes wanted l formed within shared)
     (λ k r few are. next_rounds_exist net routes wanted l k r formed within shared few are) 15 (omega arith)
-
--- the best round of each link with a share
-pub best_rounds_exist : (net : Network) (routes : List PairRoutes) (wanted : DemandSet) (links : List SharedLink) →
-    is_well_formed net ≡ true → IsRoutingWithin net routes → AreSharedLinks (link_count net) net routes wanted links →
-    (list : List Weighting) × AreBestRounds (length links) net routes wanted links list
-best_rounds_exist net routes wanted links formed within are =
-    step_by_step (λ n (list : List Weighting). AreBestRounds n net routes wanted links list) (length links) ([], no_rounds net routes wanted links)
-    (λ n list below so_far.
-    let l = shared_at links n in
-    let (r, all) = rounds_exist net routes wanted l formed within (All-get_or (IsSharedLink net routes wanted) links n no_shared below are.each) in
-    let w = r.best in (
-      list ++ w ∷ [],
-      round_added n net routes wanted links list w so_far all.link all.weighting (subst (λ e. NeedsNoMore net routes wanted e 15 w) (sym all.link) all.least) all.small,
-    )) (length links) (omega arith)

@@ -14,6 +14,12 @@ is_box All = false
 is_box (Margin num den base) = false
 is_box (Box lower upper) = true
 
+-- a set of the matrices between bounds
+abbrev pub HasBounds : DemandSet → Type 0
+HasBounds All = ⊥
+HasBounds (Margin num den base) = ⊤
+HasBounds (Box lower upper) = ⊤
+
 -- whether the first format has room for the network, and sets of this form
 abbrev pub fits_first_format : Network → DemandSet → Bool
 fits_first_format net set = nat_le (node_count net) FORMAT_1.nodes && nat_le (link_count net) FORMAT_1.links && not (is_box set)

@@ -3,6 +3,8 @@ pub mod Form
 pub mod Laws
 pub mod Made
 pub mod Making
+pub mod Offering
+pub mod Offers
 pub mod Places
 pub mod Polished
 pub mod Pricing

@@ -1,6 +1,8 @@
 -- What a certificate is made for, and what is said of its links and of their weights.
-use Rattle.std.specs.Prelude.{ℕ, ◌<◌, IsTrue, All, List, length}
-use Rattle.te_model.specs.Network.{is_well_formed, link_count}
+use Rattle.std.specs.Prelude.{◌≡◌, ℕ, ◌<◌, true, IsTrue, All, List, length, replicate}
+use Rattle.te_model.specs.declared.network.Network.{Network}
+use Rattle.te_model.specs.declared.route.PairRoutes.{PairRoutes}
+use Rattle.te_model.specs.Network.{is_well_formed, link_count, node_count}
 use Rattle.best_blocks.specs.declared.metric.Metric.{Metric}
 use Rattle.best_blocks.specs.declared.sharing.SharedLink.{SharedLink}
 use Rattle.best_blocks.specs.Conditions.{IsRoutingWithin, IsSetWithin}
@@ -8,14 +10,21 @@ use Rattle.best_blocks.specs.Metric.{IsMetric}
 use Rattle.best_blocks.specs.Sharing.{IsSharedLink}
 use Rattle.ratio_certificate.specs.declared.problem.Problem.{Problem}
 use Rattle.ratio_certificate.specs.declared.weighting.Weighting.{Weighting}
+use Rattle.ratio_certificate.specs.Rounds.{starting_weights}
 use Rattle.ratio_certificate.specs.Steps.{AreWeightings, IsDone, IsProgress, IsSettledAt}
 use Rattle.ratio_certificate.specs.Weighting.{IsWeighting}
 
--- a well-formed network, and a routing and a set within the limits of certificates
+-- the metric of the starting weights, with a row for each node
+pub record IsStartingMetric (net : Network) (routes : List PairRoutes) (m : Metric) : Type 0 where
+  pub metric : IsMetric net routes (replicate (node_count net) true) m
+  pub weights_are : m.weights ≡ starting_weights net
+
+-- a well-formed network, a routing and a set within the limits of certificates, and the metric of the starting weights
 pub record IsProblem (p : Problem) : Type 0 where
   pub network : IsTrue (is_well_formed p.net.now)
   pub routing : IsRoutingWithin p.net.now p.routing.now.routes
   pub set : IsSetWithin (length p.routing.now.routes) p.set.now
+  pub first : IsStartingMetric p.net.now p.routing.now.routes p.first.now
 
 -- a link of the network with a share
 abbrev pub IsLinkOf : Problem → SharedLink → Type 0
@@ -29,6 +38,10 @@ pub record AreLinksOf (p : Problem) (links : List SharedLink) : Type 0 where
 -- a metric for the pairs with a share on the link
 abbrev pub IsMetricOf : Problem → SharedLink → Metric → Type 0
 IsMetricOf p l m = IsMetric p.net.now p.routing.now.routes l.marks m
+
+-- a metric for the pairs with a share on each of the links
+abbrev pub IsMetricOfEach : Problem → List SharedLink → Metric → Type 0
+IsMetricOfEach p links m = All (λ l. IsMetric p.net.now p.routing.now.routes l.marks m) links
 
 -- weights of a link with their best scale and their need
 abbrev pub IsWeightingOf : Problem → Weighting → Type 0

@@ -1,8 +1,6 @@
 -- The numbers of a response to weights of a link, and the rows that it reads.
-use Rattle.std.specs.Prelude.{◌≡◌, ℕ, ◌^◌, ◌<◌, ◌≤◌, length, ⊤}
+use Rattle.std.specs.Prelude.{◌≡◌, ℕ, ◌^◌, ◌<◌, ◌≤◌, length}
 use Rattle.te_model.specs.declared.network.Network.{Network}
-use Rattle.te_model.specs.declared.demand.DemandSet.{DemandSet}
-use Rattle.te_model.specs.declared.demand.DemandSet.TheVariants.{All as AllMatrices, Margin, Box}
 use Rattle.te_model.specs.Network.{node_count}
 use Rattle.best_blocks.specs.declared.metric.Metric.{Metric}
 use Rattle.best_blocks.specs.declared.scaling.Scale.{Scale}
@@ -19,9 +17,3 @@ IsSmallScale scale = (scale.a ≤ 2 ^ 36) × (scale.b ≤ 2 ^ 36)
 -- twice the parts of a step
 abbrev pub IsNearness : ℕ → Type 0
 IsNearness near = (1 ≤ near) × (near ≤ 256)
-
--- a set of the matrices between bounds
-abbrev pub HasBounds : DemandSet → Type 0
-HasBounds AllMatrices = ⊥
-HasBounds (Margin num den base) = ⊤
-HasBounds (Box lower upper) = ⊤

@@ -45,8 +45,8 @@ pub record AreRoundsTo (k : ℕ) (net : Network) (routes : List PairRoutes) (set
   pub least : NeedsNoMore net routes set l.link k rounds.best
   pub small : rounds.best.need ≤ 1000000 * 2 ^ 42
 
--- the best round of each of the first n links, whose need is within the limit of ratios
-pub record AreBestRounds (n : ℕ) (net : Network) (routes : List PairRoutes) (set : DemandSet) (links : List SharedLink) (list : List Weighting) : Type 0 where
+-- weights for each of the first n links that need no more than any of its rounds, and no more than the limit of ratios
+pub record AreWithinRounds (n : ℕ) (net : Network) (routes : List PairRoutes) (set : DemandSet) (links : List SharedLink) (list : List Weighting) : Type 0 where
   pub count : length list ≡ n
   pub links_are : (k : ℕ) → k < n → (weighting_at list k).link ≡ (shared_at links k).link
   pub each : (k : ℕ) → k < n → IsWeighting net routes set (weighting_at list k)

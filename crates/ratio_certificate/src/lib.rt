@@ -3,12 +3,14 @@
 //! - `need`: how great a ratio a block needs.
 //! - `scale`: the best block of a link for given weights.
 //! - `make`: a certificate of a routing, of the best of sixteen rounds for each link, searched where it needs most, and polished.
+//!   `improve`: the same from weights that are offered for its blocks.
 #![tactic(auto)]
 
 mod changes;
 mod form;
 mod law;
 mod making;
+mod offers;
 mod polish;
 mod problem;
 mod raising;
@@ -19,5 +21,6 @@ mod seek;
 mod weighting;
 
 pub use best_blocks::{need, scale};
-pub use law::made_certificates_exist;
-pub use making::make;
+pub use law::{bounded_blocks_need_little_more, made_certificates_exist};
+pub use making::{improve, make};
+pub use offers::Offer;

@@ -4,18 +4,21 @@ ghost use Rattle.te_model.specs.Network.{is_well_formed, link_count};
 ghost use Rattle.routing.specs.Shares.{AreShares};
 ghost use Rattle.best_blocks.specs.Best.{IsBestBlock};
 ghost use Rattle.best_blocks.specs.Conditions.{IsRoutingWithin, IsSetWithin};
-ghost use Rattle.ratio_certificate.specs.Form.{IsFormatFor};
+ghost use Rattle.ratio_certificate.specs.Form.{made_set, HasBounds, IsFormatFor};
 ghost use Rattle.ratio_certificate.specs.Made.{IsMade, IsMadeIn};
 ghost use Rattle.ratio_certificate.specs.Making.{head_with, AreBlocksOf, AreMadeBlocks, ArePaidBy, AreSharedLinks};
+ghost use Rattle.ratio_certificate.specs.Offering.{AreOffersFor, AreOffersOfAll, ArePolishedFrom, AreStarts, NeedsNoMoreThanOffers};
+ghost use Rattle.ratio_certificate.specs.Offers.{AreOffers, AreWithinAllMatrices, AreWithinOffers};
 ghost use Rattle.ratio_certificate.specs.Polished.{IsPolished};
 ghost use Rattle.ratio_certificate.specs.Problems.{AreLinksOf, AreWeightingsOf, IsDoneOf, IsLinkOf, IsMetricOf, IsProblem, IsWeightingOf};
-ghost use Rattle.ratio_certificate.specs.Rising.{AreBestRounds};
+ghost use Rattle.ratio_certificate.specs.Rising.{NeedsNoMore};
 ghost use Rattle.ratio_certificate.specs.Weighting.{AreWeights};
 
 use crate::form::{made_format, set_in};
+use crate::offers::{Offer, offers_of, take_offers};
 use crate::polish::{metric_by, polish};
 use crate::problem::Problem;
-use crate::rounds::best_round;
+use crate::rounds::{best_round, starting_metric};
 use crate::search::search;
 use crate::weighting::Weighting;
 use best_blocks::{Metric, SharedLink, best_block, greatest_need, shared_link};
@@ -60,25 +63,48 @@ fn links_of(alloc: Global, problem: &Problem) -> Result<Vec<SharedLink>, Memory>
     shared_links(alloc, problem, &shares)
 }
 
-/// The best round of each of the links.
-fn best_rounds(
+/// Weights of the link from which the search starts: those of its best round, or of an offer where these need less.
+fn best_start(
+    alloc: Global,
+    problem: &Problem,
+    shared: &SharedLink,
+    offers: &[Offer],
+) -> Result<Weighting, Memory>
+    requires problem { IsProblem problem.now }
+    requires shared { IsLinkOf problem.now shared.now }
+    requires offers { AreOffers problem.now.net.now offers.now }
+    ensures link { IfOk result (λ w. w.link ≡ shared.now.link) }
+    ensures weighting { IfOk result (IsWeightingOf problem.now) }
+    ensures least { IfOk result (NeedsNoMore problem.now.net.now problem.now.routing.now.routes problem.now.set.now shared.now.link 15) }
+    ensures small { IfOk result (λ w. w.need ≤ 1000000 * 2 ^ 42) }
+    ensures offers { IfOk result (NeedsNoMoreThanOffers (length offers.now) problem.now.net.now problem.now.routing.now.routes problem.now.set.now offers.now) }
+{
+    let mut best = best_round(alloc, problem, shared)?;
+    take_offers(alloc, problem, shared, offers, &mut best)?;
+    Ok(best)
+}
+
+/// Weights of each of the links from which the search starts.
+fn starts(
     alloc: Global,
     problem: &Problem,
     links: &[SharedLink],
+    offers: &[Offer],
 ) -> Result<Vec<Weighting>, Memory>
     requires links { AreLinksOf problem.now links.now }
-    ensures { IfOk result (λ l. AreBestRounds (length links.now) problem.now.net.now problem.now.routing.now.routes problem.now.set.now links.now l.items) }
+    requires offers { AreOffers problem.now.net.now offers.now }
+    ensures { IfOk result (λ l. AreStarts (length links.now) problem.now.net.now problem.now.routing.now.routes problem.now.set.now links.now offers.now l.items) }
 {
     let mut list = Vec::with_capacity(alloc, links.len())?;
     for shared in links {
-        let weighting = best_round(alloc, problem, shared)?;
+        let weighting = best_start(alloc, problem, shared, offers)?;
         list.push(weighting)?;
     }
     Ok(list)
 }
 
 /// Puts weights that are searched for, and then polished, in place of those of the links.
-fn improve(
+fn search_and_polish(
     alloc: Global,
     problem: &Problem,
     links: &[SharedLink],
@@ -92,6 +118,22 @@ fn improve(
     search(alloc, problem, links, weightings)?;
     polish(alloc, problem, links, weightings)?;
     Ok(())
+}
+
+/// Polished weights of each of the links.
+fn polished_weightings(
+    alloc: Global,
+    problem: &Problem,
+    links: &[SharedLink],
+    offers: &[Offer],
+) -> Result<Vec<Weighting>, Memory>
+    requires links { AreLinksOf problem.now links.now }
+    requires offers { AreOffers problem.now.net.now offers.now }
+    ensures { IfOk result (λ l. ArePolishedFrom problem.now.net.now problem.now.routing.now.routes problem.now.set.now links.now offers.now l.items) }
+{
+    let mut list = starts(alloc, problem, links, offers)?;
+    search_and_polish(alloc, problem, links, &mut list)?;
+    Ok(list)
 }
 
 /// What stands for a block that is not there.
@@ -170,15 +212,16 @@ fn blocks_of(
 }
 
 /// Polished best blocks of the links with a share, ascending.
-fn polished_blocks(alloc: Global, problem: &Problem) -> Result<Vec<Block>, Memory>
+fn polished_blocks(alloc: Global, problem: &Problem, offers: &[Offer]) -> Result<Vec<Block>, Memory>
     requires problem { IsProblem problem.now }
+    requires offers { AreOffers problem.now.net.now offers.now }
     ensures made { IfOk result (λ b. AreMadeBlocks problem.now.net.now problem.now.routing.now.routes problem.now.set.now b.items) }
     ensures polished { IfOk result (λ b. IsPolished problem.now.net.now problem.now.routing.now.routes problem.now.set.now b.items) }
     ensures small { IfOk result (λ b. ArePaidBy (1000000 * 2 ^ 42) problem.now.net.now b.items) }
+    ensures within { IfOk result (λ b. AreWithinOffers problem.now.net.now problem.now.routing.now.routes problem.now.set.now offers.now b.items) }
 {
     let links = links_of(alloc, problem)?;
-    let mut list = best_rounds(alloc, problem, &links)?;
-    improve(alloc, problem, &links, &mut list)?;
+    let list = polished_weightings(alloc, problem, &links, offers)?;
     blocks_of(alloc, problem, &links, &list)
 }
 
@@ -211,20 +254,25 @@ fn certify(
     routing: &Routing,
     set: DemandSet,
     format: u32,
+    offers: &[Offer],
 ) -> Result<Certificate, Memory>
     requires network { IsTrue (is_well_formed net.now) }
     requires links { 1 ≤ link_count net.now }
     requires routing { IsRoutingWithin net.now routing.now.routes }
     requires set { IsSetWithin (length routing.now.routes) set }
     requires format { IsFormatFor net.now set format }
-    ensures { IfOk result (IsMadeIn format net.now routing.now.routes set) }
+    requires offers { AreOffers net.now offers.now }
+    ensures made { IfOk result (IsMadeIn format net.now routing.now.routes set) }
+    ensures within { IfOk result (λ c. AreWithinOffers net.now routing.now.routes set offers.now c.blocks) }
 {
+    let first = starting_metric(alloc, net, routing)?;
     let problem = Problem {
         net,
         routing,
         set: &set,
+        first: &first,
     };
-    let blocks = polished_blocks(alloc, &problem)?;
+    let blocks = polished_blocks(alloc, &problem, offers)?;
     let ratio = greatest_need(net, &blocks) as u64;
     let head = head_of(alloc, net, routing, set, format, ratio)?;
     Ok(Certificate {
@@ -233,9 +281,74 @@ fn certify(
     })
 }
 
+/// What `make` gives, where weights are offered for the blocks of links: no block needs more than the best block of each of
+/// the weights that are offered for its link.
+///
+/// Each offer has a weight from 1 to 2^28 for each link of the network. `Memory` comes where memory is wanting.
+pub fn improve(
+    alloc: Global,
+    net: &Network,
+    routing: &Routing,
+    set: DemandSet,
+    offers: &[Offer],
+) -> Result<Certificate, Memory>
+    requires network { IsTrue (is_well_formed net.now) }
+    requires links { 1 ≤ link_count net.now }
+    requires routing { IsRoutingWithin net.now routing.now.routes }
+    requires set { IsSetWithin (length routing.now.routes) set }
+    requires offers { AreOffers net.now offers.now }
+    ensures made { IfOk result (IsMade net.now routing.now.routes set) }
+    ensures within { IfOk result (λ c. AreWithinOffers net.now routing.now.routes (made_set net.now set) offers.now c.blocks) }
+{
+    let format = made_format(net, &set);
+    let written = set_in(alloc, format, set)?;
+    certify(alloc, net, routing, written, format, offers)
+}
+
+/// The weights that are found for all matrices, as offers for their links.
+fn offers_of_all(alloc: Global, net: &Network, routing: &Routing) -> Result<Vec<Offer>, Memory>
+    requires network { IsTrue (is_well_formed net.now) }
+    requires links { 1 ≤ link_count net.now }
+    requires routing { IsRoutingWithin net.now routing.now.routes }
+    ensures weights { IfOk result (λ o. AreOffers net.now o.items) }
+    ensures all_matrices { IfOk result (λ o. AreOffersOfAll net.now routing.now.routes o.items) }
+{
+    let set = DemandSet::All;
+    let first = starting_metric(alloc, net, routing)?;
+    let problem = Problem {
+        net,
+        routing,
+        set: &set,
+        first: &first,
+    };
+    let links = links_of(alloc, &problem)?;
+    let list = polished_weightings(alloc, &problem, &links, &[])?;
+    offers_of(alloc, &list)
+}
+
+/// The offers for a set: between bounds the weights that are found for all matrices.
+fn offers_for(
+    alloc: Global,
+    net: &Network,
+    routing: &Routing,
+    set: &DemandSet,
+) -> Result<Vec<Offer>, Memory>
+    requires network { IsTrue (is_well_formed net.now) }
+    requires links { 1 ≤ link_count net.now }
+    requires routing { IsRoutingWithin net.now routing.now.routes }
+    ensures { IfOk result (λ o. AreOffersFor net.now routing.now.routes set.now o.items) }
+{
+    match set {
+        DemandSet::All => Ok(Vec::new(alloc)),
+        DemandSet::Margin { .. } => offers_of_all(alloc, net, routing),
+        DemandSet::Box { .. } => offers_of_all(alloc, net, routing),
+    }
+}
+
 /// A certificate of the routing's oblivious ratio over the matrices of the set: for each link with a share the best block of
 /// its best round (multiplicative weights; Plotkin, Shmoys and Tardos, 1995), or of weights that were sought for the links whose
-/// blocks need most, polished, and the greatest of their needs as the ratio (after Applegate and Cohen, 2003).
+/// blocks need most, polished, and the greatest of their needs as the ratio (after Applegate and Cohen, 2003). Between bounds no
+/// block needs more than by the weights that are found for all matrices.
 ///
 /// It is one of the first format where the network has at most 64 nodes and 512 links and the set is no box, and else of the
 /// second, in which a margin stands as its box. `Memory` comes where memory is wanting.
@@ -249,9 +362,9 @@ pub fn make(
     requires links { 1 ≤ link_count net.now }
     requires routing { IsRoutingWithin net.now routing.now.routes }
     requires set { IsSetWithin (length routing.now.routes) set }
-    ensures { IfOk result (IsMade net.now routing.now.routes set) }
+    ensures made { IfOk result (IsMade net.now routing.now.routes set) }
+    ensures all_matrices { IfOk result (λ c. HasBounds set → AreWithinAllMatrices net.now routing.now.routes (made_set net.now set) c.blocks) }
 {
-    let format = made_format(net, &set);
-    let written = set_in(alloc, format, set)?;
-    certify(alloc, net, routing, written, format)
+    let offers = offers_for(alloc, net, routing, &set)?;
+    improve(alloc, net, routing, set, &offers)
 }

@@ -1,4 +1,5 @@
 //! What a certificate is made for.
+use best_blocks::Metric;
 use routing::Routing;
 use te_model::{DemandSet, Network};
 
@@ -8,4 +9,6 @@ pub struct Problem<'a> {
     pub net: &'a Network,
     pub routing: &'a Routing,
     pub set: &'a DemandSet,
+    /// The metric of the starting weights, with a row for each node.
+    pub first: &'a Metric,
 }

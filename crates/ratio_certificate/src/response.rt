@@ -4,8 +4,9 @@ ghost use Rattle.te_model.specs.Demand.{lower_of, upper_of};
 ghost use Rattle.te_model.specs.Network.{is_well_formed, link_count};
 ghost use Rattle.centred_steps.specs.Loads.{AreLoadsWithin, AreSmall};
 ghost use Rattle.centred_steps.specs.Ways.{AreLastLinks};
+ghost use Rattle.ratio_certificate.specs.Form.{HasBounds};
 ghost use Rattle.ratio_certificate.specs.Pricing.{IsPricing};
-ghost use Rattle.ratio_certificate.specs.Response.{HasBounds, HasRow, IsNearness};
+ghost use Rattle.ratio_certificate.specs.Response.{HasRow, IsNearness};
 
 use crate::problem::Problem;
 use best_blocks::{Metric, Scale, SharedLink};

@@ -1,14 +1,16 @@
 //! The rounds of a link, and the best of them.
-ghost use Rattle.std.specs.Prelude.{◌≡◌, ◌*◌, ◌+◌, ◌^◌, ◌<◌, ◌≤◌, IfOk, OnOk};
-ghost use Rattle.ratio_certificate.specs.Problems.{IsLinkOf, IsProblem, IsWeightingOf};
+ghost use Rattle.std.specs.Prelude.{◌≡◌, ◌*◌, ◌+◌, ◌^◌, ◌<◌, ◌≤◌, IfOk, IsTrue, OnOk};
+ghost use Rattle.te_model.specs.Network.{is_well_formed};
+ghost use Rattle.ratio_certificate.specs.Problems.{IsLinkOf, IsProblem, IsStartingMetric, IsWeightingOf};
 ghost use Rattle.ratio_certificate.specs.Rising.{AreRoundsTo, IsRoundMetric, NeedsNoMore};
 
 use crate::problem::Problem;
 use crate::raising::next_round;
 use crate::weighting::{Weighting, keep_lesser, weighting_of};
 use best_blocks::{Metric, SharedLink, metric_after, metric_of};
+use routing::Routing;
 use std::alloc::Global;
-use te_model::Memory;
+use te_model::{Memory, Network};
 
 /// The weight of every link from which a certificate starts.
 const STARTING_WEIGHT: u64 = 1 << 20;
@@ -16,18 +18,30 @@ const STARTING_WEIGHT: u64 = 1 << 20;
 /// The number of rounds.
 const ROUNDS: usize = 16;
 
-/// The metric of the starting weights, which are those of round 0.
+/// The metric of the starting weights, with a row for each node. `Memory` comes where memory is wanting.
+pub fn starting_metric(alloc: Global, net: &Network, routing: &Routing) -> Result<Metric, Memory>
+    requires network { IsTrue (is_well_formed net.now) }
+    ensures { IfOk result (IsStartingMetric net.now routing.now.routes) }
+{
+    let weights = vec![in alloc; STARTING_WEIGHT; net.links.as_slice().len()]?;
+    let marks = vec![in alloc; true; net.names.as_slice().len()]?;
+    metric_of(alloc, net, routing, &marks, weights)
+}
+
+/// The metric of the starting weights, which are those of round 0: its rows are copies of those of the problem.
 pub fn first_metric(alloc: Global, problem: &Problem, shared: &SharedLink) -> Result<Metric, Memory>
     requires problem { IsProblem problem.now }
     requires shared { IsLinkOf problem.now shared.now }
     ensures { IfOk result (IsRoundMetric problem.now.net.now problem.now.routing.now.routes shared.now 0) }
 {
-    let weights = vec![in alloc; STARTING_WEIGHT; problem.net.links.as_slice().len()]?;
-    metric_of(
+    let weights = Vec::from_slice(alloc, problem.first.weights.as_slice())?;
+    metric_after(
         alloc,
         problem.net,
         problem.routing,
         shared.marks.as_slice(),
+        problem.first,
+        &[],
         weights,
     )
 }

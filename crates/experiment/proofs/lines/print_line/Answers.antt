@@ -1,11 +1,11 @@
-use Rattle.experiment.proofs.Fields.{line_after}
+use Rattle.experiment.proofs.JoinedFields.{line_after}
 use Rattle.experiment.proofs.lines.print_line.Goals as goal
 
 pub returns : goal.returns
 returns c =
     rw (
       c.in_ok-push.ensures.items,
-      c.in_ok-print_low.ensures,
+      c.in_ok-print_number_or_dash.ensures,
       c.in_ok-print_number-7.ensures,
       c.in_ok-print_number-6.ensures,
       c.in_ok-print_number-5.ensures,

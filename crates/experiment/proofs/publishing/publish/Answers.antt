@@ -2,7 +2,7 @@ use Rattle.std.proofs.Common.{◌≡◌, List, length, arith, ap, sym, subst, �
 use Rattle.te_model.specs.declared.route.PairRoutes.{PairRoutes}
 use Rattle.te_model.specs.declared.route.Pair.{Pair}
 use Rattle.best_blocks.specs.Conditions.{IsSetWithin}
-use Rattle.ratio_certificate.specs.Made.{IsMade}
+use Rattle.ratio_certificate.specs.Offers.{IsMadeWithinAll}
 use Rattle.std.proofs.lemmas.List.{length-map}
 use Rattle.experiment.proofs.RoutingWithin.{routing_within}
 use Rattle.experiment.proofs.publishing.publish.Goals as goal
@@ -25,5 +25,6 @@ returns-clause-made g c =
     let kept = c.in_ok-routing.ensures.kept in (
       kept.0,
       kept.1,
-      subst (λ (r : List PairRoutes). IsMade c.args.net.now r c.args.set c.in_ok-certificate.certificate) kept.2 c.in_ok-certificate.ensures,
+      subst (λ (r : List PairRoutes). IsMadeWithinAll c.args.net.now r c.args.set c.in_ok-certificate.certificate) kept.2
+          (record { made = c.in_ok-certificate.ensures.made; all_matrices = c.in_ok-certificate.ensures.all_matrices }),
     )

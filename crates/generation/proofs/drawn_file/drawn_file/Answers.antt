@@ -11,6 +11,6 @@ returns-in-Ok c =
       rounds = made.0.rounds;
       routes = made.0.routing.routes;
       mix = rw (scheme.trees, scheme.seed) at made.1;
-      made = record { certificate = c.in-Ok.certificate; made = made.2; text_is = is };
+      made = record { certificate = c.in-Ok.certificate; made = made.2.made; text_is = is };
     })
     c.print.ensures.spelling

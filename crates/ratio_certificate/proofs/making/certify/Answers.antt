@@ -2,6 +2,7 @@ use Rattle.std.proofs.Common.{◌*◌, ◌^◌, ◌<◌, ◌≤◌, List, arith,
 use Rattle.std.specs.Prelude.{All}
 use Rattle.te_model.specs.declared.certificate.Block.{Block}
 use Rattle.best_blocks.specs.Need.{HasNumbers, IsGreatestNeed}
+use Rattle.ratio_certificate.specs.Offers.{AreWithinOffers}
 use Rattle.ratio_certificate.proofs.Certificates.{blocks_numbers, made_certificate}
 use Rattle.ratio_certificate.proofs.MadeBlocks.{within_start}
 use Rattle.ratio_certificate.proofs.making.certify.Goals as goal
@@ -18,8 +19,12 @@ overflow_cast-ratio c =
     let bound : c.greatest_need-ratio.result ≤ 1000000 * 2 ^ 42 = greatest.least (1000000 * 2 ^ 42) c.in_ok-blocks.ensures.small in
     omega (arith, bound)
 
-pub returns : goal.returns
-returns c =
+pub returns-clause-within : goal.returns-clause-within
+returns-clause-within c =
+    subst (λ (bs : List Block). AreWithinOffers c.args.net.now c.args.routing.now.routes c.args.set c.args.offers.now bs) (sym c.new.ensures) c.in_ok-blocks.ensures.within
+
+pub returns-clause-made : goal.returns-clause-made
+returns-clause-made c =
     let net = c.args.net.now in
     let routes = c.args.routing.now.routes in
     let set = c.args.set in

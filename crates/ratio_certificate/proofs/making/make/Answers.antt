@@ -1,29 +1,19 @@
-use Rattle.std.proofs.Common.{length, sym, subst}
-use Rattle.std.specs.Prelude.{IfOk}
-use Rattle.te_model.specs.declared.demand.DemandSet.{DemandSet}
-use Rattle.best_blocks.specs.Conditions.{IsSetWithin}
-use Rattle.ratio_certificate.specs.Form.{set_in, IsFormatFor}
-use Rattle.ratio_certificate.specs.Made.{IsMadeIn}
-use Rattle.ratio_certificate.proofs.MadeForms.{format_for, set_within, small_margin}
+use Rattle.std.proofs.Common.{List, sym, subst}
+use Rattle.std.proofs.lemmas.Result.{IfOk-weaker}
+use Rattle.ratio_certificate.specs.Form.{made_set}
+use Rattle.ratio_certificate.specs.declared.offers.Offer.{Offer}
+use Rattle.ratio_certificate.specs.Offering.{AreOffersFor}
+use Rattle.ratio_certificate.specs.Offers.{AreOffers}
+use Rattle.ratio_certificate.proofs.OffersOfAll.{within_all_matrices}
 use Rattle.ratio_certificate.proofs.making.make.Goals as goal
 
-pub set_in-requires : goal.set_in-requires
-set_in-requires c = small_margin (length c.args.routing.now.routes) c.args.set c.requires.set
+pub improve-requires-clause-offers : goal.improve-requires-clause-offers
+improve-requires-clause-offers c = subst (λ (os : List Offer). AreOffers c.args.net.now os) (sym c.deref.ensures.value) c.in_ok-offers.ensures.weights
 
-pub certify-requires-clause-set : goal.certify-requires-clause-set
-certify-requires-clause-set c =
-    subst (IsSetWithin (length c.args.routing.now.routes)) (sym c.in_ok-written.ensures)
-    (set_within (length c.args.routing.now.routes) c.made_format-format.result c.args.set c.requires.set)
-
-pub certify-requires-clause-format : goal.certify-requires-clause-format
-certify-requires-clause-format c =
-    let net = c.args.net.now in
-    subst (λ (s : DemandSet). IsFormatFor net s c.made_format-format.result) (sym c.in_ok-written.ensures)
-    (subst (λ f. IsFormatFor net (set_in f c.args.set) f) (sym c.made_format-format.ensures) (format_for net c.args.set c.requires.network))
-
-pub returns : goal.returns
-returns c =
+pub returns-clause-all_matrices : goal.returns-clause-all_matrices
+returns-clause-all_matrices c =
     let net = c.args.net.now in
     let routes = c.args.routing.now.routes in
-    subst (λ f. IfOk c.certify.result (IsMadeIn f net routes (set_in f c.args.set))) c.made_format-format.ensures
-    (subst (λ (s : DemandSet). IfOk c.certify.result (IsMadeIn c.made_format-format.result net routes s)) c.in_ok-written.ensures c.certify.ensures)
+    let offers = subst (λ (os : List Offer). AreOffersFor net routes c.args.set os) (sym c.deref.ensures.value) c.in_ok-offers.ensures in
+    IfOk-weaker c.improve.result _ _
+    (λ m within bounded. within_all_matrices net routes (made_set net c.args.set) c.deref.result.now m.blocks (offers.all_matrices bounded) within) c.improve.ensures.within

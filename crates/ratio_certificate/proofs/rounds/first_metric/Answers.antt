@@ -1,28 +1,25 @@
-use Rattle.std.proofs.Common.{◌≡◌, ◌^◌, ◌≤◌, ℕ, List, length, replicate, arith, ap, sym, subst, ◌∙◌}
+use Rattle.std.proofs.Common.{◌^◌, ◌≤◌, ℕ, List, length, slice_index, ap, sym, subst, ◌∙◌}
 use Rattle.std.specs.Prelude.{All}
-use Rattle.std.proofs.lemmas.List.{length-replicate}
-use Rattle.std.proofs.lemmas.List.Elements.{All-replicate}
-use Rattle.te_model.specs.declared.network.Link.{Link}
-use Rattle.te_model.specs.Network.{link_count}
+use Rattle.ratio_certificate.proofs.OtherMarks.{metric_for_all_marked}
 use Rattle.ratio_certificate.proofs.RoundMetrics.{first_made}
 use Rattle.ratio_certificate.proofs.rounds.first_metric.Goals as goal
 
 pub returns : goal.returns
 returns c =
-    let net = c.args.problem.now.net.now in
-    let weights = c.in_ok-weights.weights.items in
-    let are : weights ≡ replicate (link_count net) (2 ^ 20) =
-    c.in_ok-weights.ensures.items_if_clones_equal (λ y same. same) ∙ ap (λ (ls : List Link). replicate (length ls) (2 ^ 20)) c.as_slice.ensures
-    in
-    first_made net c.args.problem.now.routing.now.routes c.args.shared.now c.as_slice-2.result.now weights c.metric_of.result c.as_slice-2.ensures are c.metric_of.ensures.metric
-    c.metric_of.ensures.weights
+    let p = c.args.problem.now in
+    first_made p.net.now p.routing.now.routes c.args.shared.now c.as_slice-2.result.now c.in_ok-weights.weights.items c.metric_after.result c.as_slice-2.ensures
+    (c.in_ok-weights.ensures.items ∙ c.as_slice.ensures ∙ c.requires.problem.first.weights_are) c.metric_after.ensures.metric c.metric_after.ensures.weights
 
-pub metric_of-requires-clause-small : goal.metric_of-requires-clause-small
-metric_of-requires-clause-small c =
-    let are = c.in_ok-weights.ensures.items_if_clones_equal (λ y same. same) in
-    subst (λ (ws : List ℕ). All (λ w. w ≤ 2 ^ 28) ws) (sym are) (All-replicate (λ w. w ≤ 2 ^ 28) (length c.as_slice.result.now) (2 ^ 20) (omega arith))
+pub metric_after-requires-clause-weights : goal.metric_after-requires-clause-weights
+metric_after-requires-clause-weights c = ap (λ (ws : List ℕ). length ws) (c.in_ok-weights.ensures.items ∙ c.as_slice.ensures) ∙ c.requires.problem.first.metric.count
 
-pub metric_of-requires-clause-weights : goal.metric_of-requires-clause-weights
-metric_of-requires-clause-weights c =
-    let are = c.in_ok-weights.ensures.items_if_clones_equal (λ y same. same) in
-    ap (λ (ws : List ℕ). length ws) are ∙ length-replicate (length c.as_slice.result.now) (2 ^ 20) ∙ ap (λ (ls : List Link). length ls) c.as_slice.ensures
+pub metric_after-requires-clause-small : goal.metric_after-requires-clause-small
+metric_after-requires-clause-small c = subst (All (λ w. w ≤ 2 ^ 28)) (sym (c.in_ok-weights.ensures.items ∙ c.as_slice.ensures)) c.requires.problem.first.metric.small
+
+pub metric_after-requires-clause-metric : goal.metric_after-requires-clause-metric
+metric_after-requires-clause-metric c =
+    let p = c.args.problem.now in
+    metric_for_all_marked p.net.now p.routing.now.routes c.as_slice-2.result.now p.first.now c.requires.problem.first.metric
+
+pub metric_after-requires-clause-others : goal.metric_after-requires-clause-others
+metric_after-requires-clause-others c = λ h below other. ap (λ (ws : List ℕ). slice_index ws h) (c.in_ok-weights.ensures.items ∙ c.as_slice.ensures)

@@ -1,0 +1,6 @@
+use Rattle.ratio_certificate.specs.Offering.{AreStarts}
+use Rattle.ratio_certificate.proofs.making.starts.Given as goal
+
+abbrev pub invariant-loop-shared : goal.invariant-loop-shared
+invariant-loop-shared l =
+    AreStarts l.shared-index l.problem.net.now l.problem.routing.now.routes l.problem.set.now l.links l.offers l.list.items
