@@ -104,6 +104,38 @@ def first_inequality(certificate, hose):
     return None
 
 
+def way_to_gain(links, count):
+    """The way from node 0 to node 1 over links with room that gains most, as places of links, or None where none gains (Bellman and Ford)."""
+    gains, by = [0] + [None] * (count - 1), [None] * count
+    for _ in range(count):
+        for place, (tail, head, room, gain) in enumerate(links):
+            if room and gains[tail] is not None and (gains[head] is None or gains[tail] + gain > gains[head]):
+                gains[head], by[head] = gains[tail] + gain, place
+    if gains[1] is None or gains[1] <= 0:
+        return None
+    way, node = [], 1
+    while node:
+        way.append(by[node])
+        node = links[by[node]][0]
+    return way
+
+
+def greatest_load(shares, hose):
+    """The most that a matrix within the hose puts on a link with these shares, by its millionths: a flow of greatest gain."""
+    nodes, links = len(hose.sent), []
+    ends = [(0, 2 + i, amount, 0) for i, amount in enumerate(hose.sent)] + [(2 + nodes + i, 1, amount, 0) for i, amount in enumerate(hose.received)]
+    for tail, head, room, gain in ends + [(2 + src, 2 + nodes + dst, MOST_AMOUNT, share) for src, dst, share in shares]:
+        links += [[tail, head, room, gain], [head, tail, 0, -gain]]
+    load = 0
+    while (way := way_to_gain(links, 2 + 2 * nodes)) is not None:
+        amount = min(links[place][2] for place in way)
+        for place in way:
+            links[place][2] -= amount
+            links[place ^ 1][2] += amount
+            load += amount * links[place][3]
+    return load
+
+
 def faults_of_block(certificate, hose, block):
     """What of the numbers of a block that `hose` writes is not as it promises, beside the two inequalities."""
     shares, nodes = shares_on(certificate, block.link), range(len(certificate["names"]))
@@ -117,6 +149,8 @@ def faults_of_block(certificate, hose, block):
     by_heads = sum_of(hose, [0 for _ in nodes], [max([share for _, dst, share in shares if dst == i], default=0) for i in nodes])
     if sum_of(hose, block.tails, block.heads) > min(by_tails, by_heads):
         faults.append(f"link {block.link} is covered for less by its tails or its heads alone")
+    if sum_of(hose, block.tails, block.heads) != greatest_load(shares, hose):
+        faults.append(f"no matrix within the hose puts on link {block.link} what its numbers come to")
     return faults
 
 

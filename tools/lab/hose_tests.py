@@ -16,11 +16,14 @@ WRONG = [
     (PARALLEL_WHOLE, bounds("40 0", "0 10"), hose("40 0", "0 10", 500001, *(block(e, "0 0", "0 500000") for e in (0, 1))), ["the least bound is 500000"]),
     (
         PARALLEL_WHOLE, bounds("40 0", "0 10"), hose("40 0", "0 10", 500003, block(0, "1 0", "0 499999"), block(1, "0 0", "0 500000")),
-        ["link 0 is covered for less by its tails or its heads alone"],
+        ["link 0 is covered for less by its tails or its heads alone", "no matrix within the hose puts on link 0 what its numbers come to"],
     ),
     (
         PARALLEL_WHOLE, bounds("40 0", "0 10"), hose("40 0", "0 10", 500000, block(0, "0 0", "0 500000"), block(1, "0 0", "1 500001")),
-        ["head 0 of link 1 can be lowered", "head 1 of link 1 can be lowered", "link 1 is covered for less by its tails or its heads alone"],
+        [
+            "head 0 of link 1 can be lowered", "head 1 of link 1 can be lowered", "link 1 is covered for less by its tails or its heads alone",
+            "no matrix within the hose puts on link 1 what its numbers come to",
+        ],
     ),
     (
         TRIANGLE_FOR_ALL, bounds("0 10 0", "0 0 10"),

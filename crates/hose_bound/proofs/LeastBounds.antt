@@ -4,9 +4,10 @@ use Rattle.std.specs.Prelude.{All, IsTrue, slice_index}
 use Rattle.std.specs.Ordering.{nat_cmp, ord_max}
 use Rattle.std.proofs.Math.Nat.{mul-le-mul_left}
 use Rattle.std.proofs.lemmas.Bool.{le-leb, leb-true}
-use Rattle.std.proofs.lemmas.List.Elements.{All-cons, All-get_or, All-head, All-more, All-nil, All-tail, All-weaker}
+use Rattle.std.proofs.lemmas.List.Elements.{All-cons, All-from_get_or, All-get_or, All-head, All-more, All-nil, All-tail, All-weaker}
 use Rattle.te_model.specs.declared.limits.TheConstants.{FORMAT_2}
 use Rattle.te_model.specs.declared.network.Network.{Network}
+use Rattle.te_model.specs.declared.route.PairRoutes.{PairRoutes}
 use Rattle.te_model.specs.declared.units.TheConstants.{RATIO_UNIT, SHARE_UNIT}
 use Rattle.te_model.specs.Counting.{sum_below}
 use Rattle.te_model.specs.Division.{quotient_up}
@@ -16,6 +17,8 @@ use Rattle.hose_bound.specs.declared.hose.Hose.{Hose}
 use Rattle.hose_bound.specs.declared.hose.HoseBlock.{HoseBlock}
 use Rattle.hose_bound.specs.Covering.{IsLeastBound}
 use Rattle.hose_bound.specs.Judging.{AreSmallAmounts, IsSmallBlock}
+use Rattle.hose_bound.specs.Making.{IsAttained, IsLeastBoundOf}
+use Rattle.hose_bound.specs.Rules.{zero_hose_block}
 use Rattle.hose_bound.specs.Verdict.{block_sum, pays_numbers}
 use Rattle.hose_bound.proofs.Raising.{pays_more}
 use Rattle.hose_bound.proofs.Sizes.{node_sum_small}
@@ -98,3 +101,14 @@ some_bound net h (b ∷ bs) few some amounts small inside =
           (λ other pays. least other (enough_from net h other b.link b pays)),
       omega (arith, within, short, small'),
     )
+
+-- where each block's sum is put on its link by some matrix within the hose, no lower bound is true
+pub least_bound_of : (net : Network) (routes : List PairRoutes) (h : Hose) (bs : List HoseBlock) (bound : ℕ) → All (IsAttained net routes h) bs → All (λ b. b.link < link_count net) bs →
+    IsLeastBound net h bs bound → IsLeastBoundOf net routes h bound
+least_bound_of net routes h bs bound attained inside is = λ other bounded.
+    is.least other (All-from_get_or (λ (x : HoseBlock). IsTrue (pays_numbers net h other x.link x)) bs (zero_hose_block 0)
+    (λ k below.
+    let b = get_or bs k (zero_hose_block 0) in
+    let (demand, within, reaches) = All-get_or (IsAttained net routes h) bs k (zero_hose_block 0) below attained in
+    let most = bounded demand within b.link (All-get_or (λ x. x.link < link_count net) bs k (zero_hose_block 0) below inside) in
+    pays_from net h other b.link b (omega (arith, reaches, most))))

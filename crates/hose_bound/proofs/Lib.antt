@@ -13,6 +13,8 @@ pub mod Kept
 pub mod ReadHoses
 pub mod Meaning
 pub mod Simple
+pub mod StartCover
+pub mod Exact
 pub mod Raising
 pub mod MadeBlocks
 pub mod Made

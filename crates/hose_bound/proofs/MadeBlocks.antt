@@ -1,5 +1,5 @@
--- The cheaper of two lowered covers is a block as it has to be made.
-use Rattle.std.proofs.Common.{◌≡◌, ◌⊎◌, ℕ, suc, ◌<◌, ◌≤◌, ◌==◌, ◌&&◌, true, List, [], ◌∷◌, length, get_or, arith, refl, ap, sym, subst, inl, inr, replicate}
+-- A tight cover is a block as it has to be made.
+use Rattle.std.proofs.Common.{◌≡◌, ℕ, suc, ◌<◌, ◌≤◌, ◌==◌, ◌&&◌, true, List, [], ◌∷◌, length, get_or, arith, refl, sym, subst}
 use Rattle.std.specs.Prelude.{slice_index}
 use Rattle.std.proofs.lemmas.Bool.{lt-ltb, eq-eqb, and_from}
 use Rattle.std.proofs.lemmas.List.Elements.{All-get_or}
@@ -12,15 +12,12 @@ use Rattle.te_model.specs.Path.{share}
 use Rattle.te_model.specs.Shape.{is_row_of, is_word, are_words}
 use Rattle.routing.specs.declared.shares.PairShare.{PairShare}
 use Rattle.routing.specs.Shares.{AreSharesOn}
-use Rattle.hose_bound.specs.declared.covers.End.TheVariants.{Destination}
 use Rattle.hose_bound.specs.declared.hose.Hose.{Hose}
 use Rattle.hose_bound.specs.declared.hose.HoseBlock.{HoseBlock}
 use Rattle.hose_bound.specs.Cover.{IsTightCover}
-use Rattle.hose_bound.specs.Covering.{AreLeastNumbers, IsLeastFrom, IsMadeBlock}
-use Rattle.hose_bound.specs.Judging.{IsSmallBlock}
+use Rattle.hose_bound.specs.Covering.{IsMadeBlock}
 use Rattle.hose_bound.specs.Making.{IsUsed, shares_to_cover}
-use Rattle.hose_bound.specs.Verdict.{block_sum}
-use Rattle.hose_bound.proofs.Simple.{tight_where, from_none, from_greatest, no_share, small}
+use Rattle.hose_bound.proofs.Simple.{no_share}
 
 small_are_words : (numbers : List ℕ) → ((i : ℕ) → slice_index numbers i ≤ SHARE_UNIT) → are_words numbers ≡ true
 small_are_words [] small = refl
@@ -51,26 +48,6 @@ module _ (net : Network) (routes : List PairRoutes) (h : Hose) (e : ℕ) (inside
         },
       )
 
-  pub made_block : (shares : List PairShare) → AreSharesOn routes e shares → (none greatest : List ℕ) (one other b : HoseBlock) →
-      none ≡ replicate (node_count net) 0 → AreLeastNumbers Destination (node_count net) routes shares none greatest →
-      IsLeastFrom (node_count net) routes e shares none one → IsLeastFrom (node_count net) routes e shares greatest other →
-      (b ≡ one) ⊎ (b ≡ other) → block_sum (node_count net) h b ≤ block_sum (node_count net) h one → block_sum (node_count net) h b ≤ block_sum (node_count net) h other →
-      (b.link ≡ e) × IsMadeBlock net routes h b
-  made_block shares on none greatest one other b zero_is are first second choice below above =
-      let n = node_count net in
-      let sources = from_none net routes h e shares on none one first zero_is in
-      let destinations = from_greatest net routes h e shares on none greatest other zero_is are second in
-      elim choice [
-        | inl is ↦
-            let same = ap (block_sum n h) is in
-            let tight = tight_where net routes h e shares on none one first sources (omega (arith, above, same, destinations)) in
-            subst (λ (c : HoseBlock). (c.link ≡ e) × IsMadeBlock net routes h c) (sym is) (made one first.link first.tails.count first.heads.count tight)
-        | inr is ↦
-            let same = ap (block_sum n h) is in
-            let tight = tight_where net routes h e shares on greatest other second (omega (arith, below, same, sources)) destinations in
-            subst (λ (c : HoseBlock). (c.link ≡ e) × IsMadeBlock net routes h c) (sym is) (made other second.link second.tails.count second.heads.count tight)
-      ]
-
 -- a link is used exactly where some pair is listed
 pub used_where_listed : (routes : List PairRoutes) (e : ℕ) (list : List PairShare) → AreSharesOn routes e list → 0 < length list → IsUsed routes e
 used_where_listed routes e list on some =
@@ -83,9 +60,3 @@ unused_where_none routes e list on none used =
     let listed = on.complete used.0 used.1 used.2 in
     let within = listed.2 in
     omega (arith, within, none)
-
--- the numbers of a lowered cover are small
-pub small_from : (net : Network) (routes : List PairRoutes) (h : Hose) (e : ℕ) (shares : List PairShare) → AreSharesOn routes e shares →
-    ((p : ℕ) → p < length routes → share routes p e ≤ SHARE_UNIT) → (from : List ℕ) (b : HoseBlock) → IsLeastFrom (node_count net) routes e shares from b → IsSmallBlock b
-small_from net routes h e shares on most from b least =
-    record { tails = λ i. (small net routes h e shares on from b least SHARE_UNIT most i).0; heads = λ i. (small net routes h e shares on from b least SHARE_UNIT most i).1 }

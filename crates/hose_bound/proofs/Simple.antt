@@ -1,6 +1,5 @@
--- A cover that is lowered end by end, from any numbers of the destinations, is tight; from none, or from the greatest shares, it comes to
--- no more than the simple covers.
-use Rattle.std.proofs.Common.{◌≡◌, ℕ, ◌+◌, ◌-◌, ◌<◌, ◌≤◌, List, length, get_or, arith, refl, subst, inl, inr, replicate}
+-- A cover that is lowered end by end, from any numbers of the destinations, is tight where it comes to no more than the simple covers.
+use Rattle.std.proofs.Common.{◌≡◌, ℕ, ◌+◌, ◌-◌, ◌<◌, ◌≤◌, List, length, get_or, arith, refl, subst, inl, inr}
 use Rattle.std.specs.Prelude.{slice_index}
 use Rattle.std.proofs.lemmas.Bool.{cases_lt, eq-eqb}
 use Rattle.std.proofs.lemmas.List.Elements.{All-get_or, All-from_get_or}
@@ -10,14 +9,13 @@ use Rattle.te_model.specs.Network.{node_count}
 use Rattle.te_model.specs.Path.{share, source_of, destination_of}
 use Rattle.routing.specs.declared.shares.PairShare.{PairShare}
 use Rattle.routing.specs.Shares.{AreSharesOn}
-use Rattle.ratio_witness.proofs.LinkLoads.{zeros}
 use Rattle.hose_bound.specs.declared.covers.End.TheVariants.{Source, Destination}
 use Rattle.hose_bound.specs.declared.hose.Hose.{Hose}
 use Rattle.hose_bound.specs.declared.hose.HoseBlock.{HoseBlock}
-use Rattle.hose_bound.specs.Cover.{CoverProblem, Covers, cover_sum, greatest_share, lowered_at, IsTightCover}
-use Rattle.hose_bound.specs.Covering.{AreLeastNumbers, CoverShares, IsLeastFrom}
+use Rattle.hose_bound.specs.Cover.{Covers, cover_sum, greatest_share, lowered_at, IsTightCover}
+use Rattle.hose_bound.specs.Covering.{CoverShares, IsLeastFrom}
 use Rattle.hose_bound.specs.Making.{shares_to_cover}
-use Rattle.hose_bound.proofs.Covering.{end_covers, sum_less}
+use Rattle.hose_bound.proofs.Covering.{end_covers}
 
 abbrev pub no_share : PairShare
 no_share = record { pair = 0; share = 0 }
@@ -27,7 +25,7 @@ lowered_here f i = rw (eq-eqb i i refl) refl
 
 module _ (net : Network) (routes : List PairRoutes) (h : Hose) (e : ℕ) (shares : List PairShare) (on : AreSharesOn routes e shares) where
   -- what covers the listed shares covers those of all pairs, and the other way round
-  listed_cover : (tails heads : ℕ → ℕ) → CoverShares Source routes shares tails heads → Covers (shares_to_cover net routes h e) tails heads
+  pub listed_cover : (tails heads : ℕ → ℕ) → CoverShares Source routes shares tails heads → Covers (shares_to_cover net routes h e) tails heads
   listed_cover tails heads cover p below = elim (cases_lt 0 (share routes p e)) [
     | inr none ↦ omega (arith, none)
     | inl some ↦
@@ -40,7 +38,7 @@ module _ (net : Network) (routes : List PairRoutes) (h : Hose) (e : ℕ) (shares
         subst (λ q. share routes q e ≤ tails (source_of routes q) + heads (destination_of routes q)) is here
   ]
 
-  told_at : (k : ℕ) → k < length shares → (((get_or shares k no_share).pair < length routes) × (0 < (get_or shares k no_share).share) × ((get_or shares k no_share).share ≡ share routes (get_or shares k no_share).pair e))
+  pub told_at : (k : ℕ) → k < length shares → (((get_or shares k no_share).pair < length routes) × (0 < (get_or shares k no_share).share) × ((get_or shares k no_share).share ≡ share routes (get_or shares k no_share).pair e))
   told_at k below = All-get_or (λ s. (s.pair < length routes) × (0 < s.share) × (s.share ≡ share routes s.pair e)) shares k no_share below on.shares
 
   by_tails : (tails heads : ℕ → ℕ) → Covers (shares_to_cover net routes h e) tails heads → CoverShares Source routes shares tails heads
@@ -110,36 +108,8 @@ module _ (net : Network) (routes : List PairRoutes) (h : Hose) (e : ℕ) (shares
     }
 
   -- the simple covers
-  sources_cover : Covers (shares_to_cover net routes h e) (greatest_share (shares_to_cover net routes h e) (source_of routes)) (λ i. 0)
+  pub sources_cover : Covers (shares_to_cover net routes h e) (greatest_share (shares_to_cover net routes h e) (source_of routes)) (λ i. 0)
   sources_cover p below = let c = end_covers (shares_to_cover net routes h e) (source_of routes) p below in omega (arith, c)
 
-  destinations_cover : Covers (shares_to_cover net routes h e) (λ i. 0) (greatest_share (shares_to_cover net routes h e) (destination_of routes))
+  pub destinations_cover : Covers (shares_to_cover net routes h e) (λ i. 0) (greatest_share (shares_to_cover net routes h e) (destination_of routes))
   destinations_cover p below = let c = end_covers (shares_to_cover net routes h e) (destination_of routes) p below in omega (arith, c)
-
-  -- from no numbers it comes to no more than the first
-  pub from_none : (from : List ℕ) (b : HoseBlock) → IsLeastFrom (node_count net) routes e shares from b → from ≡ replicate (node_count net) 0 →
-      cover_sum (shares_to_cover net routes h e) (slice_index b.tails) (slice_index b.heads)
-      ≤ cover_sum (shares_to_cover net routes h e) (greatest_share (shares_to_cover net routes h e) (source_of routes)) (λ i. 0)
-  from_none from b least none =
-      let zero_at : (i : ℕ) → slice_index from i ≡ 0 = λ i. rw none (zeros (node_count net) i) in
-      sum_less (shares_to_cover net routes h e) (greatest_share (shares_to_cover net routes h e) (source_of routes)) (λ i. 0) (slice_index b.tails) (slice_index b.heads)
-      (tails_within from b least (greatest_share (shares_to_cover net routes h e) (source_of routes)) (λ p below. let c = sources_cover p below in omega (arith, c)))
-      (λ i. let fall = heads_fall from b least i in let z = zero_at i in omega (arith, fall, z))
-
-  -- from the greatest shares of the destinations no more than the second
-  pub from_greatest : (none from : List ℕ) (b : HoseBlock) → none ≡ replicate (node_count net) 0 →
-      AreLeastNumbers Destination (node_count net) routes shares none from → IsLeastFrom (node_count net) routes e shares from b →
-      cover_sum (shares_to_cover net routes h e) (slice_index b.tails) (slice_index b.heads)
-      ≤ cover_sum (shares_to_cover net routes h e) (λ i. 0) (greatest_share (shares_to_cover net routes h e) (destination_of routes))
-  from_greatest none from b zero_is are least =
-      let zero_at : (i : ℕ) → slice_index none i ≡ 0 = λ i. rw zero_is (zeros (node_count net) i) in
-      let x : CoverProblem = shares_to_cover net routes h e in
-      let within : (i : ℕ) → slice_index from i ≤ greatest_share x (destination_of routes) i =
-      are.least (greatest_share x (destination_of routes)) (by_heads (slice_index none) (greatest_share x (destination_of routes)) (λ p below. let c = destinations_cover p below in omega (arith, c))) in
-      let covered : Covers x (λ i. 0) (slice_index from) = λ p below.
-      let c = listed_cover (slice_index none) (slice_index from) (turned (slice_index none) (slice_index from) are.cover) p below in
-      let z = zero_at (source_of routes p) in
-      omega (arith, c, z) in
-      sum_less x (λ i. 0) (greatest_share x (destination_of routes)) (slice_index b.tails) (slice_index b.heads)
-      (tails_within from b least (λ i. 0) covered)
-      (λ i. let fall = heads_fall from b least i in let w = within i in omega (arith, fall, w))

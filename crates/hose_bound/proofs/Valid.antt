@@ -132,6 +132,12 @@ hose_amounts n h valid =
     let one = or_else_none (rule_fault 1 (2 * n) (is_small_amount n h)) _ valid.no_fault in
     small_amounts n h valid.shaped (λ k below. first_failing_none_at (2 * n) (is_small_amount n h) (fault_at 1) k one.0 below)
 
+-- one amount of each kind for each node
+pub hose_counts : (n : ℕ) (h : Hose) → IsValidHose n h → (length h.sent ≡ n) × (length h.received ≡ n)
+hose_counts n h valid =
+    let both = and_true (is_row_of n h.sent) (is_row_of n h.received) valid.shaped in
+    (row_length n h.sent both.0, row_length n h.received both.1)
+
 -- a path routing has the splits that `Routing` asks for
 pub splits_of : (net : Network) (routes : List PairRoutes) → IsPathRouting net routes → are_splits routes ≡ true
 splits_of net routes routing =

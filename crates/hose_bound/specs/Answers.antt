@@ -11,7 +11,7 @@ use Rattle.hose_bound.specs.declared.verdict.HoseVerdict.{HoseVerdict}
 use Rattle.hose_bound.specs.declared.verdict.HoseVerdict.TheVariants.{Yes, No}
 use Rattle.hose_bound.specs.Files.{hose_cert_text}
 use Rattle.hose_bound.specs.Hose.{IsBounded}
-use Rattle.hose_bound.specs.Making.{IsMadeFor}
+use Rattle.hose_bound.specs.Making.{IsLeastBoundOf, IsMadeFor}
 use Rattle.hose_bound.specs.Reading.{MeansHoseCert}
 use Rattle.hose_bound.specs.Rules.{IsValidHoseCert}
 use Rattle.hose_bound.specs.Verdict.{first_hose_failure, verdict_of}
@@ -44,6 +44,13 @@ pub record IsHoseText (net : Network) (routes : List PairRoutes) (h : Hose) (tex
   pub cert : HoseCert
   pub made : IsMadeFor net routes h cert
   pub bounded : IsBoundedBy net routes cert
+  pub text_is : text ≡ hose_cert_text cert
+
+-- and below its bound none is true of the routing
+pub record IsLeastHoseText (net : Network) (routes : List PairRoutes) (h : Hose) (text : List ℕ) : Type 0 where
+  pub cert : HoseCert
+  pub made : IsMadeFor net routes h cert
+  pub least : IsLeastBoundOf net routes h cert.bound
   pub text_is : text ≡ hose_cert_text cert
 
 -- The text of a hose certificate that may be made is read as that certificate, and the verdict on it is yes.

@@ -1,6 +1,6 @@
 -- How the numbers of a link are found: from any numbers of the destinations, those of the sources are lowered, and then those of the
 -- destinations.
-use Rattle.std.specs.Prelude.{◌≡◌, ◌↔◌, ℕ, ◌+◌, ◌<◌, ◌≤◌, ◌==◌, max, List, All, Any, IsTrue, length, slice_index, if◌then◌else◌}
+use Rattle.std.specs.Prelude.{◌≡◌, ◌↔◌, ℕ, ◌+◌, ◌<◌, ◌≤◌, ◌==◌, max, List, All, Any, IsTrue, length, slice_index, slice_index_or, if◌then◌else◌}
 use Rattle.te_model.specs.declared.network.Network.{Network}
 use Rattle.te_model.specs.declared.route.PairRoutes.{PairRoutes}
 use Rattle.te_model.specs.declared.units.TheConstants.{SHARE_UNIT}
@@ -8,6 +8,8 @@ use Rattle.te_model.specs.Network.{node_count, link_count}
 use Rattle.te_model.specs.Path.{source_of, destination_of}
 use Rattle.routing.specs.declared.shares.PairShare.{PairShare}
 use Rattle.ratio_checker.specs.Ascending.{AscendsFrom}
+use Rattle.cover_search.specs.declared.transport.EndShare.{EndShare}
+use Rattle.cover_search.specs.Transport.{end_share}
 use Rattle.hose_bound.specs.declared.covers.End.{End}
 use Rattle.hose_bound.specs.declared.covers.End.TheVariants.{Source, Destination}
 use Rattle.hose_bound.specs.declared.hose.Hose.{Hose}
@@ -46,6 +48,17 @@ pub record IsLeastFrom (nodes : ℕ) (routes : List PairRoutes) (e : ℕ) (share
   pub link : b.link ≡ e
   pub tails : AreLeastNumbers Source nodes routes shares others b.tails
   pub heads : AreLeastNumbers Destination nodes routes shares b.tails b.heads
+
+-- the share at this end is that of the pair
+pub record IsEndOf (routes : List PairRoutes) (pair : PairShare) (end' : EndShare) : Type 0 where
+  pub source : end'.source ≡ source_of routes pair.pair
+  pub destination : end'.destination ≡ destination_of routes pair.pair
+  pub share : end'.share ≡ pair.share
+
+-- the shares with the ends of their pairs
+pub record AreEndsOf (routes : List PairRoutes) (shares : List PairShare) (ends : List EndShare) : Type 0 where
+  pub count : length ends ≡ length shares
+  pub each : (k : ℕ) → k < length shares → IsEndOf routes (slice_index_or shares k (record { pair = 0; share = 0 })) (end_share ends k)
 
 -- a block that can be written, whose numbers cover tightly
 pub record IsMadeBlock (net : Network) (routes : List PairRoutes) (h : Hose) (b : HoseBlock) : Type 0 where

@@ -4,7 +4,7 @@ ghost use Rattle.te_model.specs.declared.limits.TheConstants.{FORMAT_2};
 ghost use Rattle.te_model.specs.Laws.{PairsJoinNodes};
 ghost use Rattle.te_model.specs.Network.{is_well_formed, node_count};
 ghost use Rattle.te_model.specs.PathRouting.{IsPathRouting};
-ghost use Rattle.hose_bound.specs.Answers.{IsBoundedBy, IsHoseText, IsHoseVerdict, verdict_line, verdict_status};
+ghost use Rattle.hose_bound.specs.Answers.{IsBoundedBy, IsHoseText, IsHoseVerdict, IsLeastHoseText, verdict_line, verdict_status};
 ghost use Rattle.hose_bound.specs.Rules.{IsValidHose, IsValidHoseCert};
 
 use crate::hose::{Hose, HoseCert};
@@ -58,7 +58,7 @@ pub fn check_hose_text(alloc: Global, head: &Head, cert: &HoseCert) -> Result<(u
 }
 
 /// What `hose` answers of the head of a certificate and a hose: 0 and the file of the hose certificate that
-/// [`make`](crate::make) may give, which is below 2,200,000 bytes.
+/// [`make`](crate::make) may give, which is below 2,200,000 bytes. No lower bound is true of the routing.
 ///
 /// # Errors
 ///
@@ -71,6 +71,7 @@ pub fn hose_text(alloc: Global, head: Head, hose: Hose) -> Result<(u8, Vec<u8>),
     requires hose { IsValidHose (node_count head.network) hose }
     ensures status { IfOk result (λ answer. answer.0 ≡ 0) }
     ensures text { IfOk result (λ answer. IsHoseText head.network head.routes hose answer.1.items) }
+    ensures least { IfOk result (λ answer. IsLeastHoseText head.network head.routes hose answer.1.items) }
     ensures short { IfOk result (λ answer. length answer.1.items < 2200000) }
 {
     let Head {

@@ -1,17 +1,16 @@
 //! Numbers that cover the shares on a link, none of which can be lowered.
-ghost use Rattle.std.specs.Prelude.{◌≡◌, ℕ, ◌<◌, ◌≤◌, ◌⊎◌, All, IfOk, IsTrue, length, slice_index};
-ghost use Rattle.te_model.specs.declared.limits.TheConstants.{FORMAT_2};
+ghost use Rattle.std.specs.Prelude.{◌≡◌, ℕ, ◌<◌, ◌≤◌, All, IfOk, IsTrue, length, slice_index};
 ghost use Rattle.te_model.specs.declared.units.TheConstants.{SHARE_UNIT};
 ghost use Rattle.te_model.specs.Laws.{PairsJoinNodes};
-ghost use Rattle.te_model.specs.Network.{is_well_formed, link_count};
+ghost use Rattle.te_model.specs.Network.{is_well_formed, link_count, node_count};
 ghost use Rattle.te_model.specs.Path.{share, source_of, destination_of};
 ghost use Rattle.routing.specs.Shares.{AreSharesOn};
-ghost use Rattle.hose_bound.specs.Covering.{AreLeastNumbers, IsLeastFrom, IsMadeBlock, end_of, other_end, raised_at};
-ghost use Rattle.hose_bound.specs.Judging.{AreSmallAmounts, IsSmallBlock};
-ghost use Rattle.hose_bound.specs.Verdict.{block_sum};
+ghost use Rattle.hose_bound.specs.Covering.{AreEndsOf, AreLeastNumbers, IsLeastFrom, IsMadeBlock, end_of, other_end, raised_at};
+ghost use Rattle.hose_bound.specs.Judging.{AreSmallAmounts};
+ghost use Rattle.hose_bound.specs.Making.{IsAttained};
 
 use crate::hose::{Hose, HoseBlock};
-use crate::sums::block_sum;
+use cover_search::{EndShare, least_cover};
 use routing::PairShare;
 use std::alloc::Global;
 use te_model::{Items, Memory, Network, PairRoutes, number_at};
@@ -103,25 +102,27 @@ fn lowered_from(
     Ok(HoseBlock { link, tails, heads })
 }
 
-// The one that comes to less by the hose, the first where they come to the same.
-fn cheaper(nodes: usize, hose: &Hose, one: HoseBlock, other: HoseBlock) -> HoseBlock
-    requires nodes { nodes ≤ FORMAT_2.nodes }
-    requires amounts { AreSmallAmounts hose.now }
-    requires one { IsSmallBlock one }
-    requires other { IsSmallBlock other }
-    ensures choice { (result ≡ one) ⊎ (result ≡ other) }
-    ensures one { block_sum nodes hose.now result ≤ block_sum nodes hose.now one }
-    ensures other { block_sum nodes hose.now result ≤ block_sum nodes hose.now other }
+// The shares with the ends of their pairs.
+fn end_shares(
+    alloc: Global,
+    routes: &[PairRoutes],
+    shares: &[PairShare],
+) -> Result<Vec<EndShare>, Memory>
+    requires { All (λ s. s.pair < length routes.now) shares.now }
+    ensures { IfOk result (λ ends. AreEndsOf routes.now shares.now ends.items) }
 {
-    if block_sum(nodes, hose, &other) < block_sum(nodes, hose, &one) {
-        other
-    } else {
-        one
+    let mut ends = Vec::new(alloc);
+    for pair in shares {
+        ends.push(EndShare {
+            source: end_of(End::Source, routes, pair.pair),
+            destination: end_of(End::Destination, routes, pair.pair),
+            share: pair.share,
+        })?;
     }
+    Ok(ends)
 }
 
-// The block of a link with these shares: the cheaper of the covers from no numbers of the destinations, and from their greatest
-// shares.
+// The block of a link with these shares: numbers that come to the least by the hose, lowered.
 pub fn tight_cover(
     alloc: Global,
     net: &Network,
@@ -133,22 +134,20 @@ pub fn tight_cover(
     requires network { IsTrue (is_well_formed net.now) }
     requires ends { PairsJoinNodes net.now routes.now }
     requires small { (p : ℕ) → p < length routes.now → share routes.now p link ≤ SHARE_UNIT }
+    requires sent { length hose.now.sent ≡ node_count net.now }
+    requires received { length hose.now.received ≡ node_count net.now }
     requires amounts { AreSmallAmounts hose.now }
     requires link { link < link_count net.now }
     requires shares { AreSharesOn routes.now link shares.now }
-    ensures { IfOk result (λ b. (b.link ≡ link) × IsMadeBlock net.now routes.now hose.now b) }
+    ensures made { IfOk result (λ b. (b.link ≡ link) × IsMadeBlock net.now routes.now hose.now b) }
+    ensures attained { IfOk result (IsAttained net.now routes.now hose.now) }
 {
     let nodes = net.names.as_slice().len();
     let none = vec![in alloc; 0; nodes]?;
-    let greatest = least_numbers(
-        alloc,
-        End::Destination,
-        nodes,
-        routes,
-        shares,
-        none.as_slice(),
-    )?;
-    let one = lowered_from(alloc, nodes, routes, link, shares, none.as_slice())?;
-    let other = lowered_from(alloc, nodes, routes, link, shares, greatest.as_slice())?;
-    Ok(cheaper(nodes, hose, one, other))
+    let tails = least_numbers(alloc, End::Source, nodes, routes, shares, none.as_slice())?;
+    let ends = end_shares(alloc, routes, shares)?;
+    let sent = hose.sent.as_slice();
+    let received = hose.received.as_slice();
+    let cover = least_cover(alloc, ends.as_slice(), tails, sent, received)?;
+    lowered_from(alloc, nodes, routes, link, shares, cover.heads.as_slice())
 }

@@ -6,7 +6,7 @@ ghost use Rattle.te_model.specs.PathRouting.{IsPathRouting};
 ghost use Rattle.routing.specs.Shares.{AreShares};
 ghost use Rattle.hose_bound.specs.Covering.{AreMadeBlocks, IsLeastBound};
 ghost use Rattle.hose_bound.specs.Judging.{AreSmallAmounts, IsSmallBlock};
-ghost use Rattle.hose_bound.specs.Making.{IsMadeFor};
+ghost use Rattle.hose_bound.specs.Making.{IsAttained, IsLeastBoundOf, IsMadeFor};
 ghost use Rattle.hose_bound.specs.Rules.{IsValidHose};
 ghost use Rattle.hose_bound.specs.Verdict.{pays_numbers};
 
@@ -28,9 +28,12 @@ fn made_blocks(
     requires network { IsTrue (is_well_formed net.now) }
     requires routing { IsPathRouting net.now routes.now }
     requires ends { PairsJoinNodes net.now routes.now }
+    requires sent { length hose.now.sent ≡ node_count net.now }
+    requires received { length hose.now.received ≡ node_count net.now }
     requires amounts { AreSmallAmounts hose.now }
     requires shares { AreShares net.now routes.now shares.now }
-    ensures { IfOk result (λ blocks. AreMadeBlocks net.now routes.now hose.now (link_count net.now) blocks.items) }
+    ensures made { IfOk result (λ blocks. AreMadeBlocks net.now routes.now hose.now (link_count net.now) blocks.items) }
+    ensures attained { IfOk result (λ blocks. All (IsAttained net.now routes.now hose.now) blocks.items) }
 {
     let mut blocks = Vec::new(alloc);
     for e in 0..net.links.as_slice().len() {
@@ -77,7 +80,8 @@ fn least_bound(net: &Network, hose: &Hose, blocks: &[HoseBlock]) -> u64
 
 /// Makes a hose certificate of the routing: of each link with a share on it numbers that cover the shares and of which none
 /// can be lowered by one, and which come to no more by the hose than the greatest shares of the sources alone, or of the
-/// destinations alone; and the least bound that pays for them. Which numbers it finds is not promised beyond that.
+/// destinations alone; and the least bound that pays for them. No lower bound is true of the routing: some matrix within the hose
+/// uses a link so much, rounded up to a millionth of its capacity. Which numbers it finds is not promised beyond that.
 ///
 /// # Errors
 ///
@@ -88,7 +92,8 @@ pub fn make(alloc: Global, net: &Network, routing: &Routing, hose: Hose) -> Resu
     requires few { length routing.now.routes < 2 ^ 32 }
     requires pairs { PairsJoinNodes net.now routing.now.routes }
     requires hose { IsValidHose (node_count net.now) hose }
-    ensures { IfOk result (IsMadeFor net.now routing.now.routes hose) }
+    ensures made { IfOk result (IsMadeFor net.now routing.now.routes hose) }
+    ensures exact { IfOk result (λ c. IsLeastBoundOf net.now routing.now.routes hose c.bound) }
 {
     let shares = Shares::new(alloc, net, routing)?;
     let blocks = made_blocks(alloc, net, routing.routes.as_slice(), &hose, &shares)?;

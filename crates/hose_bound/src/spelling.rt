@@ -1,7 +1,7 @@
 //! Hose certificates are printed and read back, and read and printed again.
-ghost use Rattle.std.specs.Prelude.{◌≡◌, ◌^◌, ◌<◌, IfOk};
+ghost use Rattle.std.specs.Prelude.{◌≡◌, ◌^◌, ◌<◌, Err, IfErr, IfOk};
 ghost use Rattle.te_model.specs.Network.{node_count, link_count};
-ghost use Rattle.hose_bound.specs.Reading.{GivesCertOrMemory};
+ghost use Rattle.hose_bound.specs.Reading.{GivesCertOrMemory, GivesHoseCert};
 ghost use Rattle.hose_bound.specs.Rules.{IsValidHoseCert};
 
 use crate::fault::HoseFault;
@@ -27,6 +27,9 @@ pub fn read_and_print(alloc: Global, net: &Network, bytes: &[u8]) -> Result<Vec<
     requires nodes { node_count net.now < 2 ^ 32 }
     requires links { link_count net.now < 2 ^ 32 }
     ensures same { IfOk result (λ file. file.items ≡ bytes.now) }
+
+    // It is refused as [`read`] refuses it, but for want of memory.
+    ensures refused { IfErr result (λ fault. GivesHoseCert net.now bytes.now (Err fault)) }
 {
     let cert = read(alloc, net, bytes)?;
     Ok(print(alloc, &cert)?)

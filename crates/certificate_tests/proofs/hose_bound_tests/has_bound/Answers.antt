@@ -28,7 +28,7 @@ pub judge-requires-clause-pairs : goal.judge-requires-clause-pairs
 judge-requires-clause-pairs c = (sample_within _ _ c.requires.network c.in_ok-routing.ensures).nodes
 
 pub judge-requires-clause-cert : goal.judge-requires-clause-cert
-judge-requires-clause-cert c = c.in_ok-cert.ensures.valid
+judge-requires-clause-cert c = c.in_ok-cert.ensures.made.valid
 
 pub is_read_back-requires-clause-cert : goal.is_read_back-requires-clause-cert
-is_read_back-requires-clause-cert c = c.in_ok-cert.ensures.valid
+is_read_back-requires-clause-cert c = c.in_ok-cert.ensures.made.valid
