@@ -7,7 +7,7 @@ ghost use Rattle.ratio_checker.specs.Checked.{CanCheckBlock};
 
 use te_model::Block;
 
-// The blocks of later links.
+/// The blocks of later links, of blocks from this link on.
 pub fn blocks_after(blocks: &[Block], link: u32) -> &[Block]
     requires { AscendsFrom (λ b. b.link) link blocks.now }
     ensures ascend { AscendsFrom (λ b. b.link) (link + 1) result.now }

@@ -1,7 +1,7 @@
 //! The verdict on a certificate of an oblivious ratio: whether the inequalities that it states hold of every link.
 #![tactic(auto)]
 
-mod blocks;
+pub mod blocks;
 mod bounds;
 mod capacity;
 pub mod feed;
@@ -9,8 +9,8 @@ pub mod finding;
 mod link_shares;
 mod potentials;
 mod rows;
-mod share_rows;
-mod share_table;
+pub mod share_rows;
+pub mod share_table;
 mod shares;
 
 pub use feed::Feed;

@@ -10,7 +10,7 @@ use crate::rows::potentials_of;
 use crate::shares::{covers, is_free};
 use te_model::{Block, Head, InequalityFault, number_at};
 
-// Where I2 fails first of a link without a block: at the first pair with a share on it.
+/// Where I2 fails first of a link without a block, given the shares on it: at the first pair that has one.
 pub fn first_share(shares: &[u32]) -> Option<InequalityFault>
     ensures { result ≡ first_below (length shares.now) (λ p. unless (slice_index shares.now p == 0) (failure_at 2 p)) }
 {
@@ -25,8 +25,8 @@ pub fn first_share(shares: &[u32]) -> Option<InequalityFault>
     None
 }
 
-// Where I2 fails first of the block, given the shares on its link. Pairs ascend by their sources, so the row of each is
-// looked up once.
+/// Where I2 fails first of the block, given the shares on its link. Pairs ascend by their sources, so the row of each is
+/// looked up once.
 pub fn shares_failure(head: &Head, block: &Block, shares: &[u32]) -> Option<InequalityFault>
     requires head { CanCheckHead head.now }
     requires block { CanCheckBlock head.now block.now }

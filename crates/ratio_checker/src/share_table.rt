@@ -31,7 +31,7 @@ fn write_shares(table: &mut [u32], pairs: usize, p: usize, shares: &[u64])
 }
 
 impl ShareTable {
-    // The shares of the pairs of a head.
+    /// The shares of the pairs of a head. `Memory` comes where memory is wanting.
     pub fn new(alloc: Global, head: &Head) -> Result<ShareTable, Memory>
         requires { CanCheckHead head.now }
         ensures { IfOk result (λ t. HasShares head.now.routes (link_count head.now.network) t) }
@@ -47,7 +47,7 @@ impl ShareTable {
         Ok(ShareTable { pairs, shares })
     }
 
-    // The shares of the pairs on the link.
+    /// The shares of the pairs on the link.
     pub fn on(&self, link: u32) -> &[u32]
         requires { (routes : List PairRoutes) × (links : ℕ) × HasShares routes links self.now × (link < links) }
         ensures { (routes : List PairRoutes) (links : ℕ) → HasShares routes links self.now → link < links → AreShareNumbers routes link result.now }

@@ -1,0 +1,15 @@
+pub mod LinkRatios
+pub mod FeasibleBlocks
+pub mod SameLinks
+pub mod FormedHeads
+pub mod SharesOn
+pub mod FirstThree
+pub mod FirstInfeasible
+pub mod AbsentBlocks
+pub mod SharedLinks
+pub mod NeedLaws
+pub mod SameNetworks
+pub mod RepricedValid
+pub mod RepricedHolds
+pub mod Rows
+pub mod OneNeed

@@ -1,0 +1,9 @@
+pub mod LinkRatio
+pub mod Feasible
+pub mod SameLinks
+pub mod Needs
+pub mod Table
+pub mod Proved
+pub mod Bounds
+pub mod Repriced
+pub mod Laws

@@ -1,0 +1,32 @@
+-- The needs of the links: of each link with a share the least ratio that its block allows.
+use Rattle.std.specs.Prelude.{ℕ, List, filter, map, if◌then◌else◌}
+use Rattle.std.specs.List.{range_with_len}
+use Rattle.te_model.specs.declared.certificate.Block.{Block}
+use Rattle.te_model.specs.declared.certificate.Certificate.{Certificate}
+use Rattle.te_model.specs.declared.certificate.Head.{Head}
+use Rattle.te_model.specs.Certificate.{block_of}
+use Rattle.te_model.specs.Network.{link_count}
+use Rattle.best_blocks.specs.Need.{need_of}
+use Rattle.link_bounds.specs.LinkRatio.{has_share}
+use Rattle.link_bounds.specs.declared.needs.LinkNeed.{LinkNeed}
+
+-- the links over which some pair sends, ascending
+abbrev pub shared_links : Head → List ℕ
+shared_links head = filter (has_share head.routes) (range_with_len 0 (link_count head.network))
+
+-- the need of a link: that of its block
+abbrev pub need_at : Certificate → ℕ → ℕ
+need_at c e = need_of c.head.network (block_of c.blocks e)
+
+-- the needs of the links with a share, ascending by link
+abbrev pub needs_of : Certificate → List LinkNeed
+needs_of c = map (λ e. record { link = e; need = need_at c e }) (shared_links c.head)
+
+-- the need of a link with a share, and 0 of a link that no pair uses
+abbrev pub shared_need : Certificate → ℕ → ℕ
+shared_need c e = if has_share c.head.routes e then need_at c e else 0
+
+-- the needs of the blocks of links with a share, one after another
+abbrev pub block_needs : Head → List Block → List LinkNeed
+block_needs head blocks =
+    map (λ b. record { link = b.link; need = need_of head.network b }) (filter (λ b. has_share head.routes b.link) blocks)

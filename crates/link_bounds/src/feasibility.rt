@@ -1,0 +1,80 @@
+//! Which of the first three inequalities of a certificate fails first.
+ghost use Rattle.std.specs.Prelude.{◌≡◌, All};
+ghost use Rattle.te_model.specs.Certificate.{block_of};
+ghost use Rattle.te_model.specs.Inequalities.{shares_failure};
+ghost use Rattle.te_model.specs.Network.{link_count};
+ghost use Rattle.te_model.specs.Validity.{IsValid};
+ghost use Rattle.ratio_checker.specs.Ascending.{AscendsFrom};
+ghost use Rattle.ratio_checker.specs.Checked.{CanCheckBlock, CanCheckHead};
+ghost use Rattle.ratio_checker.specs.Finding.{finding_of};
+ghost use Rattle.ratio_checker.specs.Shares.{AreShareNumbers, HasShares};
+ghost use Rattle.link_bounds.specs.Feasible.{first_infeasibility, infeasibility};
+
+use ratio_checker::Finding;
+use ratio_checker::blocks::blocks_after;
+use ratio_checker::finding::{block_failure, finding_on};
+use ratio_checker::share_rows::{first_share, shares_failure};
+use ratio_checker::share_table::ShareTable;
+use te_model::{Block, Certificate, Head, InequalityFault};
+
+// The first of I1 to I3 that fails of what the block says of its link, where `shares` is what fails of I2. I4 comes last, so where
+// it is the first of the four none of the three fails.
+fn infeasibility(
+    head: &Head,
+    block: &Block,
+    shares: Option<InequalityFault>,
+) -> Option<InequalityFault>
+    requires head { CanCheckHead head.now }
+    requires block { CanCheckBlock head.now block.now }
+    requires shares { shares ≡ shares_failure head.now.routes block.now }
+    ensures { result ≡ infeasibility head.now block.now }
+{
+    match block_failure(head, block, shares) {
+        Some(failure) if failure.number == 4 => None,
+        failure => failure,
+    }
+}
+
+// The same of the link, whose block is the first if it is there, and on which these are the shares. Of a link without a block only
+// I2 can fail.
+fn link_infeasibility(
+    head: &Head,
+    blocks: &[Block],
+    link: u32,
+    shares: &[u32],
+) -> Option<InequalityFault>
+    requires head { CanCheckHead head.now }
+    requires blocks { All (CanCheckBlock head.now) blocks.now }
+    requires ascend { AscendsFrom (λ b. b.link) link blocks.now }
+    requires shares { AreShareNumbers head.now.routes link shares.now }
+    ensures { result ≡ infeasibility head.now (block_of blocks.now link) }
+{
+    match blocks.first() {
+        Some(block) if block.link == link => {
+            infeasibility(head, block, shares_failure(head, block, shares))
+        }
+        _ => first_share(shares),
+    }
+}
+
+// The finding that the first of I1 to I3 that fails makes. Blocks ascend by their links, so one walk serves both.
+pub fn first_infeasibility(certificate: &Certificate, shares: &ShareTable) -> Finding
+    requires valid { IsValid certificate.now }
+    requires shares { HasShares certificate.now.head.routes (link_count certificate.now.head.network) shares.now }
+    ensures { result ≡ finding_of (first_infeasibility certificate.now) }
+{
+    let mut blocks = certificate.blocks.as_slice();
+    for e in 0..certificate.head.network.links.as_slice().len() {
+        let link = e as u32;
+        if let Some(failure) = link_infeasibility(
+            &certificate.head,
+            blocks,
+            link,
+            shares.on(link),
+        ) {
+            return finding_on(link, failure);
+        }
+        blocks = blocks_after(blocks, link);
+    }
+    Finding::Yes
+}
