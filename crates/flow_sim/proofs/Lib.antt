@@ -11,3 +11,4 @@ pub mod ResultLaws
 pub mod RatesLaws
 pub mod ResultSums
 pub mod LossLaws
+pub mod AskedLaws

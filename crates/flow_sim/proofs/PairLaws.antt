@@ -53,7 +53,7 @@ key_sum-replicate p (x ∷ xs) q =
     let whole : sum (x ∷ xs) ≡ x + sum xs = sum_by-cons (λ y. y) x xs in
     rw whole (ap (λ s. (if p == q then x else 0) + s) (key_sum-replicate p xs q) ∙ one_key (p == q) x (sum xs))
 
-concat_same : {A B : Type 0} (n : ℕ) (a : ℕ → List A) (b : ℕ → List B) → ((k : ℕ) → k < n → length (a k) ≡ length (b k)) →
+pub concat_same : {A B : Type 0} (n : ℕ) (a : ℕ → List A) (b : ℕ → List B) → ((k : ℕ) → k < n → length (a k) ≡ length (b k)) →
     length (concat_below n a) ≡ length (concat_below n b)
 concat_same zero a b each = refl
 concat_same (suc n) a b each =
@@ -107,7 +107,7 @@ pieces_sum (suc n) count piece q each =
 weights-length : (rates : List PairRoutes) (p : ℕ) → length (weights (paths_of rates p)) ≡ length (paths_of rates p)
 weights-length rates p = length-map (paths_of rates p) (λ s. s.weight)
 
-starts-length : (rates : List PairRoutes) (demand : List ℕ) (p : ℕ) → length (starts_of rates demand p) ≡ length (paths_of rates p)
+pub starts-length : (rates : List PairRoutes) (demand : List ℕ) (p : ℕ) → length (starts_of rates demand p) ≡ length (paths_of rates p)
 starts-length rates demand p =
     length-map-range_with_len (part (slice_index demand p) (weights (paths_of rates p))) 0 (length (weights (paths_of rates p)))
     ∙ weights-length rates p

@@ -2,6 +2,7 @@ pub mod Fair
 pub mod Step
 pub mod Tables
 pub mod Traffic
+pub mod Asked
 pub mod State
 pub mod Result
 pub mod Asking

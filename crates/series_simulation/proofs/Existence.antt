@@ -1,12 +1,12 @@
--- Each step of a series has a row, where the scheme's plans and routings exist.
-use Rattle.std.proofs.Common.{◌≡◌, ◌⊎◌, ◌↔◌, ℕ, ◌≤◌, Bool, true, false, Option, List, [], ◌∷◌, length, filter, arith, refl, sym, subst, ◌∙◌, inl, inr}
+-- Each step of a series has rates and a row, where the scheme's plans and routings exist.
+use Rattle.std.proofs.Common.{◌≡◌, ◌⊎◌, ◌↔◌, ℕ, ◌<◌, ◌≤◌, Bool, true, false, Option, List, [], ◌∷◌, length, filter, arith, refl, sym, subst, ◌∙◌, inl, inr}
 use Rattle.std.specs.Prelude.{MatchBool, sum_by}
 use Rattle.std.proofs.lemmas.Bool.{false≢true}
 use Rattle.std.proofs.lemmas.List.Elements.{All-weaker}
 use Rattle.te_model.specs.declared.network.Network.{Network}
 use Rattle.te_model.specs.declared.route.Pair.{Pair}
 use Rattle.te_model.specs.declared.route.PairRoutes.{PairRoutes}
-use Rattle.te_model.specs.Network.{is_well_formed, link_count}
+use Rattle.te_model.specs.Network.{is_well_formed, link_count, node_count}
 use Rattle.te_model.specs.PathRouting.{IsPathRouting}
 use Rattle.shortest_path.specs.Paths.{HasPath}
 use Rattle.te_model.proofs.Choices.{list_exists}
@@ -14,22 +14,27 @@ use Rattle.routing.specs.Routes.{AreDemands, HasFewPaths}
 use Rattle.routing.specs.Utilisation.{parts}
 use Rattle.scheme.specs.Reach.{AllReached, ArePairsOf, IsFirstWithout, IsReached}
 use Rattle.scheme.proofs.Reaching.{reached_or_first}
+use Rattle.failure.specs.declared.outage.Failures.{Failures}
 use Rattle.failure.specs.Series.{marks_of}
 use Rattle.failure.specs.Survivor.{survivor_of}
 use Rattle.failure.proofs.NetworkLemmas.{well-formed}
 use Rattle.plan.specs.declared.recovery.Recovery.{Recovery}
 use Rattle.local_recovery.specs.declared.mode.Mode.{Mode}
-use Rattle.local_recovery.specs.Rates.{pairs_of}
+use Rattle.local_recovery.specs.Rates.{have_rates, pairs_of}
 use Rattle.local_recovery.specs.Spread.{IsSublist}
 use Rattle.local_recovery.proofs.Existence.{recoveries_exist, spreads_exist}
+use Rattle.local_recovery.proofs.Spreading.{spread_rates as spread_whole}
 use Rattle.flow_sim.specs.declared.result.StepResult.{StepResult}
 use Rattle.flow_sim.specs.Result.{all_carried, pair_results}
+use Rattle.series_simulation.specs.declared.step_row.SimulatedStep.{SimulatedStep}
 use Rattle.series_simulation.specs.declared.step_row.StepRow.{StepRow}
 use Rattle.series_simulation.specs.Connected.{TellsPaths, demands_of}
-use Rattle.series_simulation.specs.Laws.{HasPlans, HasRoutings, StepRowsExist}
+use Rattle.series_simulation.specs.Laws.{HasPlans, HasRoutings, StepRowsExist, StepsExist}
+use Rattle.traffic_matrix.specs.declared.series.Series.{Series}
+use Rattle.traffic_matrix.specs.Limits.{IsSeries}
 use Rattle.traffic_matrix.specs.Text.{no_matrix}
 use Rattle.series_simulation.specs.OriginalLinks.{original_routes}
-use Rattle.series_simulation.specs.Rows.{IsReroutedOn, IsRouted, IsStepRow, demands_in, is_rerouted, mode_of, no_row}
+use Rattle.series_simulation.specs.Rows.{IsReroutedOn, IsRouted, IsStep, IsStepRow, demands_in, is_rerouted, mode_of, no_row}
 use Rattle.series_simulation.specs.Simulation.{IsSimulated, peak_of}
 use Rattle.series_simulation.proofs.Demands.{demands_are}
 use Rattle.series_simulation.proofs.Mapping.{few-back, pairs-back, routing-back}
@@ -42,10 +47,10 @@ is_first net pairs (inl all) = true
 is_first net pairs (inr first) = false
 
 -- whether the pair has a path in the network
-has_path_in : Network → Pair → Bool
+pub has_path_in : Network → Pair → Bool
 has_path_in net pair = is_first net (pair ∷ []) (reached_or_first net (pair ∷ []))
 
-tells : (net : Network) → TellsPaths net (has_path_in net)
+pub tells : (net : Network) → TellsPaths net (has_path_in net)
 unfolding has_path_in is_first
 tells net pair of = go (reached_or_first net (pair ∷ []))
   where
@@ -58,7 +63,7 @@ tells net pair of = go (reached_or_first net (pair ∷ []))
 
 simulated_exists : (mode : Mode) (net : Network) (failed : List Bool) (pairs : List Pair) (demand : List ℕ) (routes : List PairRoutes) →
     is_well_formed net ≡ true → IsPathRouting net routes → HasFewPaths 4096 routes → IsSublist (pairs_of routes) pairs →
-    (result : StepResult) × IsSimulated mode net failed pairs demand routes result
+    (rates : List PairRoutes) × (result : StepResult) × (have_rates rates ≡ true) × IsSimulated mode net failed pairs demand routes rates result
 simulated_exists mode net failed pairs demand routes formed splits few some =
     let (left, recovered, same, paths, small, whole) = recoveries_exist mode net formed failed routes splits few in
     let (rates, spread, are_rates) = spreads_exist pairs left (subst (λ (ps : List Pair). IsSublist ps pairs) (sym same) some) in
@@ -73,11 +78,12 @@ simulated_exists mode net failed pairs demand routes formed splits few some =
       carried = carried;
       per_pair = per_pair;
     } in (
+      rates,
       result,
+      spread_whole left rates whole spread.added,
       record {
         left = left;
         recovered = recovered;
-        rates = rates;
         spread = spread;
         per_pair = refl;
         carried = refl;
@@ -161,29 +167,55 @@ module _ {Plan Note : Type 0} (limit : ℕ) (is_plan : Network → List Pair →
         few = routed.few;
       }
 
-  step_row_exists : HasPlans is_plan → HasRoutings limit is_plan relates → limit ≤ 4096 → (net : Network) (failed : List Bool) (pairs : List Pair)
+  step_exists : HasPlans is_plan → HasRoutings limit is_plan relates → limit ≤ 4096 → (net : Network) (failed : List Bool) (pairs : List Pair)
       (demand : List ℕ) (recovery : Recovery) (plan : Plan) → is_well_formed net ≡ true → length failed ≡ link_count net → ArePairsOf net pairs →
       AreDemands (length pairs) demand → is_plan net (filter (has_path_in net) pairs) plan → (step : ℕ) →
-      (row : StepRow) × ((row.step ≡ step) × IsStepRow limit is_plan relates low net failed pairs demand recovery plan row)
-  step_row_exists plans routings small net failed pairs demand recovery plan formed marks are demands planned step =
+      (s : SimulatedStep) × ((s.row.step ≡ step) × IsStep limit is_plan relates low net failed pairs demand recovery plan s.rates.routes s.row)
+  step_exists plans routings small net failed pairs demand recovery plan formed marks are demands planned step =
       let routed = step_routing_exists plans routings net failed pairs demand plan formed marks are demands planned (is_rerouted recovery failed) in
       let few = All-weaker (λ (r : PairRoutes). length r.paths ≤ limit) (λ (r : PairRoutes). length r.paths ≤ 4096) (λ r is. omega (arith, is, small)) routed.routes routed.few in
-      let (result, simulated) = simulated_exists (mode_of recovery) net failed pairs demand routed.routes formed routed.splits few routed.some in (
-        record { step = step; result = result; peak = peak_of net result.carried; parts = routed.most; low = routed.bound },
+      let (rates, result, whole, simulated) = simulated_exists (mode_of recovery) net failed pairs demand routed.routes formed routed.splits few routed.some in (
+        record {
+          rates = record { routes = rates; rates = whole };
+          row = record { step = step; result = result; peak = peak_of net result.carried; parts = routed.most; low = routed.bound };
+        },
         (refl, record { routes = routed.routes; routed = routed.routed; simulated = simulated; peak_is = refl }),
       )
 
+  -- a plan of the pairs that have a path
+  pub plan_exists : HasPlans is_plan → (net : Network) (series : Series) → is_well_formed net ≡ true → IsSeries (node_count net) series →
+      (plan : Plan) × is_plan net (filter (has_path_in net) series.pairs.list) plan
+  plan_exists plans net series formed is =
+      let are = series_pairs net series formed is in
+      let test = has_path_in net in
+      let pairs = series.pairs.list in
+      plans net formed (filter test pairs) (passing_pairs net test pairs are) (passing_reached net test pairs are (tells net))
+
+  -- step k by a plan of these pairs
+  pub step_by : HasPlans is_plan → HasRoutings limit is_plan relates → limit ≤ 4096 → (net : Network) → is_well_formed net ≡ true → (series : Series) →
+      IsSeries (node_count net) series → (failures : Failures) (recovery : Recovery) (plan : Plan) →
+      is_plan net (filter (has_path_in net) series.pairs.list) plan → (k : ℕ) → k < length series.steps →
+      (s : SimulatedStep)
+      × ((s.row.step ≡ k) × IsStep limit is_plan relates low net (marks_of net failures k) series.pairs.list (demands_in series k) recovery plan s.rates.routes s.row)
+  step_by plans routings small net formed series is failures recovery plan planned k below =
+      step_exists plans routings small net (marks_of net failures k) series.pairs.list (demands_in series k) recovery plan formed (marks_count net failures k)
+      (series_pairs net series formed is) (is.matrices k no_matrix below) planned k
+
+  pub steps_exist : StepsExist limit is_plan relates low
+  steps_exist plans routings small net formed series is failures recovery k below =
+      let (plan, planned) = plan_exists plans net series formed is in
+      let (step, (number, is_step)) = step_by plans routings small net formed series is failures recovery plan planned k below in
+      (step, record { plan = plan; number = number; is_step = is_step })
+
   pub step_rows_exist : StepRowsExist limit is_plan relates low
   step_rows_exist plans routings small net formed series is failures recovery =
-      let are = series_pairs net series formed is in
       let pairs = series.pairs.list in
-      let test = has_path_in net in
-      let (plan, planned) = plans net formed (filter test pairs) (passing_pairs net test pairs are) (passing_reached net test pairs are (tells net)) in
+      let (plan, planned) = plan_exists plans net series formed is in
       let (rows, count, each) = list_exists
       (λ k (row : StepRow). (row.step ≡ k) × IsStepRow limit is_plan relates low net (marks_of net failures k) pairs (demands_in series k) recovery plan row)
       no_row (length series.steps) (λ k below.
-      step_row_exists plans routings small net (marks_of net failures k) pairs (demands_in series k) recovery plan formed (marks_count net failures k) are
-      (is.matrices k no_matrix below) planned k) in (
+      let (step, (number, is_step)) = step_by plans routings small net formed series is failures recovery plan planned k below in
+      (step.row, (number, (step.rates.routes, is_step)))) in (
         rows,
         record {
           plan = plan;

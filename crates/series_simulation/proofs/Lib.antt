@@ -8,3 +8,4 @@ mod Carried
 pub mod Rowing
 pub mod Marking
 pub mod Existence
+pub mod Standing

@@ -1,5 +1,5 @@
--- The rows of a scheme over a series exist where its plans and routings do, as statements.
-use Rattle.std.specs.Prelude.{ℕ, ◌≤◌, IsTrue, List, Option, length}
+-- The rows of a scheme over a series and its steps exist where its plans and routings do, as statements.
+use Rattle.std.specs.Prelude.{◌≡◌, ℕ, ◌<◌, ◌≤◌, IsTrue, List, Option, length}
 use Rattle.te_model.specs.declared.network.Network.{Network}
 use Rattle.te_model.specs.declared.route.Pair.{Pair}
 use Rattle.te_model.specs.declared.route.PairRoutes.{PairRoutes}
@@ -10,8 +10,9 @@ use Rattle.failure.specs.declared.outage.Failures.{Failures}
 use Rattle.traffic_matrix.specs.declared.series.Series.{Series}
 use Rattle.traffic_matrix.specs.Limits.{IsSeries}
 use Rattle.plan.specs.declared.recovery.Recovery.{Recovery}
+use Rattle.series_simulation.specs.declared.step_row.SimulatedStep.{SimulatedStep}
 use Rattle.series_simulation.specs.declared.step_row.StepRow.{StepRow}
-use Rattle.series_simulation.specs.Rows.{AreStepRows}
+use Rattle.series_simulation.specs.Rows.{AreStepRows, IsStepAt, step_row_at}
 
 -- pairs of a network that all have a path have a plan
 abbrev pub HasPlans : {Plan : Type 0} → (Network → List Pair → Plan → Type 0) → Type 0
@@ -34,3 +35,20 @@ StepRowsExist limit is_plan relates low =
     HasPlans is_plan → HasRoutings limit is_plan relates → limit ≤ 4096 → (net : Network) → IsTrue (is_well_formed net) →
     (series : Series) → IsSeries (node_count net) series → (failures : Failures) (recovery : Recovery) →
     (rows : List StepRow) × AreStepRows limit is_plan relates low net series failures recovery rows
+
+-- each step of a series exists, whatever fails and however traffic goes on
+abbrev pub StepsExist : {Plan Note : Type 0} → ℕ → (Network → List Pair → Plan → Type 0) →
+    (Network → List Pair → Plan → List ℕ → List PairRoutes → Note → Type 0) → (Note → Option ℕ) → Type 0
+StepsExist limit is_plan relates low =
+    HasPlans is_plan → HasRoutings limit is_plan relates → limit ≤ 4096 → (net : Network) → IsTrue (is_well_formed net) →
+    (series : Series) → IsSeries (node_count net) series → (failures : Failures) (recovery : Recovery) (k : ℕ) → k < length series.steps →
+    (step : SimulatedStep) × IsStepAt limit is_plan relates low net series failures recovery k step
+
+-- the row of each step of a series stands in rows of the series
+abbrev pub StepsStandInRows : {Plan Note : Type 0} → ℕ → (Network → List Pair → Plan → Type 0) →
+    (Network → List Pair → Plan → List ℕ → List PairRoutes → Note → Type 0) → (Note → Option ℕ) → Type 0
+StepsStandInRows limit is_plan relates low =
+    HasPlans is_plan → HasRoutings limit is_plan relates → limit ≤ 4096 → (net : Network) → IsTrue (is_well_formed net) →
+    (series : Series) → IsSeries (node_count net) series → (failures : Failures) (recovery : Recovery) (k : ℕ) → k < length series.steps →
+    (step : SimulatedStep) → IsStepAt limit is_plan relates low net series failures recovery k step →
+    (rows : List StepRow) × AreStepRows limit is_plan relates low net series failures recovery rows × (step_row_at rows k ≡ step.row)

@@ -15,6 +15,7 @@ use Rattle.traffic_matrix.specs.declared.series.Series.{Series}
 use Rattle.traffic_matrix.specs.Text.{no_matrix}
 use Rattle.plan.specs.declared.recovery.Recovery.{Recovery}
 use Rattle.plan.specs.declared.recovery.Recovery.TheVariants.{Keep, Scale, Bypass, Reroute}
+use Rattle.series_simulation.specs.declared.step_row.SimulatedStep.{SimulatedStep}
 use Rattle.series_simulation.specs.declared.step_row.StepRow.{StepRow}
 use Rattle.series_simulation.specs.Connected.{TellsPaths, demands_of}
 use Rattle.series_simulation.specs.OriginalLinks.{original_routes}
@@ -80,12 +81,16 @@ module _ {Plan Note : Type 0} (limit : ℕ) (is_plan : Network → List Pair →
   IsStepRouting net failed pairs demand recovery plan routes most bound =
       MatchBool (is_rerouted recovery failed) (IsReroutedOn net failed pairs demand routes most bound) (IsRouted net pairs demand plan routes most bound)
 
-  -- the row of a step, by a plan for the whole network
-  pub record IsStepRow (net : Network) (failed : List Bool) (pairs : List Pair) (demand : List ℕ) (recovery : Recovery) (plan : Plan) (row : StepRow) : Type 0 where
+  -- a step, by a plan for the whole network: the rates that its demands take, after any recovery, and its row
+  pub record IsStep (net : Network) (failed : List Bool) (pairs : List Pair) (demand : List ℕ) (recovery : Recovery) (plan : Plan) (rates : List PairRoutes) (row : StepRow) : Type 0 where
     pub routes : List PairRoutes
     pub routed : IsStepRouting net failed pairs demand recovery plan routes row.parts row.low
-    pub simulated : IsSimulated (mode_of recovery) net failed pairs demand routes row.result
+    pub simulated : IsSimulated (mode_of recovery) net failed pairs demand routes rates row.result
     pub peak_is : row.peak ≡ peak_of net row.result.carried
+
+  -- the row of a step
+  abbrev pub IsStepRow : Network → List Bool → List Pair → List ℕ → Recovery → Plan → StepRow → Type 0
+  IsStepRow net failed pairs demand recovery plan row = (rates : List PairRoutes) × IsStep net failed pairs demand recovery plan rates row
 
   -- one row for each step of the series, in order; one plan serves all steps for which the scheme is not prepared anew
   pub record AreStepRows (net : Network) (series : Series) (failures : Failures) (recovery : Recovery) (rows : List StepRow) : Type 0 where
@@ -94,3 +99,9 @@ module _ {Plan Note : Type 0} (limit : ℕ) (is_plan : Network → List Pair →
     pub steps : (k : ℕ) → k < length rows → (step_row_at rows k).step ≡ k
     pub each : (k : ℕ) → k < length rows →
         IsStepRow net (marks_of net failures k) series.pairs.list (demands_in series k) recovery plan (step_row_at rows k)
+
+  -- step k of the series, by some plan
+  pub record IsStepAt (net : Network) (series : Series) (failures : Failures) (recovery : Recovery) (k : ℕ) (step : SimulatedStep) : Type 0 where
+    pub plan : Plan
+    pub number : step.row.step ≡ k
+    pub is_step : IsStep net (marks_of net failures k) series.pairs.list (demands_in series k) recovery plan step.rates.routes step.row

@@ -13,12 +13,11 @@ use Rattle.local_recovery.specs.Spread.{IsSpread}
 use Rattle.flow_sim.specs.declared.result.StepResult.{StepResult}
 use Rattle.flow_sim.specs.Result.{IsConserved, IsSummed, all_carried, pair_results}
 
--- what is left of the routing in the mode, over all declared pairs, of which the added ones have no path, is what the demands of the
--- step take
-pub record IsSimulated (mode : Mode) (net : Network) (failed : List Bool) (pairs : List Pair) (demand : List ℕ) (routes : List PairRoutes) (result : StepResult) : Type 0 where
+-- the rates that the demands of the step take are what is left of the routing in the mode, over all declared pairs, of which the added
+-- ones have no path
+pub record IsSimulated (mode : Mode) (net : Network) (failed : List Bool) (pairs : List Pair) (demand : List ℕ) (routes rates : List PairRoutes) (result : StepResult) : Type 0 where
   pub left : List PairRoutes
   pub recovered : IsRecovered mode net failed routes left
-  pub rates : List PairRoutes
   pub spread : IsSpread pairs left rates
   pub per_pair : result.per_pair ≡ pair_results net failed rates demand
   pub carried : result.carried ≡ all_carried net failed rates demand

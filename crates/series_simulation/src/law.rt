@@ -1,5 +1,5 @@
-//! The rows of a scheme over a series exist where its plans and routings do.
-ghost use Rattle.series_simulation.specs.Laws.{StepRowsExist};
+//! The rows of a scheme over a series and its steps exist where its plans and routings do.
+ghost use Rattle.series_simulation.specs.Laws.{StepRowsExist, StepsExist, StepsStandInRows};
 
 use scheme::Scheme;
 
@@ -7,4 +7,14 @@ use scheme::Scheme;
 /// has rows, whichever links fail and however traffic goes on then.
 pub fn step_rows_exist<S: Scheme>(_scheme: &S)
     ensures { StepRowsExist S.PATHS (S.is_plan _scheme.now) (S.relates _scheme.now) S.Note.low }
+{}
+
+/// Under the same premises each step of every series exists, with the paths that its demands take.
+pub fn steps_exist<S: Scheme>(_scheme: &S)
+    ensures { StepsExist S.PATHS (S.is_plan _scheme.now) (S.relates _scheme.now) S.Note.low }
+{}
+
+/// And the row of each step stands in rows of the series: what is said of a step in detail is said of a row of a report.
+pub fn steps_stand_in_rows<S: Scheme>(_scheme: &S)
+    ensures { StepsStandInRows S.PATHS (S.is_plan _scheme.now) (S.relates _scheme.now) S.Note.low }
 {}

@@ -2,16 +2,17 @@
 ghost use Rattle.std.specs.Prelude.{◌≡◌, ◌<◌, ◌≤◌, ℕ, All, IfOk, IsTrue, filter, length};
 ghost use Rattle.te_model.specs.Network.{is_well_formed, link_count, node_count};
 ghost use Rattle.te_model.specs.Pairs.{AreDemands};
+ghost use Rattle.local_recovery.specs.Rates.{IsRates};
 ghost use Rattle.traffic_matrix.specs.Limits.{IsSeries};
 ghost use Rattle.series_simulation.specs.Connected.{TellsPaths, connects};
-ghost use Rattle.series_simulation.specs.Rows.{AreStepRows, IsStepRow, demands_in, step_row_at};
+ghost use Rattle.series_simulation.specs.Rows.{AreStepRows, IsStep, IsStepRow, demands_in, step_row_at};
 ghost use Rattle.series_simulation.specs.Simulation.{IsConservedStep};
 
 use crate::peak::peak;
 use crate::preparation::{Preparation, prepare_connected};
 use crate::recovery::mode_of;
 use crate::step_routing::step_routing;
-use crate::step_row::StepRow;
+use crate::step_row::{SimulatedStep, StepRow};
 use crate::step_simulation::simulate;
 use failure::Failures;
 use plan::Recovery;
@@ -21,7 +22,7 @@ use te_model::{Items, Matrix, Memory, Network};
 use traffic_matrix::Series;
 
 /// The matrix of the step.
-fn matrix_of(series: &Series, step: u32) -> &Matrix
+pub fn matrix_of(series: &Series, step: u32) -> &Matrix
     requires step { step < length series.now.steps }
     requires demands { All (λ m. AreDemands (length series.now.pairs.list) m.demand) series.now.steps }
     ensures matrix { result.now.demand ≡ demands_in series.now step }
@@ -30,11 +31,58 @@ fn matrix_of(series: &Series, step: u32) -> &Matrix
     &series.steps.as_slice()[step as usize]
 }
 
-/// The row of a step in which the marked links have failed, by what was prepared for the network.
+/// A step in which the marked links have failed, by what was prepared for the network.
 ///
 /// The scheme routes the matrix of the pairs that have a path, and what is left of its routing takes the demands of the step; the other
 /// pairs lose theirs for want of a path. Under `Reroute`, where a link has failed, the scheme is prepared anew on the network without
 /// its failed links, for the pairs that have a path there. `failed` has one mark for each link. `Memory` comes where memory is wanting.
+pub fn step_of<S: Scheme>(
+    alloc: Global,
+    scheme: &S,
+    net: &Network,
+    prepared: &Preparation<S::Plan>,
+    series: &Series,
+    failed: &[bool],
+    recovery: Recovery,
+    step: u32,
+) -> Result<SimulatedStep, Memory>
+    requires network { IsTrue (is_well_formed net.now) }
+    requires series { IsSeries (node_count net.now) series.now }
+    requires marks { length failed.now ≡ link_count net.now }
+    requires paths { S.PATHS ≤ 4096 }
+    requires tells { TellsPaths net.now (connects prepared.now.reach) }
+    requires planned { S.is_plan scheme.now net.now (filter (connects prepared.now.reach) series.now.pairs.list) prepared.now.plan }
+    requires step { step < length series.now.steps }
+    ensures number { IfOk result (λ s. s.row.step ≡ step) }
+    ensures step { IfOk result (λ s. IsStep S.PATHS (S.is_plan scheme.now) (S.relates scheme.now) S.Note.low net.now failed.now
+        series.now.pairs.list (demands_in series.now step) recovery prepared.now.plan s.rates.routes s.row) }
+    ensures rates { IfOk result (λ s. IsRates net.now s.rates.routes) }
+    ensures conserved { IfOk result (λ s. IsConservedStep (demands_in series.now step) s.row.result) }
+{
+    let pairs = &series.pairs;
+    let matrix = matrix_of(series, step);
+    let routed = step_routing(
+        alloc, scheme, net, prepared, failed, pairs, matrix, recovery,
+    )?;
+    let mode = mode_of(recovery);
+    let simulation = simulate(alloc, mode, net, failed, pairs, matrix, &routed.routing)?;
+    let result = simulation.result;
+    let peak = peak(net, result.carried.as_slice());
+    Ok(SimulatedStep {
+        rates: simulation.rates,
+        row: StepRow {
+            step,
+            result,
+            peak,
+            parts: routed.parts,
+            low: routed.low,
+        },
+    })
+}
+
+/// The row of a step in which the marked links have failed, by what was prepared for the network: that of `step_of`.
+///
+/// `failed` has one mark for each link. `Memory` comes where memory is wanting.
 pub fn row_of<S: Scheme>(
     alloc: Global,
     scheme: &S,
@@ -57,21 +105,8 @@ pub fn row_of<S: Scheme>(
         series.now.pairs.list (demands_in series.now step) recovery prepared.now.plan) }
     ensures conserved { IfOk result (λ row. IsConservedStep (demands_in series.now step) row.result) }
 {
-    let pairs = &series.pairs;
-    let matrix = matrix_of(series, step);
-    let routed = step_routing(
-        alloc, scheme, net, prepared, failed, pairs, matrix, recovery,
-    )?;
-    let mode = mode_of(recovery);
-    let result = simulate(alloc, mode, net, failed, pairs, matrix, &routed.routing)?;
-    let peak = peak(net, result.carried.as_slice());
-    Ok(StepRow {
-        step,
-        result,
-        peak,
-        parts: routed.parts,
-        low: routed.low,
-    })
+    let simulated = step_of(alloc, scheme, net, prepared, series, failed, recovery, step)?;
+    Ok(simulated.row)
 }
 
 /// One row for each step of the series, by a scheme whose pairs have at most 4,096 paths each.

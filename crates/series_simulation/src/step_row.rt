@@ -1,6 +1,7 @@
-//! The row of a step.
+//! A simulated step, and its row.
 
 use flow_sim::StepResult;
+use local_recovery::Recovered;
 
 /// What became of the traffic of a step, and how far the links were used.
 #[derive(Drop)]
@@ -15,4 +16,13 @@ pub struct StepRow {
     pub parts: u128,
     /// The lower bound of every routing's utilisation that the scheme noted, in millionths, if it has one.
     pub low: Option<u128>,
+}
+
+/// A simulated step: its row, and the paths that its demands took.
+#[derive(Drop)]
+pub struct SimulatedStep {
+    /// The weighted paths of each declared pair after any recovery, by the numbers of the links of the whole network.
+    pub rates: Recovered,
+    /// The row of the step.
+    pub row: StepRow,
 }

@@ -3,15 +3,22 @@ ghost use Rattle.std.specs.Prelude.{◌≡◌, ◌≤◌, EachIndex, IfOk, IsTru
 ghost use Rattle.te_model.specs.Network.{is_well_formed, link_count, capacity_of};
 ghost use Rattle.te_model.specs.PathRouting.{IsPathRouting};
 ghost use Rattle.routing.specs.Routes.{AreDemands, HasFewPaths};
-ghost use Rattle.local_recovery.specs.Rates.{ArePairs, pairs_of};
+ghost use Rattle.local_recovery.specs.Rates.{ArePairs, IsRates, pairs_of};
 ghost use Rattle.local_recovery.specs.Spread.{IsSublist};
 ghost use Rattle.series_simulation.specs.Simulation.{IsConservedStep, IsSimulated};
 
 use flow_sim::{StepResult, step};
-use local_recovery::{Mode, recover};
+use local_recovery::{Mode, Recovered, recover};
 use routing::Routing;
 use std::alloc::Global;
 use te_model::{Matrix, Memory, Network, Pairs};
+
+/// The paths that the demands of a step take, and what becomes of the demands on them.
+#[derive(Drop)]
+pub struct Simulation {
+    pub rates: Recovered,
+    pub result: StepResult,
+}
 
 /// What becomes of the demands of all pairs in a step, on what is left of the routing in the mode.
 ///
@@ -25,7 +32,7 @@ pub fn simulate(
     pairs: &Pairs,
     matrix: &Matrix,
     routing: &Routing,
-) -> Result<StepResult, Memory>
+) -> Result<Simulation, Memory>
     requires network { IsTrue (is_well_formed net.now) }
     requires marks { length failed.now ≡ link_count net.now }
     requires pairs { ArePairs net.now pairs.now.list }
@@ -33,13 +40,14 @@ pub fn simulate(
     requires routing { IsPathRouting net.now routing.now.routes }
     requires few { HasFewPaths 4096 routing.now.routes }
     requires some { IsSublist (pairs_of routing.now.routes) pairs.now.list }
-    ensures simulated { IfOk result (IsSimulated mode net.now failed.now pairs.now.list matrix.now.demand routing.now.routes) }
-    ensures conserved { IfOk result (IsConservedStep matrix.now.demand) }
-    ensures count { IfOk result (λ r. length r.carried ≡ link_count net.now) }
-    ensures within { IfOk result (λ r. EachIndex r.carried (λ e. slice_index r.carried e ≤ capacity_of net.now e)) }
+    ensures simulated { IfOk result (λ s. IsSimulated mode net.now failed.now pairs.now.list matrix.now.demand routing.now.routes s.rates.routes s.result) }
+    ensures rates { IfOk result (λ s. IsRates net.now s.rates.routes) }
+    ensures conserved { IfOk result (λ s. IsConservedStep matrix.now.demand s.result) }
+    ensures count { IfOk result (λ s. length s.result.carried ≡ link_count net.now) }
+    ensures within { IfOk result (λ s. EachIndex s.result.carried (λ e. slice_index s.result.carried e ≤ capacity_of net.now e)) }
 {
     let left = recover(alloc, mode, net, failed, routing)?;
     let rates = left.spread(alloc, pairs)?;
     let result = step(alloc, net, failed, &rates, matrix)?;
-    Ok(result)
+    Ok(Simulation { rates, result })
 }

@@ -6,9 +6,9 @@ use Rattle.series_simulation.proofs.peak.utilisation.Goals as goal
 
 pub returns : goal.returns
 returns c =
-    let x : c.from.result * c.from-2.result ≡ c.args.carried * RATIO_UNIT =
-    ap (λ a. a * c.from-2.result) c.from.ensures ∙ ap (λ b. c.args.carried * b) c.from-2.ensures
+    let x : c.from.result * c.from-2.result ≡ c.args.units * RATIO_UNIT =
+    ap (λ a. a * c.from-2.result) c.from.ensures ∙ ap (λ b. c.args.units * b) c.from-2.ensures
     in
     is_quotient_up (c.from.result * c.from-2.result) c.from-3.result c.ceil_div.result
-    (omega (arith, c.from-3.ensures, c.requires.some)) c.ceil_div.ensures.enough c.ceil_div.ensures.least
-    ∙ (ap (λ a. quotient_up a c.from-3.result) x ∙ ap (λ b. quotient_up (c.args.carried * RATIO_UNIT) b) c.from-3.ensures)
+    (omega (arith, c.from-3.ensures, c.requires)) c.ceil_div.ensures.enough c.ceil_div.ensures.least
+    ∙ (ap (λ a. quotient_up a c.from-3.result) x ∙ ap (λ b. quotient_up (c.args.units * RATIO_UNIT) b) c.from-3.ensures)

@@ -28,7 +28,6 @@ pub returns-clause-simulated : goal.returns-clause-simulated
 returns-clause-simulated c = record {
   left = c.in_ok-left.left.routes;
   recovered = c.in_ok-left.ensures.recovered;
-  rates = c.in_ok-rates.rates.routes;
   spread = c.in_ok-rates.ensures;
   per_pair = c.in_ok-result.ensures.pairs;
   carried = c.in_ok-result.ensures.carried;
@@ -50,3 +49,8 @@ pub returns-clause-within : goal.returns-clause-within
 returns-clause-within c = λ e inside.
     carried_within c.args.net.now c.args.failed.now c.in_ok-rates.rates.routes c.args.matrix.now.demand c.in_ok-result.result.carried c.in_ok-result.ensures.carried
     e inside
+
+pub returns-clause-rates : goal.returns-clause-rates
+returns-clause-rates c =
+    spread_rates c.args.net.now c.args.pairs.now.list c.in_ok-left.left.routes c.in_ok-rates.rates.routes c.requires.pairs c.in_ok-left.ensures.paths
+    c.in_ok-left.ensures.few c.in_ok-rates.ensures

@@ -1,0 +1,5 @@
+mod Lines
+mod Pairs
+mod Steps
+pub mod Existence
+mod Agreeing
