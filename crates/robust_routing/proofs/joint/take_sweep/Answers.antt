@@ -1,0 +1,53 @@
+use Rattle.std.proofs.Common.{◌≡◌, ◌∙◌, length, sym, subst}
+use Rattle.std.proofs.lemmas.Result.{on_ok_weaker}
+use Rattle.te_model.proofs.Lists.{written_whole}
+use Rattle.shortest_path.specs.declared.rows.Direction.TheVariants.{Backward, Forward}
+use Rattle.shortest_path.specs.Rows.{IsSearchGraph}
+use Rattle.robust_routing.specs.Joint.{ArePathsOfPairs}
+use Rattle.robust_routing.specs.Weights.{AreWeightsOfLinks}
+use Rattle.robust_routing.proofs.joint.take_sweep.Goals as goal
+
+pub sweep_links-requires-clause-list : goal.sweep_links-requires-clause-list
+sweep_links-requires-clause-list c = subst (AreWeightsOfLinks c.args.round.now.net.now) (sym c.deref_mut.ensures.value) c.requires.joint.weights
+
+pub keep_best-requires-clause-joint : goal.keep_best-requires-clause-joint
+keep_best-requires-clause-joint c =
+    let net = c.args.round.now.net.now in
+    let joint = c.args.joint.now in
+    let new = c.sweep_links.new.list in
+    let kept : length new ≡ length joint.weights.items = c.in_ok-ratio.ensures.list.count ∙ sym c.requires.joint.weights.count in
+    record {
+      weights = rw (written_whole joint.weights.len new joint.weights.items kept joint.weights.ok.0) c.in_ok-ratio.ensures.list;
+      paths = c.requires.joint.paths;
+      along = subst (IsSearchGraph net Forward) (sym c.in_ok-ratio.ensures.same) c.requires.joint.along;
+      against = c.requires.joint.against;
+      every = c.requires.joint.every;
+      routing = c.requires.joint.routing;
+      few = c.requires.joint.few;
+    }
+
+pub sweep_pairs-requires-clause-list : goal.sweep_pairs-requires-clause-list
+sweep_pairs-requires-clause-list c =
+    subst (ArePathsOfPairs c.args.round.now.net.now c.args.limit c.args.round.now.pairs.now) (sym c.deref_mut-2.ensures.value) c.in_ok-keep_best.ensures.paths
+
+pub sweep_pairs-requires-clause-every : goal.sweep_pairs-requires-clause-every
+sweep_pairs-requires-clause-every c = c.deref-2.ensures.value ∙ c.in_ok-keep_best.ensures.every
+
+pub returns : goal.returns
+returns c =
+    let net = c.args.round.now.net.now in
+    let pairs = c.args.round.now.pairs.now in
+    let joint = c.keep_best.new.joint in
+    let is = c.in_ok-keep_best.ensures in
+    let new = c.sweep_pairs.new.list in
+    on_ok_weaker c.sweep_pairs.result (λ (paths : ArePathsOfPairs net c.args.limit pairs new).
+    let kept : length new ≡ length joint.rates.items = paths.count ∙ sym is.paths.count in
+    record {
+      weights = is.weights;
+      paths = rw (written_whole joint.rates.len new joint.rates.items kept joint.rates.ok.0) paths;
+      along = is.along;
+      against = subst (IsSearchGraph net Backward) (sym c.sweep_pairs.ensures.same) is.against;
+      every = is.every;
+      routing = is.routing;
+      few = is.few;
+    }) c.sweep_pairs.ensures.list

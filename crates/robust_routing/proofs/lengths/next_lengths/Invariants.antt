@@ -1,0 +1,5 @@
+use Rattle.robust_routing.specs.Lengths.{AreLengths}
+use Rattle.robust_routing.proofs.lengths.next_lengths.Given as goal
+
+abbrev pub invariant-loop-link : goal.invariant-loop-link
+invariant-loop-link l = AreLengths l.link l.lengths.items

@@ -1,0 +1,7 @@
+pub mod Robust
+pub mod Laws
+pub mod Sweep
+pub mod Weights
+pub mod Lengths
+pub mod Joint
+pub mod Split

@@ -1,0 +1,161 @@
+//! The sweeps: each goes over the links and then over the pairs, and the routing of the best one is kept.
+ghost use Rattle.std.specs.Prelude.{◌≤◌, All, IfOk, IsTrue, OnOk};
+ghost use Rattle.te_model.specs.Network.{is_well_formed};
+ghost use Rattle.routing.specs.Routes.{HasFewPaths, IsRoutingOf};
+ghost use Rattle.scheme.specs.Reach.{IsPairOf};
+ghost use Rattle.robust_routing.specs.Joint.{IsJoint, IsRound};
+
+use crate::links::sweep_links;
+use crate::pairs::sweep_pairs;
+use crate::rates::PathRates;
+use crate::round::Round;
+use crate::split::routing_of;
+use crate::start::rates_of;
+use crate::sweep::{SWEEPS, sweep_of};
+use crate::tables::{Tables, first_tables, write_shares};
+use crate::weights::first_weights;
+use routing::Routing;
+use shortest_path::{Direction, Searches};
+use std::alloc::Global;
+use te_model::{Items, Memory, Network, Pair};
+
+/// Where the sweeps stand.
+#[derive(Drop)]
+pub struct Joint {
+    /// The weights of the links in the certificate of each link.
+    pub weights: Vec<Items<u64>>,
+    /// The paths of each pair and its rates over them.
+    pub rates: Vec<PathRates>,
+    pub tables: Tables,
+    /// Searches along links in the network, and against them.
+    pub along: Searches,
+    pub against: Searches,
+    /// Marks by which every link is open.
+    pub every: Vec<bool>,
+    /// The routing of the best sweep, and the ratio that was proved of it, in millionths.
+    pub best: Routing,
+    pub least: Option<u64>,
+}
+
+/// Where the sweeps begin, with the first path of each pair in the routing.
+fn begin(alloc: Global, net: &Network, pairs: &[Pair], start: Routing) -> Result<Joint, Memory>
+    requires network { IsTrue (is_well_formed net.now) }
+    requires routing { IsRoutingOf net.now pairs.now start.routes }
+    requires few { HasFewPaths 1 start.routes }
+    ensures { IfOk result (IsJoint net.now pairs.now 1) }
+{
+    let links = net.links.as_slice().len();
+    let weights = first_weights(alloc, net)?;
+    let rates = rates_of(alloc, net, pairs, &start)?;
+    let tables = first_tables(alloc, links, pairs.len())?;
+    let along = Searches::with_orders(alloc, net, Direction::Forward)?;
+    let against = Searches::with_orders(alloc, net, Direction::Backward)?;
+    let every = vec![in alloc; true; links]?;
+    Ok(Joint {
+        weights,
+        rates,
+        tables,
+        along,
+        against,
+        every,
+        best: start,
+        least: None,
+    })
+}
+
+/// Keeps the routing of the rates where this ratio, which was proved of it, is the least so far.
+fn keep_best(
+    alloc: Global,
+    net: &Network,
+    pairs: &[Pair],
+    limit: usize,
+    joint: &mut Joint,
+    ratio: u64,
+) -> Result<(), Memory>
+    requires limit { limit ≤ 32 }
+    requires joint { IsJoint net.now pairs.now limit joint.old }
+    ensures { OnOk result (IsJoint net.now pairs.now limit joint.new) }
+{
+    let is_better = match joint.least {
+        Some(least) => ratio < least,
+        None => true,
+    };
+    if is_better {
+        joint.best = routing_of(alloc, net, pairs, limit, &joint.rates)?;
+        joint.least = Some(ratio);
+    }
+    Ok(())
+}
+
+/// Takes a sweep.
+fn take_sweep(alloc: Global, round: &Round, limit: usize, joint: &mut Joint) -> Result<(), Memory>
+    requires round { IsRound round.now }
+    requires limit { (1 ≤ limit) × (limit ≤ 32) }
+    requires joint { IsJoint round.now.net.now round.now.pairs.now limit joint.old }
+    ensures { OnOk result (IsJoint round.now.net.now round.now.pairs.now limit joint.new) }
+{
+    write_shares(&mut joint.tables.shares, &joint.rates);
+    let ratio = sweep_links(
+        alloc,
+        round,
+        &mut joint.along,
+        &mut joint.weights,
+        &joint.tables.shares,
+        &mut joint.tables.quotients,
+    )?;
+    keep_best(alloc, round.net, round.pairs, limit, joint, ratio)?;
+    sweep_pairs(
+        alloc,
+        round,
+        &mut joint.against,
+        &joint.every,
+        limit,
+        &mut joint.tables,
+        &mut joint.rates,
+    )
+}
+
+/// Takes all sweeps.
+fn take_sweeps(
+    alloc: Global,
+    net: &Network,
+    pairs: &[Pair],
+    limit: usize,
+    joint: &mut Joint,
+) -> Result<(), Memory>
+    requires network { IsTrue (is_well_formed net.now) }
+    requires pairs { All (IsPairOf net.now) pairs.now }
+    requires limit { (1 ≤ limit) × (limit ≤ 32) }
+    requires joint { IsJoint net.now pairs.now limit joint.old }
+    ensures { OnOk result (IsJoint net.now pairs.now limit joint.new) }
+{
+    for number in 0..SWEEPS {
+        let sweep = sweep_of(number, joint.least);
+        let round = Round { net, pairs, sweep };
+        take_sweep(alloc, &round, limit, joint)?;
+    }
+    Ok(())
+}
+
+/// The routing of the sweep that proves the least ratio, where the sweeps begin with a routing that gives each pair one path.
+///
+/// No pair has more paths than the limit, which is from 1 to 32. `Memory` comes where memory is wanting.
+pub fn best_routing(
+    alloc: Global,
+    net: &Network,
+    pairs: &[Pair],
+    limit: usize,
+    start: Routing,
+) -> Result<Routing, Memory>
+    requires network { IsTrue (is_well_formed net.now) }
+    requires pairs { All (IsPairOf net.now) pairs.now }
+    requires limit { (1 ≤ limit) × (limit ≤ 32) }
+    requires routing { IsRoutingOf net.now pairs.now start.routes }
+    requires few { HasFewPaths 1 start.routes }
+    ensures routing { IfOk result (λ r. IsRoutingOf net.now pairs.now r.routes) }
+    ensures few { IfOk result (λ r. HasFewPaths limit r.routes) }
+{
+    let mut joint = begin(alloc, net, pairs, start)?;
+    take_sweeps(alloc, net, pairs, limit, &mut joint)?;
+    Ok(joint.best)
+}
