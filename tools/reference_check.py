@@ -4,6 +4,7 @@
 usage: reference_check.py CERT                        prints what `yates check CERT` has to print, and ends with its status
        reference_check.py CERT TOPOLOGY               the same of `yates check CERT TOPOLOGY`
        reference_check.py --set CERT [TOPOLOGY]       says below a yes what the set holds, and the bounds of each pair
+       reference_check.py --bounds CERT               prints what `yates bounds CERT` has to print, and ends with its status
 
 It follows docs/FORMATS.md (grammar, rules, texts) and docs/DEFINITIONS.md (the four inequalities), and shares no code
 with the crates. It is slow and plain on purpose. The bounds of a pair are those of its demand, up to one factor that all
@@ -230,8 +231,13 @@ def bounds(cert):
     return [d * den * den for d in base], [d * num * num for d in base]
 
 
-def first_failure(cert):
-    """The first inequality that fails, in order of link, rule and place."""
+def share(paths, e):
+    """How many millionths of the demand of a pair go over link e."""
+    return sum(w for w, path in paths if e in path)
+
+
+def first_failure(cert, last=4):
+    """The first inequality that fails, of those up to the last one that is asked, in order of link, rule and place."""
     n, m = len(cert["names"]), len(cert["links"])
     by_link = {b["link"]: b for b in cert["blocks"]}
     absent = {"a": 0, "b": 1, "weights": [0] * m, "rows": [], "plus": [], "minus": []}
@@ -249,11 +255,10 @@ def first_failure(cert):
                 if row[head] > row[tail] + weights[h]:
                     return e, 1, i * (m + 1) + 1 + h
         for p, (src, dst, paths) in enumerate(cert["pairs"]):
-            share = sum(w for w, path in paths if e in path)
             plus = block["plus"][p] if block["plus"] else 0
             minus = block["minus"][p] if block["minus"] else 0
             distance = rows[src][dst] if src in rows else 0
-            if share * b + a * minus > a * (distance + plus):
+            if share(paths, e) * b + a * minus > a * (distance + plus):
                 return e, 2, p
         if cert["set"] and block["plus"]:
             lower, upper = bounds(cert)
@@ -262,9 +267,15 @@ def first_failure(cert):
             if added > taken:
                 return e, 3, 0
         weighted = sum(link[2] * w for link, w in zip(cert["links"], weights))
-        if a * RATIO_UNIT * weighted > b * SHARE_UNIT * cert["links"][e][2] * cert["ratio"]:
+        if last == 4 and a * RATIO_UNIT * weighted > b * SHARE_UNIT * cert["links"][e][2] * cert["ratio"]:
             return e, 4, 0
     return None
+
+
+def need(cert, block):
+    """The least ratio that pays for the weights of the block: I4 solved for it, and rounded up."""
+    weighted = sum(link[2] * w for link, w in zip(cert["links"], block["weights"]))
+    return -(-block["a"] * RATIO_UNIT * weighted // (block["b"] * SHARE_UNIT * cert["links"][block["link"]][2]))
 
 
 def limit(data):
@@ -276,10 +287,27 @@ def judged(cert):
     """The yes or no line of a certificate that is not refused, and the status."""
     failed = first_failure(cert)
     if failed:
-        return "no link %d rule I%d place %d\n" % failed, 1
+        return no_line(failed), 1
     kinds = {"margin": lambda num, den, _: f"margin {num} {den}", "box": lambda *_: "box"}
     kind = kinds[cert["set"][0]](*cert["set"][1:]) if cert["set"] else "all"
     return f"yes ratio {cert['ratio']} set {kind}\n", 0
+
+
+def no_line(failed):
+    return "no link %d rule I%d place %d\n" % failed
+
+
+def table_of_needs(cert):
+    """The need of each link with a share, where the first three inequalities hold, and the status."""
+    failed = first_failure(cert, last=3)
+    if failed:
+        return no_line(failed), 1
+    by_link, rows = {b["link"]: b for b in cert["blocks"]}, ["link,source,target,capacity,need"]
+    for e, (tail, head, capacity, _) in enumerate(cert["links"]):
+        if any(share(paths, e) for _, _, paths in cert["pairs"]):
+            source, target = (cert["names"][node].decode() for node in (tail, head))
+            rows.append(f"{e},{source},{target},{capacity},{need(cert, by_link[e])}")
+    return "".join(f"{row}\n" for row in rows), 0
 
 
 def certificate_of(name, data):
@@ -350,12 +378,30 @@ def check(names, shows_set=False):
     return line + (set_text(cert) if shows_set and status == 0 else ""), "", status
 
 
+def bounds_of(name, data):
+    """The same of `bounds`, of a certificate of this name and these bytes."""
+    try:
+        out, status = table_of_needs(certificate_of(name, data))
+    except Refused as refusal:
+        text, status = refusal.args
+        return "", text, status
+    return out, "", status
+
+
 def main(words):
-    names = [it for it in words if it != "--set"]
-    if len(names) not in (1, 2) or len(words) - len(names) > 1:
+    names = [it for it in words if it not in ("--set", "--bounds")]
+    flags = [it for it in words if it in ("--set", "--bounds")]
+    if len(names) not in (1, 2) or len(flags) > 1 or (flags == ["--bounds"] and len(names) == 2):
         print(__doc__.split("\n\n")[1], file=sys.stderr)
         return 2
-    out, err, status = check(names, shows_set=len(words) > len(names))
+    if flags == ["--bounds"]:
+        try:
+            out, err, status = bounds_of(names[0], bytes_of(names[0]))
+        except Refused as refusal:
+            err, status = refusal.args
+            out = ""
+    else:
+        out, err, status = check(names, shows_set=bool(flags))
     sys.stdout.write(out)
     sys.stderr.write(err)
     return status

@@ -71,7 +71,7 @@ def programs_that_fail():
             certificate.write(SMALLEST)
         words = {
             "attack": ["4"], "check_speed": [file], "hose": ["4"], "hostile": ["false count of pairs, format 1"], "publish": ["ring:4:spf"],
-            "rates": ["4"], "schemes": ["cube:4:spf"], "update": ["4"], "nearness": ["--recorded", "--program", false, "small"],
+            "rates": ["4"], "schemes": ["cube:4:spf"], "update": ["4"], "nearness": ["--recorded", "--program", false, "torus"],
         }
         for name in scripts():
             script = without_programs(name)
@@ -105,7 +105,7 @@ def networks_by_name():
     import networks
 
     faults = []
-    wanted = [("drawn", 4, 32), ("equal", 64, 512), ("rates", 8, 64), ("ring", 5, 10), ("cube", 128, 896), ("fat-tree", 20, 64)]
+    wanted = [("drawn", 4, 32), ("equal", 64, 512), ("rates", 8, 64), ("ring", 5, 10), ("torus", 16, 64), ("mesh", 8, 56), ("cube", 128, 896), ("fat-tree", 20, 64)]
     for name, nodes, links in wanted:
         with tempfile.TemporaryDirectory() as folder:
             networks.write(folder, name, nodes, 1)
@@ -117,7 +117,7 @@ def networks_by_name():
     said = [networks.read_case(word, ("ksp", "spf")) for word in ("ring", "fat-tree", "cube:8", "drawn:64:spf")]
     if said != [("ring", 64, "ksp"), ("fat-tree", 80, "ksp"), ("cube", 8, "ksp"), ("drawn", 64, "spf")]:
         faults.append(f"{said}")
-    for word in ("net", "ring:1", "ring:129", "ring:x", "cube:100", "fat-tree:64", "ring:4:mcf", "ring:4:spf:all"):
+    for word in ("net", "ring:1", "ring:129", "ring:x", "torus:20", "mesh:33", "cube:100", "fat-tree:64", "ring:4:mcf", "ring:4:spf:all"):
         try:
             faults.append(f"{word}: {networks.read_case(word, ('ksp', 'spf'))}")
         except networks.NoNetwork:

@@ -20,6 +20,7 @@ from .certificates import (
 from .hoses import (
     BOUNDED, BOUNDED_IN_PART, CUT_HOSES, HOSES, NO_FORMS as NO_HOSE_FORMS, TWICE as HOSES_TWICE, block as hose_block, bounds as hose_bounds, hose,
 )
+from .prices import BOUNDS, REPRICED
 from .program import TOP
 from .rates import CUT_RATES, NO_FORMS as NO_RATE_FORMS, PROTECTIONS, RATES, TWICE as RATES_TWICE, made as made_rates, rates, yes as rates_survive
 from .updates import TWICE as UPDATE_TWICE, UPDATES, plan as update_plan
@@ -137,7 +138,7 @@ CONVERSIONS = [
     ([SMALLEST_WITH_LESS], 0, SMALLEST_WITH_LESS_IN_SECOND),
 ]
 
-# A file that `convert` and `attack` refuse as `check` does, and the line.
+# A file that `convert`, `attack` and `bounds` refuse as `check` does, and the line.
 UNCONVERTED = [
     ([TWICE_A_NAME], 3, "refused: c: rule V1 at 1\n"),
     ([TRIANGLE_SMALL_MARGIN], 3, "refused: c: rule V7 at 0\n"),
@@ -533,6 +534,10 @@ TABLES = [
     ("certificates that are not converted", ["check", "c"], "c", UNCONVERTED),
     ("refusals of convert", ["convert", "c"], "c", UNCONVERTED),
     ("conversions", ["convert", "c"], "c", CONVERSIONS),
+    ("needs of links", ["bounds", "c"], "c", BOUNDS),
+    ("refusals of bounds", ["bounds", "c"], "c", UNCONVERTED),
+    ("certificates on other capacities", ["reprice", "c", "t"], "ct", REPRICED),
+    ("a file twice, as its capacities", ["reprice", "c", "c"], "c", TWICE),
     ("published certificates", ["publish", "p"], "ptm", PUBLISHED),
     ("refusals of publish", ["publish", "p"], "ptm", UNPUBLISHED),
     ("reports", ["run", "p"], "ptmf", REPORTS),

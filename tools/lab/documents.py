@@ -2,6 +2,8 @@
 import re
 
 MOST_CHARACTERS, MOST_WORDS = 200, 60
+# Of the page that a newcomer reads first, which ends where the README says what is proved.
+MOST_WORDS_AT_FIRST, END_OF_FIRST_PAGE = 40, "\n## What is proved\n"
 # Where a sentence ends: a mark, blanks, and what a sentence begins with.
 END = re.compile(r"(?<=[.:!?])\s+(?=[A-Z`*\[\"\d(])")
 LINK = re.compile(r"\]\([^)]*\)")
@@ -31,7 +33,16 @@ def faults_of(name, text):
         is_printed ^= line.lstrip().startswith("```")
         if len(line) > MOST_CHARACTERS and not line.startswith("|") and not is_printed:
             faults.append(f"{name}:{number}: {len(line)} characters")
-    for sentence in (it for paragraph in paragraphs(text) for it in END.split(LINK.sub("]", paragraph))):
-        if len(sentence.split()) > MOST_WORDS:
-            faults.append(f"{name}: {len(sentence.split())} words: {sentence[:60]}")
-    return faults
+    return faults + long_sentences(name, text, MOST_WORDS)
+
+
+def long_sentences(name, text, most):
+    """The sentences of more words."""
+    sentences = [it for paragraph in paragraphs(text) for it in END.split(LINK.sub("]", paragraph))]
+    return [f"{name}: {len(it.split())} words: {it[:60]}" for it in sentences if len(it.split()) > most]
+
+
+def faults_of_first_page(name, text):
+    """The sentences that are too long for a newcomer; and where the page does not end."""
+    page, end, _ = text.partition(END_OF_FIRST_PAGE)
+    return long_sentences(name, page, MOST_WORDS_AT_FIRST) if end else [f"{name}: there is no heading{END_OF_FIRST_PAGE.strip().strip('#')}"]

@@ -1,19 +1,23 @@
 """Certificates that are drawn, of both formats and all sets, with right numbers, with slightly wrong ones, and changed at some place; and
-whether `check` and `convert` say of them what the second checker does.
+whether `check`, `convert`, `bounds` and `reprice` say of them what the second checker does.
 """
 import functools
+import os
 import random
 
 import reference_check
+import reference_reprice
 
 from . import certificates, program
 from .campaigns import SECONDS
 from .changes import CERTIFICATE, with_changes, with_number
 from .polish import Made, up
 
-NAME, SEPARATOR, CASES_OF_CAMPAIGN = "c", CERTIFICATE.separator, 1_000_000
+NAME, TOPOLOGY, SEPARATOR, CASES_OF_CAMPAIGN = "c", "t", CERTIFICATE.separator, 1_000_000
 # Of how many certificates one is converted; how many of one network are drawn.
 CONVERTED, OF_ONE = 8, 16
+# A topology of another network.
+OTHER_NETWORK = b"source,target,capacity,cost\nx,y,1,1\n"
 NO_PAIRS = "nodes 2\na\nb\nlinks 1\n0 1 10 1\npairs 0\n"
 SAMPLES = [
     it.encode() for it in (
@@ -160,10 +164,37 @@ def judge(files, folder, number):
     data = files[NAME]
     want, got = reference_check.check_bytes(NAME, data), answer_of(["check", NAME], folder)
     faults = [] if got == want else [f"check: want {want}, got {got}"]
+    faults += faults_of_prices(data, folder)
     if number % CONVERTED == 0:
         faults += faults_of_converted(data, want, answer_of(["convert", NAME], folder))
     label = {0: "yes", 1: "no"}.get(want[2], "rule" if "rule" in want[1] else "shape")
     return label, faults
+
+
+def topology_of(data):
+    """A topology with the links of a certificate, by their names, and other capacities; one of another network where there is no such."""
+    try:
+        cert = reference_check.certificate_of(NAME, data)
+    except reference_check.Refused:
+        return OTHER_NETWORK
+    rows = [
+        f"{cert['names'][tail].decode()},{cert['names'][head].decode()},{(7 * capacity + place) % 2**32 + 1},{cost}"
+        for place, (tail, head, capacity, cost) in enumerate(cert["links"])
+    ]
+    return "\n".join(["source,target,capacity,cost", *rows, ""]).encode()
+
+
+def faults_of_prices(data, folder):
+    """What is wrong with what `bounds` and `reprice` say of a certificate."""
+    topology = topology_of(data)
+    with open(os.path.join(folder, TOPOLOGY), "wb") as file:
+        file.write(topology)
+    bytes_of = {NAME: data, TOPOLOGY: topology}.__getitem__
+    pairs = [
+        ("bounds", reference_check.bounds_of(NAME, data), answer_of(["bounds", NAME], folder)),
+        ("reprice", reference_reprice.answer([NAME, TOPOLOGY], bytes_of), answer_of(["reprice", NAME, TOPOLOGY], folder)),
+    ]
+    return [f"{command}: want {want}, got {got}" for command, want, got in pairs if got != want]
 
 
 def faults_of_converted(data, want, got):

@@ -1,19 +1,21 @@
-"""Folders with a plan and its files, drawn or of the tables of mistakes, and changed; and whether `run` and `publish` say of them what the
-readers of `tools/explain` do.
+"""Folders with a plan and its files, drawn or of the tables of mistakes, and changed; and whether `run`, `publish` and the breakdowns of a step
+say of them what the readers of `tools/explain` do, and the breakdowns what a second reading of the step does.
 """
 import os
 import random
 
 from . import program
+from .breakdown_tests import Inputs, faults_of_step
 from .campaigns import SECONDS, faults_of_time
 from .cases import GOOD
 from .changes import INPUT, with_changes
 from .drawn_networks import PLAN, experiment
 from .more_cases import CASES
-from .reading import NotRegular, Reading, outcome
+from .reading import REFUSED, NotRegular, Reading, outcome
 
 SEPARATOR, CASES_OF_CAMPAIGN = INPUT.separator, 100_000
 HEADER = b"scheme,step,offered,"
+BREAKDOWNS = ("links", "pairs", "paths")
 
 
 def case(seed, number):
@@ -30,33 +32,63 @@ def case(seed, number):
     return files
 
 
-def reading_in(folder):
-    """What the readers of `tools/explain` find in the folder."""
+def reading_in(folder, step=None):
+    """What the readers of `tools/explain` find in the folder, of a series that has to have the step, if one is given."""
     before = os.getcwd()
     os.chdir(folder)
     try:
-        return Reading(PLAN, False)
+        return Reading(PLAN, False, step)
     finally:
         os.chdir(before)
 
 
+def faults_of_answer(words, reading, got):
+    """What is wrong with the answer of `run` or `publish` over files that are accepted."""
+    if words[0] == "run":
+        lines = 1 + len(reading.plan.schemes) * (1 + len(reading.series.steps))
+        is_good = (got.status, got.err) == (0, "") and got.out.startswith(HEADER) and got.out.count(b"\n") == lines
+    else:
+        is_good = got.status == 0 and got.err == "" and got.out.endswith(b"\nend\n") or got.status == 7 and got.err.startswith("no path: ")
+    return [] if is_good else [f"{words[0]}: want an answer, got {got.err!r}, status {got.status}"]
+
+
+def faults_of_breakdowns(reading, folder, step):
+    """What is wrong with the breakdowns of a step of files that are accepted."""
+
+    def answer(words):
+        said = program.answer(words, folder, SECONDS)
+        return said.status, said.out.decode(), said.err
+
+    return faults_of_step(answer, Inputs(reading.plan, reading.net, reading.series, reading.outages or [], step), PLAN)
+
+
+def wanted(words, reading):
+    """The line and status that the files decide for these words."""
+    # `publish` does not read the failures.
+    return ("", 0) if words[0] == "publish" and reading.series is not None else outcome(reading)
+
+
+def words_of(number):
+    """The words of a case."""
+    kind = (*BREAKDOWNS, "run", "publish")[number % 5]
+    return [kind, PLAN, str(number // 5 % 4)] if kind in BREAKDOWNS else [kind, PLAN]
+
+
 def judge(_, folder, number):
-    """Which file is refused, and what is wrong with the answer of `run`, or of `publish` for every other case."""
+    """Which file is refused, and what is wrong with the answer on the words of the case."""
+    words = words_of(number)
     try:
-        reading = reading_in(folder)
+        reading = reading_in(folder, int(words[2]) if words[0] in BREAKDOWNS else None)
     except NotRegular:
         return "a device", []
-    words = ["publish" if number % 2 else "run", PLAN]
-    # `publish` does not read the failures.
-    line, status = ("", 0) if words[0] == "publish" and reading.series is not None else outcome(reading)
+    line, status = wanted(words, reading)
     got = program.answer(words, folder, SECONDS)
-    label = f"{reading.files[-1].kind if reading.files else 'plan'} {'refused' if status == 3 else 'unread'}" if status else "accepted"
     if status:
-        wrong = (got.status, got.out, got.err) != (status, b"", line + "\n")
-    elif words[0] == "run":
-        lines = 1 + len(reading.plan.schemes) * (1 + len(reading.series.steps))
-        wrong = (got.status, got.err) != (0, "") or not got.out.startswith(HEADER) or got.out.count(b"\n") != lines
+        is_wrong = (got.status, got.out, got.err) != (status, b"", line + "\n")
+        faults = [f"{words[0]}: want {line}, status {status}, got {got.err!r}, status {got.status}"] * is_wrong
+        label = f"{reading.files[-1].kind if reading.files else 'plan'} {'refused' if status == REFUSED else 'unread'}"
     else:
-        wrong = not (got.status == 0 and got.err == "" and got.out.endswith(b"\nend\n") or got.status == 7 and got.err.startswith("no path: "))
-    said = f"{words[0]}: want {line or 'an answer'!r}, status {status}, got {got.err!r}, status {got.status}"
-    return label, [said] * wrong + faults_of_time(words, got)
+        is_breakdown = words[0] in BREAKDOWNS
+        faults = faults_of_breakdowns(reading, folder, int(words[2])) if is_breakdown else faults_of_answer(words, reading, got)
+        label = "accepted"
+    return label, faults + faults_of_time(words, got)

@@ -37,6 +37,16 @@ def faults_of(said, status, line, words, has_program):
     return faults + ([said] if faults else [])
 
 
+# A step that is asked for, the files that differ, the line, and the words.
+STEPS = [
+    ("the last step", "1", {}, "", ["accepted: 3 nodes, 4 links, 3 pairs, 2 steps, 2 outages"]),
+    ("the step after the last", "2", {}, "refused: tm.csv: no step 2", ["the steps 0 to 1", "count steps from 0"]),
+    ("the first step of a series without rows", "0", {"tm.csv": "step,source,target,demand\n"}, "refused: tm.csv: no step 0", ["no row below the header"]),
+    ("a fault of the matrices before that of the step", "2", {"tm.csv": "step,source,target,demand\n0,a,x,1\n"}, "refused: tm.csv: unknown node at row 1", []),
+    ("the step before the failures", "2", {"cuts.csv": ""}, "refused: tm.csv: no step 2", []),
+]
+
+
 class Explain:
     """The tool as a module: `load` gives a tool by its name, and `call` what its `main` writes in a folder, and its status."""
 
@@ -55,6 +65,8 @@ class Explain:
         """Each case by its name, with what is wrong."""
         for name, files, line, words in CASES:
             yield f"explain: {name}", self.faults({**GOOD, **files}, ["plan.json"], line, words)
+        for name, step, files, line, words in STEPS:
+            yield f"explain a step: {name}", self.faults({**GOOD, **files}, ["plan.json", step], line, words)
         for name, call, files, line, words in CERTIFICATE_CASES:
             yield f"explain a certificate: {name}", self.faults({**FILES, **files}, call, line, words)
         for name, faults_of_case in warning_tests.CASES + warning_tests.CASES_OF_PROGRAM * self.has_program:

@@ -12,4 +12,6 @@ class Fault:
     def reason(self):
         if self.row is not None:
             return f"{self.kind} at row {self.row}"
+        if self.kind == "no step":
+            return f"{self.kind} {self.value}"
         return self.kind if self.key is None else f"{self.kind} {self.key}"

@@ -23,15 +23,15 @@ HOSES = [["hose", "c", "b"], ["check-hose", "c", "h"]]
 # The files of a call, of which one is exchanged; and by the kind of this one its name, and the words of the calls that read it.
 GOOD = {"c": SMALLEST, "w": OF_SMALLEST, "t": HEADER + ROW, "m": DEMAND, "r": RATES, "b": BOUNDS, "h": HOSE, "f": OUTAGES + "0,0,0\n", "p": PLAN}
 CALLS = {
-    "certificate": ("c", [["check", "c"], ["check", "c", "t"], ["check-witness", "c", "w"], ["attack", "c"], ["update", "c", "c", "m"], *PROTECTED, *HOSES, ["convert", "c"]]),
+    "certificate": ("c", [["check", "c"], ["check", "c", "t"], ["check-witness", "c", "w"], ["attack", "c"], ["update", "c", "c", "m"], *PROTECTED, *HOSES, ["convert", "c"], ["bounds", "c"], ["reprice", "c", "t"]]),
     "witness": ("w", [["check-witness", "c", "w"]]),
     "rates": ("r", [["check-rates", "c", "m", "r"]]),
     "bounds": ("b", [["hose", "c", "b"]]),
     "hose certificate": ("h", [["check-hose", "c", "h"]]),
-    "topology": ("t", [["check", "c", "t"], ["publish", "p"], ["run", "p"]]),
-    "matrices": ("m", [["publish", "p"], ["run", "p"], ["update", "c", "c", "m"], *PROTECTED]),
-    "failures": ("f", [["run", "p"]]),
-    "plan": ("p", [["publish", "p"], ["run", "p"]]),
+    "topology": ("t", [["check", "c", "t"], ["reprice", "c", "t"], ["publish", "p"], ["run", "p"], ["links", "p", "0"]]),
+    "matrices": ("m", [["publish", "p"], ["run", "p"], ["links", "p", "0"], ["update", "c", "c", "m"], *PROTECTED]),
+    "failures": ("f", [["run", "p"], ["pairs", "p", "0"]]),
+    "plan": ("p", [["publish", "p"], ["run", "p"], ["paths", "p", "0"]]),
 }
 # The bytes that are written at once.
 PIECE = 1 << 20

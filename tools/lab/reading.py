@@ -49,14 +49,21 @@ def bytes_of(name, plan, most=INPUT_LIMIT):
         raise Unread(unread_words(name, plan, getattr(error, "strerror", None) or str(error))) from error
 
 
+def with_step(step, series, faults):
+    """The series and its faults, of which the last is that it does not have this step, where one is given."""
+    lacks = step is not None and not faults and step >= len(series.steps)
+    return series, [*faults, *([Fault("no step", value=step, other=len(series.steps))] if lacks else [])]
+
+
 class Reading:
     """The files in the order of the program, and the plan, network, series and outages, as far as they were read.
 
-    Where a file cannot be read, `unread` says so in words, and no file after it is looked at.
+    Where a file cannot be read, `unread` says so in words, and no file after it is looked at. A step that is given is one that the series has
+    to have.
     """
 
-    def __init__(self, name, goes_on):
-        self.name, self.goes_on = name, goes_on
+    def __init__(self, name, goes_on, step=None):
+        self.name, self.goes_on, self.step = name, goes_on, step
         self.files, self.unread = [], None
         self.plan = self.net = self.series = self.outages = None
         try:
@@ -69,7 +76,7 @@ class Reading:
         if self.plan is not None:
             self.net = self.next("topology", self.plan.topology, read_topology)
         if self.net is not None:
-            self.series = self.next("matrices", self.plan.matrices, lambda it: read_matrices(it, self.net))
+            self.series = self.next("matrices", self.plan.matrices, lambda it: with_step(self.step, *read_matrices(it, self.net)))
         if self.series is not None and self.plan.failures:
             links, steps = len(self.net.links), len(self.series.steps)
             self.outages = self.next("failures", self.plan.failures, lambda it: read_failures(it, links, steps))

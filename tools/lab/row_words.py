@@ -106,6 +106,12 @@ def too_many_steps_words(step):
     return f"steps go from 0 to {MAX_STEPS - 1}", "begin at step 0, and split a longer series into several files"
 
 
+def no_step_words(fault):
+    if fault.other == 0:
+        return "the series has no step, since there is no row below the header", "write a row for each demand: step,source,target,demand"
+    return f"the series has the steps 0 to {fault.other - 1}: it ends with the greatest step of a row", "count steps from 0"
+
+
 def order_words(fault):
     return f"step {shown(fault.record.fields[0])} comes after step {fault.other}", "sort the rows by step, as numbers: sort -s -t, -k1,1n FILE keeps the header first"
 

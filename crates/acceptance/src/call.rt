@@ -79,6 +79,12 @@ pub const RUN: Command<'static> = Command {
     publishes: false,
 };
 
+pub const PATHS: Command<'static> = Command {
+    words: &["paths", "p", "1"],
+    names: &["p", "t", "m", "f"],
+    publishes: false,
+};
+
 /// A call, and what it leaves.
 #[derive(Clone, Copy)]
 pub struct Call<'a> {

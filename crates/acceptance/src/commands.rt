@@ -1,8 +1,8 @@
 //! A few calls of each command over files that are told, that are on record, and that come byte by byte. The tables of all
 //! calls are data, `tools/lab/calls.py`, on which the built program is run.
 use crate::call::{
-    BOUND_HOSE, CHECK, CHECK_HOSE, CHECK_RATES, CHECK_WITNESS, Command, PROTECT, PUBLISH, RUN, Row,
-    UPDATE, all_say,
+    BOUND_HOSE, CHECK, CHECK_HOSE, CHECK_RATES, CHECK_WITNESS, Command, PATHS, PROTECT, PUBLISH,
+    RUN, Row, UPDATE, all_say,
 };
 use crate::texts::{
     BOUNDS, DEMAND, ENVELOPE, FAILURE, HOSE, LEADING_ZERO, LINE, LINK, NO_DEMANDS, PLAN, RATES,
@@ -422,6 +422,82 @@ const PLANS: &[(Command<'static>, Row<'static>)] = &[
         ),
     ),
 ];
+
+const LINKS: Command<'static> = Command {
+    words: &["links", "p", "1"],
+    ..PATHS
+};
+
+const PAIRS: Command<'static> = Command {
+    words: &["pairs", "p", "1"],
+    ..PATHS
+};
+
+const STEP_AFTER_LAST: Command<'static> = Command {
+    words: &["paths", "p", "2"],
+    ..PATHS
+};
+
+const NO_STEP_FORM: Command<'static> = Command {
+    words: &["paths", "p", "01"],
+    ..PATHS
+};
+
+/// The second step of a plan, in which its least path asks too much of a link.
+const BREAKDOWNS: &[(Command<'static>, Row<'static>)] = &[
+    (
+        LINKS,
+        (
+            &[&[PLAN], &[WAYS], &[TWELVE], &[FAILURE]],
+            4,
+            0,
+            "scheme,link,source,target,capacity,failed,asked,carried,asked_parts,carried_parts\n\
+         spf,0,s,t,10,no,12,10,1200000,1000000\n\
+         spf,1,s,x,10,yes,0,0,0,0\n\
+         spf,2,x,t,10,no,0,0,0,0\n\
+         spf,3,s,y,3,no,0,0,0,0\n\
+         spf,4,y,x,3,no,0,0,0,0\n",
+        ),
+    ),
+    (
+        PAIRS,
+        (
+            &[&[PLAN], &[WAYS], &[TWELVE], &[FAILURE]],
+            4,
+            0,
+            "scheme,source,target,offered,delivered,lost_full,lost_failed,lost_no_path,paths,cost,least_cost\n\
+         spf,s,t,12,10,2,0,0,1,1000000,1000000\n",
+        ),
+    ),
+    (
+        PATHS,
+        (
+            &[&[PLAN], &[WAYS], &[TWELVE], &[FAILURE]],
+            4,
+            0,
+            "scheme,source,target,weight,links\nspf,s,t,1000000,0\n",
+        ),
+    ),
+    // A step that the series does not have is refused before the failures are read.
+    (
+        STEP_AFTER_LAST,
+        (
+            &[&[PLAN], &[WAYS], &[TWELVE], &[FAILURE]],
+            3,
+            3,
+            "refused: m: no step 2\n",
+        ),
+    ),
+    (
+        NO_STEP_FORM,
+        (&[&[PLAN], &[WAYS], &[TWELVE], &[FAILURE]], 0, 2, "usage\n"),
+    ),
+];
+
+#[test]
+fn steps_are_broken_down(rt: HostRuntime) -> Result<(), Fail> {
+    all_say(&rt, rt.alloc(), BREAKDOWNS)
+}
 
 #[test]
 fn plans_are_carried_out(rt: HostRuntime) -> Result<(), Fail> {

@@ -1,7 +1,7 @@
 //! Reads and writes that fail, in each command.
 use crate::call::{
-    BOUND_HOSE, CHECK, CHECK_HOSE, CHECK_RATES, CHECK_WITNESS, Call, Command, PROTECT, PUBLISH,
-    RUN, SECOND_READ_FAILS, UPDATE, all_leave, leaves,
+    BOUND_HOSE, CHECK, CHECK_HOSE, CHECK_RATES, CHECK_WITNESS, Call, Command, PATHS, PROTECT,
+    PUBLISH, RUN, SECOND_READ_FAILS, UPDATE, all_leave, leaves,
 };
 use crate::texts::{
     BOUNDS, DEMAND, FAILURE, HOSE, LINE, PLAN, RATES, SMALLEST, SPF, TWELVE, WAYS, WITNESS,
@@ -356,6 +356,35 @@ const FAULTS_OF_RUN: &[Call<'static>] = &[
 #[test]
 fn faults_of_run_are_told(rt: HostRuntime) -> Result<(), Fail> {
     all_leave(&rt, rt.alloc(), FAULTS_OF_RUN)
+}
+
+const FAULTS_OF_PATHS: &[Call<'static>] = &[
+    Call {
+        command: PATHS,
+        ..REPORTED_UNREAD
+    },
+    Call {
+        command: PATHS,
+        failing_fetch: Some(8),
+        read: 3,
+        ..REPORTED_UNREAD
+    },
+    // The header is written in part.
+    Call {
+        command: PATHS,
+        failing_fetch: None,
+        failing_put: Some(3),
+        read: 4,
+        status: 5,
+        out: "scheme,sourc",
+        err: "fault: write\n",
+        ..REPORTED_UNREAD
+    },
+];
+
+#[test]
+fn faults_of_paths_are_told(rt: HostRuntime) -> Result<(), Fail> {
+    all_leave(&rt, rt.alloc(), FAULTS_OF_PATHS)
 }
 
 const TWO_NODES: Command<'static> = Command {

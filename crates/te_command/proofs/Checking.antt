@@ -15,10 +15,10 @@ use Rattle.te_command.specs.TopologyFile.{topology_reason}
 use Rattle.te_command.specs.Check.{IsVerdict, IsNetworkVerdict, IsProof, yes_line, no_line, verdict_on, network_verdict_on, check_entry, check_network_entry}
 use Rattle.te_command.proofs.Regular.{certificates_regular, inputs_regular}
 
-failure_once : (o : Option LinkFailure) (f g : LinkFailure) → o ≡ Some f → o ≡ Some g → f ≡ g
+pub failure_once : (o : Option LinkFailure) (f g : LinkFailure) → o ≡ Some f → o ≡ Some g → f ≡ g
 failure_once o f g ef eg = cc
 
-no_failure : (o : Option LinkFailure) (f : LinkFailure) → o ≡ None → o ≡ Some f → ⊥
+pub no_failure : (o : Option LinkFailure) (f : LinkFailure) → o ≡ None → o ≡ Some f → ⊥
 no_failure o f none some = cc
 
 -- a certificate has one answer

@@ -8,6 +8,10 @@ pub mod Checking
 pub mod WitnessFiles
 pub mod CheckingWitnesses
 pub mod Converting
+pub mod Bounding
+pub mod BoundsAnswers
+pub mod CapacityFiles
+pub mod Repricing
 pub mod Alike
 pub mod WitnessedAlike
 pub mod Attacking
@@ -23,6 +27,7 @@ pub mod BoundingHoses
 pub mod HosesAlike
 pub mod Publishing
 pub mod Reporting
+pub mod BreakingDown
 pub mod Drawing
 pub mod Table
 mod Generating

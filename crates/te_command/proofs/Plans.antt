@@ -12,7 +12,7 @@ use Rattle.command_frame.specs.Files.{Passes, given_passes}
 use Rattle.command_frame.specs.Reading.{Reading, answers, reads, MeansAfter, ReadFailedAfter}
 use Rattle.command_frame.specs.Order.{ReadsAlong}
 use Rattle.te_command.specs.TopologyFile.{topologies}
-use Rattle.te_command.specs.MatrixFile.{matrices}
+use Rattle.te_command.specs.MatrixFile.{matrices_for}
 use Rattle.failure.specs.Series.{no_failures}
 use Rattle.te_command.specs.FailureFile.{failure_files}
 use Rattle.te_command.specs.PlanFile.{plans}
@@ -24,36 +24,36 @@ use Rattle.te_command.specs.Outcome.{GivesPlan, ReadsFailures, no_answer}
 use Rattle.command_frame.proofs.Following.{none_read, meant_on, failed_on, failed_since, both, goes_on, stops}
 
 -- what is read after a plan, and after its network
-abbrev then_series : (Experiment → Network → Series → Reading) → Experiment → Network → Reading
-then_series next plan network = reads Series (matrices network) plan.matrices (λ series. next plan network series)
+abbrev then_series : Option ℕ → (Experiment → Network → Series → Reading) → Experiment → Network → Reading
+then_series step next plan network = reads Series (matrices_for step network) plan.matrices (λ series. next plan network series)
 
-abbrev then_network : (Experiment → Network → Series → Reading) → Experiment → Reading
-then_network next plan = reads Network topologies plan.topology (then_series next plan)
+abbrev then_network : Option ℕ → (Experiment → Network → Series → Reading) → Experiment → Reading
+then_network step next plan = reads Network topologies plan.topology (then_series step next plan)
 
 -- the plan, its topology or its matrices are refused or not read
-pub plan_unread : (file : List ℕ) (next : Experiment → Network → Series → Reading) (old new : Shown) (fault : Fault) →
-    ReadsFile plans file old new (Err fault) → Follows (with_plan file next) old new (Err fault)
-plan_unread file next old new fault read = stops Experiment plans file (then_network next) old new fault read
+pub plan_unread : (step : Option ℕ) (file : List ℕ) (next : Experiment → Network → Series → Reading) (old new : Shown) (fault : Fault) →
+    ReadsFile plans file old new (Err fault) → Follows (with_plan step file next) old new (Err fault)
+plan_unread step file next old new fault read = stops Experiment plans file (then_network step next) old new fault read
 
-pub topology_unread : (file : List ℕ) (next : Experiment → Network → Series → Reading) (plan : Experiment) (old mid new : Shown) (fault : Fault) →
-    ReadsFile plans file old mid (Ok plan) → ReadsFile topologies plan.topology mid new (Err fault) → Follows (with_plan file next) old new (Err fault)
-topology_unread file next plan old mid new fault first read =
-    goes_on Experiment plans file (then_network next) plan old mid new (Err fault) first
-    (stops Network topologies plan.topology (then_series next plan) mid new fault read)
+pub topology_unread : (step : Option ℕ) (file : List ℕ) (next : Experiment → Network → Series → Reading) (plan : Experiment) (old mid new : Shown) (fault : Fault) →
+    ReadsFile plans file old mid (Ok plan) → ReadsFile topologies plan.topology mid new (Err fault) → Follows (with_plan step file next) old new (Err fault)
+topology_unread step file next plan old mid new fault first read =
+    goes_on Experiment plans file (then_network step next) plan old mid new (Err fault) first
+    (stops Network topologies plan.topology (then_series step next plan) mid new fault read)
 
-pub matrices_unread : (file : List ℕ) (next : Experiment → Network → Series → Reading) (plan : Experiment) (network : Network) (old mid then new : Shown) (fault : Fault) →
+pub matrices_unread : (step : Option ℕ) (file : List ℕ) (next : Experiment → Network → Series → Reading) (plan : Experiment) (network : Network) (old mid then new : Shown) (fault : Fault) →
     ReadsFile plans file old mid (Ok plan) → ReadsFile topologies plan.topology mid then (Ok network) →
-    ReadsFile (matrices network) plan.matrices then new (Err fault) → Follows (with_plan file next) old new (Err fault)
-matrices_unread file next plan network old mid then new fault first second read =
-    goes_on Experiment plans file (then_network next) plan old mid new (Err fault) first
-    (goes_on Network topologies plan.topology (then_series next plan) network mid then new (Err fault) second
-    (stops Series (matrices network) plan.matrices (λ series. next plan network series) then new fault read))
+    ReadsFile (matrices_for step network) plan.matrices then new (Err fault) → Follows (with_plan step file next) old new (Err fault)
+matrices_unread step file next plan network old mid then new fault first second read =
+    goes_on Experiment plans file (then_network step next) plan old mid new (Err fault) first
+    (goes_on Network topologies plan.topology (then_series step next plan) network mid then new (Err fault) second
+    (stops Series (matrices_for step network) plan.matrices (λ series. next plan network series) then new fault read))
 
 -- all three are read
-pub all_read : (file : List ℕ) (plan : Experiment) (network : Network) (series : Series) (old mid then new : Shown) →
+pub all_read : (step : Option ℕ) (file : List ℕ) (plan : Experiment) (network : Network) (series : Series) (old mid then new : Shown) →
     ReadsFile plans file old mid (Ok plan) → ReadsFile topologies plan.topology mid then (Ok network) →
-    ReadsFile (matrices network) plan.matrices then new (Ok series) → GivesPlan file old new plan network series
-all_read file plan network series old mid then new first second third = record {
+    ReadsFile (matrices_for step network) plan.matrices then new (Ok series) → GivesPlan step file old new plan network series
+all_read step file plan network series old mid then new first second third = record {
   after_plan = mid.gave;
   after_topology = then.gave;
   plan_given = first.reads;
@@ -64,69 +64,69 @@ all_read file plan network series old mid then new first second third = record {
 }
 
 -- a refusal of one of the files is one whatever comes after them
-plan_means : (file : List ℕ) (next : Experiment → Network → Series → Reading) (passes : Passes) (before : List FileRead) (line : List ℕ) →
-    MeansAfter (with_plan file (λ plan network series. answers no_answer)) passes before 3 line → MeansAfter (with_plan file next) passes before 3 line
-plan_means file next passes before line (inl x) = inl x
-plan_means file next passes before line (inr (p, now, gives, inl x)) = inr (p, now, gives, inl x)
-plan_means file next passes before line (inr (p, now, gives, inr (n, then, makes, inl x))) = inr (p, now, gives, inr (n, then, makes, inl x))
-plan_means file next passes before line (inr (p, now, gives, inr (n, then, makes, inr (s, last, demands, x)))) = absurd x.0
+plan_means : (step : Option ℕ) (file : List ℕ) (next : Experiment → Network → Series → Reading) (passes : Passes) (before : List FileRead) (line : List ℕ) →
+    MeansAfter (with_plan step file (λ plan network series. answers no_answer)) passes before 3 line → MeansAfter (with_plan step file next) passes before 3 line
+plan_means step file next passes before line (inl x) = inl x
+plan_means step file next passes before line (inr (p, now, gives, inl x)) = inr (p, now, gives, inl x)
+plan_means step file next passes before line (inr (p, now, gives, inr (n, then, makes, inl x))) = inr (p, now, gives, inr (n, then, makes, inl x))
+plan_means step file next passes before line (inr (p, now, gives, inr (n, then, makes, inr (s, last, demands, x)))) = absurd x.0
 
 -- and so is a failed read
-plan_failed : (file : List ℕ) (next : Experiment → Network → Series → Reading) (passes : Passes) (before : List FileRead) (Fails : List ℕ → Type 0) →
-    ReadFailedAfter (with_plan file (λ plan network series. answers no_answer)) passes before Fails → ReadFailedAfter (with_plan file next) passes before Fails
-plan_failed file next passes before Fails (inl x) = inl x
-plan_failed file next passes before Fails (inr (p, now, gives, inl x)) = inr (p, now, gives, inl x)
-plan_failed file next passes before Fails (inr (p, now, gives, inr (n, then, makes, inl x))) = inr (p, now, gives, inr (n, then, makes, inl x))
-plan_failed file next passes before Fails (inr (p, now, gives, inr (n, then, makes, inr (s, last, demands, x)))) = absurd x
+plan_failed : (step : Option ℕ) (file : List ℕ) (next : Experiment → Network → Series → Reading) (passes : Passes) (before : List FileRead) (Fails : List ℕ → Type 0) →
+    ReadFailedAfter (with_plan step file (λ plan network series. answers no_answer)) passes before Fails → ReadFailedAfter (with_plan step file next) passes before Fails
+plan_failed step file next passes before Fails (inl x) = inl x
+plan_failed step file next passes before Fails (inr (p, now, gives, inl x)) = inr (p, now, gives, inl x)
+plan_failed step file next passes before Fails (inr (p, now, gives, inr (n, then, makes, inl x))) = inr (p, now, gives, inr (n, then, makes, inl x))
+plan_failed step file next passes before Fails (inr (p, now, gives, inr (n, then, makes, inr (s, last, demands, x)))) = absurd x
 
 -- what was read of the files was read whatever comes after them
-plan_order : (file : List ℕ) (next : Experiment → Network → Series → Reading) (before now : List FileRead) →
+plan_order : (step : Option ℕ) (file : List ℕ) (next : Experiment → Network → Series → Reading) (before now : List FileRead) →
     ((plan : Experiment) (network : Network) (series : Series) → ReadsAlong (next plan network series) now now) →
-    ReadsAlong (with_plan file (λ plan network series. answers no_answer)) before now → ReadsAlong (with_plan file next) before now
-plan_order file next before now none (inl x) = inl x
-plan_order file next before now none (inr (p, one, gives, inl x)) = inr (p, one, gives, inl x)
-plan_order file next before now none (inr (p, one, gives, inr (n, two, makes, inl x))) = inr (p, one, gives, inr (n, two, makes, inl x))
-plan_order file next before now none (inr (p, one, gives, inr (n, two, makes, inr (s, three, demands, x)))) =
+    ReadsAlong (with_plan step file (λ plan network series. answers no_answer)) before now → ReadsAlong (with_plan step file next) before now
+plan_order step file next before now none (inl x) = inl x
+plan_order step file next before now none (inr (p, one, gives, inl x)) = inr (p, one, gives, inl x)
+plan_order step file next before now none (inr (p, one, gives, inr (n, two, makes, inl x))) = inr (p, one, gives, inr (n, two, makes, inl x))
+plan_order step file next before now none (inr (p, one, gives, inr (n, two, makes, inr (s, three, demands, x)))) =
     inr (p, one, gives, inr (n, two, makes, inr (s, three, demands, subst (λ reads. ReadsAlong (next p n s) reads now) x (none p n s))))
 
-pub plan_stops : (file : List ℕ) (next : Experiment → Network → Series → Reading) (old new : Shown) (fault : Fault) →
-    Follows (with_plan file (λ plan network series. answers no_answer)) old new (Err fault) → Follows (with_plan file next) old new (Err fault)
-plan_stops file next old new fault follows = record {
+pub plan_stops : (step : Option ℕ) (file : List ℕ) (next : Experiment → Network → Series → Reading) (old new : Shown) (fault : Fault) →
+    Follows (with_plan step file (λ plan network series. answers no_answer)) old new (Err fault) → Follows (with_plan step file next) old new (Err fault)
+plan_stops step file next old new fault follows = record {
   means = meant fault follows.means;
   failed = unread (λ f. Rose (old.faults f) (new.faults f)) fault follows.failed;
-  order = plan_order file next old.gave new.gave (λ plan network series. none_read (next plan network series) new.gave) follows.order;
+  order = plan_order step file next old.gave new.gave (λ plan network series. none_read (next plan network series) new.gave) follows.order;
   steady = follows.steady;
   may = follows.may;
 }
   where
-    meant : (f : Fault) → Meant (MeansAfter (with_plan file (λ plan network series. answers no_answer)) (given_passes new.gave) old.gave) (Err f) →
-        Meant (MeansAfter (with_plan file next) (given_passes new.gave) old.gave) (Err f)
-    meant (Refused line) is = plan_means file next (given_passes new.gave) old.gave (string_bytes line) is
+    meant : (f : Fault) → Meant (MeansAfter (with_plan step file (λ plan network series. answers no_answer)) (given_passes new.gave) old.gave) (Err f) →
+        Meant (MeansAfter (with_plan step file next) (given_passes new.gave) old.gave) (Err f)
+    meant (Refused line) is = plan_means step file next (given_passes new.gave) old.gave (string_bytes line) is
     meant Read is = tt
     meant Memory is = tt
 
     unread : (Fails : List ℕ → Type 0) (f : Fault) →
-        OnRead {A = Answer} (Err f) (ReadFailedAfter (with_plan file (λ plan network series. answers no_answer)) (given_passes new.gave) old.gave Fails) →
-        OnRead {A = Answer} (Err f) (ReadFailedAfter (with_plan file next) (given_passes new.gave) old.gave Fails)
+        OnRead {A = Answer} (Err f) (ReadFailedAfter (with_plan step file (λ plan network series. answers no_answer)) (given_passes new.gave) old.gave Fails) →
+        OnRead {A = Answer} (Err f) (ReadFailedAfter (with_plan step file next) (given_passes new.gave) old.gave Fails)
     unread Fails (Refused line) is = tt
-    unread Fails Read is = plan_failed file next (given_passes new.gave) old.gave Fails is
+    unread Fails Read is = plan_failed step file next (given_passes new.gave) old.gave Fails is
     unread Fails Memory is = tt
 
-pub plan_goes_on : (file : List ℕ) (next : Experiment → Network → Series → Reading) (plan : Experiment) (network : Network) (series : Series)
-    (old mid new : Shown) (result : Result Answer Fault) → GivesPlan file old mid plan network series → Follows (next plan network series) mid new result →
-    Follows (with_plan file next) old new result
-plan_goes_on file next plan network series old mid new result gives rest =
+pub plan_goes_on : (step : Option ℕ) (file : List ℕ) (next : Experiment → Network → Series → Reading) (plan : Experiment) (network : Network) (series : Series)
+    (old mid new : Shown) (result : Result Answer Fault) → GivesPlan step file old mid plan network series → Follows (next plan network series) mid new result →
+    Follows (with_plan step file next) old new result
+plan_goes_on step file next plan network series old mid new result gives rest =
     let passes = given_passes new.gave in
     let Fails : List ℕ → Type 0 = λ f. Rose (old.faults f) (new.faults f) in
     let one = gives.after_plan in
     let two = gives.after_topology in
     record {
-      means = meant_on Experiment plans file (then_network next) plan passes old.gave one result gives.plan_given
-          (meant_on Network topologies plan.topology (then_series next plan) network passes one two result gives.network_given
-          (meant_on Series (matrices network) plan.matrices (λ s. next plan network s) series passes two mid.gave result gives.series_given rest.means));
-      failed = failed_on Experiment plans file (then_network next) plan passes old.gave one Fails result gives.plan_given
-          (failed_on Network topologies plan.topology (then_series next plan) network passes one two Fails result gives.network_given
-          (failed_on Series (matrices network) plan.matrices (λ s. next plan network s) series passes two mid.gave Fails result gives.series_given
+      means = meant_on Experiment plans file (then_network step next) plan passes old.gave one result gives.plan_given
+          (meant_on Network topologies plan.topology (then_series step next plan) network passes one two result gives.network_given
+          (meant_on Series (matrices_for step network) plan.matrices (λ s. next plan network s) series passes two mid.gave result gives.series_given rest.means));
+      failed = failed_on Experiment plans file (then_network step next) plan passes old.gave one Fails result gives.plan_given
+          (failed_on Network topologies plan.topology (then_series step next plan) network passes one two Fails result gives.network_given
+          (failed_on Series (matrices_for step network) plan.matrices (λ s. next plan network s) series passes two mid.gave Fails result gives.series_given
           (failed_since (next plan network series) passes mid.gave old.faults mid.faults new.faults result gives.steady rest.failed)));
       order = inr (plan, one, gives.plan_given, inr (network, two, gives.network_given, inr (series, mid.gave, gives.series_given, rest.order)));
       steady = λ other. rest.steady other ∙ gives.steady;

@@ -1,5 +1,5 @@
 -- What `publish` answers: a file to which `check` says yes, or the first pair without a path.
-use Rattle.std.proofs.Common.{◌≡◌, ◌≤◌, ◌⊎◌, ℕ, List, [], true, inl, inr, refl, sym, ◌∙◌, arith}
+use Rattle.std.proofs.Common.{◌≡◌, ◌≤◌, ◌⊎◌, ℕ, List, [], None, true, inl, inr, refl, sym, ◌∙◌, arith}
 use Rattle.te_model.specs.declared.network.Network.{Network}
 use Rattle.te_model.specs.Network.{is_well_formed, link_count, node_count}
 use Rattle.te_model.specs.Pairs.{pair_at}
@@ -89,10 +89,10 @@ publication_text plan n series range formed some is = go (reached_or_first n ser
 
 pub publish_is_sound : (file : List ℕ) → IsSoundEntry (publish_entry file)
 publish_is_sound file = record {
-  regular = plan_regular file (λ plan n series. answers (publication_of plan n series)) (λ plan n series. tt);
+  regular = plan_regular None file (λ plan n series. answers (publication_of plan n series)) (λ plan n series. tt);
   sound = λ bytes plan says rows n makes demands series reads. publication_sound plan n series;
   one_text = λ is. absurd is;
   some_text = λ is bytes plan says rows n makes demands series reads.
-      let within = inputs_in_range bytes rows demands plan n series says makes reads in
+      let within = inputs_in_range None bytes rows demands plan n series says makes reads in
       publication_text plan n series within.0 within.1 within.2 within.3;
 }

@@ -4,22 +4,28 @@ use Rattle.std.specs.Prelude.{bytes_eq, nat_le, if◌then◌else◌}
 use Rattle.std.specs.Option.{option_map}
 use Rattle.std.proofs.lemmas.Bool.{leb-true}
 use Rattle.command_frame.specs.Table.{OfWords, IsSoundEntry, IsSoundTable}
+use Rattle.step_detail.specs.declared.breakdown.Breakdown.{Breakdown}
+use Rattle.step_detail.specs.declared.breakdown.Breakdown.TheVariants.{Links, Pairs, Paths}
+use Rattle.te_command.specs.BreakDown.{step_number}
 use Rattle.te_command.specs.DecimalNumber.{decimal_number}
 use Rattle.te_command.specs.Generate.{drawn_of, nodes_and_seed}
 use Rattle.te_command.specs.Protect.{failures_of, few_failures}
-use Rattle.te_command.specs.Commands.{Command, attack, bound_hose, check, check_hose, check_network, check_rates, check_witness, convert, protect, publish, run, generate, update, command_of, entry_of, commands}
+use Rattle.te_command.specs.Commands.{Command, attack, bound_hose, bound_links, break_down, check, check_hose, check_network, check_rates, check_witness, convert, protect, publish, reprice, run, generate, update, command_of, entry_of, commands}
 use Rattle.te_command.proofs.Attacking.{attack_is_sound}
 use Rattle.te_command.proofs.Checking.{check_is_sound, check_network_is_sound}
 use Rattle.te_command.proofs.BoundingHoses.{bound_hose_is_sound}
+use Rattle.te_command.proofs.Bounding.{bounds_is_sound}
 use Rattle.te_command.proofs.CheckingHoses.{check_hose_is_sound}
 use Rattle.te_command.proofs.CheckingRates.{check_rates_is_sound}
 use Rattle.te_command.proofs.CheckingWitnesses.{check_witness_is_sound}
 use Rattle.te_command.proofs.Converting.{convert_is_sound}
 use Rattle.te_command.proofs.Publishing.{publish_is_sound}
 use Rattle.te_command.proofs.Reporting.{run_is_sound}
+use Rattle.te_command.proofs.Repricing.{reprice_is_sound}
 use Rattle.te_command.proofs.Drawing.{generate_is_sound, nodes_drawn}
 use Rattle.te_command.proofs.Protecting.{protect_is_sound}
 use Rattle.te_command.proofs.Updating.{update_is_sound}
+use Rattle.te_command.proofs.BreakingDown.{break_down_is_sound}
 
 entry_is_sound : (command : Command) → IsSoundEntry (entry_of command)
 entry_is_sound (attack file) = attack_is_sound file
@@ -35,6 +41,9 @@ entry_is_sound (protect certificate file failures) = protect_is_sound certificat
 entry_is_sound (check_rates certificate file rates) = check_rates_is_sound certificate file rates
 entry_is_sound (bound_hose certificate bounds) = bound_hose_is_sound certificate bounds
 entry_is_sound (check_hose certificate file) = check_hose_is_sound certificate file
+entry_is_sound (bound_links certificate) = bounds_is_sound certificate
+entry_is_sound (reprice certificate topology) = reprice_is_sound certificate topology
+entry_is_sound (break_down breakdown file k) = break_down_is_sound breakdown k file
 
 -- the numbers of the command are in their range, where there is one
 abbrev InRangeOf : Option Command → Type 0
@@ -59,6 +68,10 @@ failures_in_range : (certificate file : List ℕ) (number : Option ℕ) → InRa
 failures_in_range certificate file None = tt
 failures_in_range certificate file (Some n) = few_in_range certificate file n (nat_le n 8) refl
 
+step_in_range : (breakdown : Breakdown) (file : List ℕ) (step : Option ℕ) → InRangeOf (option_map (break_down breakdown file) step)
+step_in_range breakdown file None = tt
+step_in_range breakdown file (Some k) = tt
+
 asked_in_range : (words : List (List ℕ)) → InRangeOf (command_of words)
 asked_in_range [] = tt
 asked_in_range (word ∷ []) = tt
@@ -67,14 +80,22 @@ asked_in_range (word ∷ file ∷ []) =
     (where_in_range (bytes_eq word (codes "check")) (Some (check file)) _ tt
     (where_in_range (bytes_eq word (codes "convert")) (Some (convert file)) _ tt
     (where_in_range (bytes_eq word (codes "publish")) (Some (publish file)) _ tt
-    (where_in_range (bytes_eq word (codes "run")) (Some (run file)) None tt tt))))
+    (where_in_range (bytes_eq word (codes "run")) (Some (run file)) _ tt
+    (where_in_range (bytes_eq word (codes "bounds")) (Some (bound_links file)) None tt tt)))))
 asked_in_range (word ∷ file ∷ next ∷ []) =
     where_in_range (bytes_eq word (codes "check")) (Some (check_network file next)) _ tt
     (where_in_range (bytes_eq word (codes "check-witness")) (Some (check_witness file next)) _ tt
     (where_in_range (bytes_eq word (codes "gen")) (option_map (λ (d : ℕ × ℕ). generate d.0 d.1) (drawn_of file next)) _
     (drawn_in_range (decimal_number file) (decimal_number next) (drawn_of file next) refl)
     (where_in_range (bytes_eq word (codes "hose")) (Some (bound_hose file next)) _ tt
-    (where_in_range (bytes_eq word (codes "check-hose")) (Some (check_hose file next)) None tt tt))))
+    (where_in_range (bytes_eq word (codes "check-hose")) (Some (check_hose file next)) _ tt
+    (where_in_range (bytes_eq word (codes "reprice")) (Some (reprice file next)) _ tt
+    (where_in_range (bytes_eq word (codes "links")) (option_map (break_down Links file) (step_number next)) _
+    (step_in_range Links file (step_number next))
+    (where_in_range (bytes_eq word (codes "pairs")) (option_map (break_down Pairs file) (step_number next)) _
+    (step_in_range Pairs file (step_number next))
+    (where_in_range (bytes_eq word (codes "paths")) (option_map (break_down Paths file) (step_number next)) None
+    (step_in_range Paths file (step_number next)) tt))))))))
 asked_in_range (word ∷ file ∷ next ∷ last ∷ []) =
     where_in_range (bytes_eq word (codes "update")) (Some (update file next last)) _ tt
     (where_in_range (bytes_eq word (codes "check-rates")) (Some (check_rates file next last)) _ tt

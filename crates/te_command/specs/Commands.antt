@@ -4,8 +4,12 @@ use Rattle.std.specs.Option.{option_map}
 use Rattle.std.specs.Str.{bytes_eq}
 use Rattle.command_frame.specs.Reading.{Reading}
 use Rattle.command_frame.specs.Table.{Entry, TableOf}
+use Rattle.step_detail.specs.declared.breakdown.Breakdown.{Breakdown}
+use Rattle.step_detail.specs.declared.breakdown.Breakdown.TheVariants.{Links, Pairs, Paths}
 use Rattle.te_command.specs.Attack.{attack_entry}
 use Rattle.te_command.specs.BoundHose.{bound_hose_entry}
+use Rattle.te_command.specs.Bounds.{bounds_entry}
+use Rattle.te_command.specs.BreakDown.{break_down_entry, step_number}
 use Rattle.te_command.specs.Check.{check_entry, check_network_entry}
 use Rattle.te_command.specs.CheckHose.{check_hose_entry}
 use Rattle.te_command.specs.CheckRates.{check_rates_entry}
@@ -15,13 +19,15 @@ use Rattle.te_command.specs.Generate.{drawn_of, generate_entry}
 use Rattle.te_command.specs.Protect.{failures_of, protect_entry}
 use Rattle.te_command.specs.Publish.{publish_entry}
 use Rattle.te_command.specs.Report.{run_entry}
+use Rattle.te_command.specs.Reprice.{reprice_entry}
 use Rattle.te_command.specs.Update.{update_entry}
 
 -- what is asked for: of `attack`, `check`, `check-witness` and `convert`, the name of the certificate, and of `check` that of the topology
 -- where one is given, of `check-witness` that of the witness; of `publish` and `run`, the name of the plan; of `gen`, the number of nodes and
 -- the seed; of `update`, the names of the older certificate, the newer one and the matrices; of `protect` and `check-rates`, the names of
 -- the certificate and the matrices, and the number of links that may fail or the name of the rates; of `hose` and `check-hose`, the names of
--- the certificate and of the bounds or the hose certificate
+-- the certificate and of the bounds or the hose certificate; of `bounds` and `reprice`, the name of the certificate, and of `reprice` that of
+-- the topology; of `links`, `pairs` and `paths`, by what a step is broken down, the name of the plan and the number of the step
 pub data Command : Type 0 where
   attack : List ℕ → Command
   check : List ℕ → Command
@@ -36,6 +42,9 @@ pub data Command : Type 0 where
   check_rates : List ℕ → List ℕ → List ℕ → Command
   bound_hose : List ℕ → List ℕ → Command
   check_hose : List ℕ → List ℕ → Command
+  bound_links : List ℕ → Command
+  reprice : List ℕ → List ℕ → Command
+  break_down : Breakdown → List ℕ → ℕ → Command
 
 -- the command of the words, where they are one of the forms
 abbrev pub command_of : List (List ℕ) → Option Command
@@ -47,6 +56,7 @@ command_of (word ∷ file ∷ []) =
     else if bytes_eq word (codes "convert") then Some (convert file)
     else if bytes_eq word (codes "publish") then Some (publish file)
     else if bytes_eq word (codes "run") then Some (run file)
+    else if bytes_eq word (codes "bounds") then Some (bound_links file)
     else None
 command_of (word ∷ file ∷ next ∷ []) =
     if bytes_eq word (codes "check") then Some (check_network file next)
@@ -54,6 +64,10 @@ command_of (word ∷ file ∷ next ∷ []) =
     else if bytes_eq word (codes "gen") then option_map (λ drawn. generate drawn.0 drawn.1) (drawn_of file next)
     else if bytes_eq word (codes "hose") then Some (bound_hose file next)
     else if bytes_eq word (codes "check-hose") then Some (check_hose file next)
+    else if bytes_eq word (codes "reprice") then Some (reprice file next)
+    else if bytes_eq word (codes "links") then option_map (break_down Links file) (step_number next)
+    else if bytes_eq word (codes "pairs") then option_map (break_down Pairs file) (step_number next)
+    else if bytes_eq word (codes "paths") then option_map (break_down Paths file) (step_number next)
     else None
 command_of (word ∷ file ∷ next ∷ last ∷ []) =
     if bytes_eq word (codes "update") then Some (update file next last)
@@ -77,6 +91,9 @@ entry_of (protect certificate matrices failures) = protect_entry certificate mat
 entry_of (check_rates certificate matrices rates) = check_rates_entry certificate matrices rates
 entry_of (bound_hose certificate bounds) = bound_hose_entry certificate bounds
 entry_of (check_hose certificate file) = check_hose_entry certificate file
+entry_of (bound_links certificate) = bounds_entry certificate
+entry_of (reprice certificate topology) = reprice_entry certificate topology
+entry_of (break_down breakdown plan k) = break_down_entry breakdown plan k
 
 -- the table of commands
 abbrev pub commands : TableOf Command

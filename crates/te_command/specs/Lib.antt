@@ -2,6 +2,7 @@ pub mod CertificateFile
 pub mod InputFile
 pub mod Limits
 pub mod TopologyFile
+pub mod CapacityFile
 pub mod MatrixFile
 pub mod FailureFile
 pub mod WitnessFile
@@ -16,13 +17,16 @@ pub mod Check
 pub mod CheckWitness
 pub mod Attack
 pub mod Convert
+pub mod Bounds
 pub mod Generate
 pub mod CheckRates
 pub mod Protect
 pub mod CheckHose
 pub mod BoundHose
 pub mod Publish
+pub mod Reprice
 pub mod Report
+pub mod BreakDown
 pub mod Update
 pub mod Commands
 pub mod Converted

@@ -1,5 +1,5 @@
 -- What the functions of the commands answer of the files that they read.
-use Rattle.std.specs.Prelude.{◌≡◌, ℕ, ◌↔◌, List, Bool, IsTrue, Option, Some, None, Result, Ok, Err}
+use Rattle.std.specs.Prelude.{◌≡◌, ℕ, ◌<◌, ◌↔◌, List, Bool, IfSome, IsTrue, length, nat_lt, if◌then◌else◌, Option, Some, None, Result, Ok, Err}
 use Rattle.te_ports.specs.Record.{Read as FileRead, pass}
 use Rattle.te_ports.specs.Shown.{Shown}
 use Rattle.te_model.specs.declared.certificate.Certificate.{Certificate}
@@ -17,7 +17,7 @@ use Rattle.command_frame.specs.Reading.{Answers, answers, GivesIn}
 use Rattle.command_frame.specs.Outcome.{KeepsDepot, ReadsFile, Follows, status_of, answer_text}
 use Rattle.te_command.specs.declared.inputs.Inputs.{Inputs}
 use Rattle.te_command.specs.TopologyFile.{topologies}
-use Rattle.te_command.specs.MatrixFile.{matrices}
+use Rattle.te_command.specs.MatrixFile.{matrices_for}
 use Rattle.te_command.specs.FailureFile.{failure_files}
 use Rattle.te_command.specs.PlanFile.{plans}
 use Rattle.te_command.specs.Check.{yes_line, no_line}
@@ -38,20 +38,29 @@ ReadsSame network file old new (Err fault) = ReadsFile topologies file old new (
 abbrev pub no_answer : Answers
 no_answer = record { status = λ status. ⊥; text = λ status text. ⊥; proves = λ text. ⊥ }
 
--- the files of a plan gave this plan, its network and its series, one after another
-pub record GivesPlan (file : List ℕ) (old new : Shown) (plan : Experiment) (network : Network) (series : Series) : Type 0 where
+-- the series has this step, where one is given
+abbrev pub HasStep : Option ℕ → Series → Type 0
+HasStep step series = IfSome step (λ k. k < length series.steps)
+
+-- the step that is given, where the series does not have it
+abbrev pub missing_step : Option ℕ → Series → Option ℕ
+missing_step None series = None
+missing_step (Some k) series = if nat_lt k (length series.steps) then None else Some k
+
+-- the files of a plan gave this plan, its network and its series, which has this step where one is given, one after another
+pub record GivesPlan (step : Option ℕ) (file : List ℕ) (old new : Shown) (plan : Experiment) (network : Network) (series : Series) : Type 0 where
   pub after_plan : List FileRead
   pub after_topology : List FileRead
   pub plan_given : GivesIn plans (given_passes new.gave) (pass file old.gave after_plan) plan
   pub network_given : GivesIn topologies (given_passes new.gave) (pass plan.topology after_plan after_topology) network
-  pub series_given : GivesIn (matrices network) (given_passes new.gave) (pass plan.matrices after_topology new.gave) series
+  pub series_given : GivesIn (matrices_for step network) (given_passes new.gave) (pass plan.matrices after_topology new.gave) series
   pub steady : new.faults ≡ old.faults
   pub may : KeepsDepot old new
 
 -- a plan, its network and its series are read, or one of their files is refused or not read
-abbrev pub ReadsInputs : List ℕ → Shown → Shown → Result Inputs Fault → Type 0
-ReadsInputs file old new (Ok inputs) = GivesPlan file old new inputs.plan inputs.network inputs.series
-ReadsInputs file old new (Err fault) = Follows (with_plan file (λ plan network series. answers no_answer)) old new (Err fault)
+abbrev pub ReadsInputs : Option ℕ → List ℕ → Shown → Shown → Result Inputs Fault → Type 0
+ReadsInputs step file old new (Ok inputs) = GivesPlan step file old new inputs.plan inputs.network inputs.series
+ReadsInputs step file old new (Err fault) = Follows (with_plan step file (λ plan network series. answers no_answer)) old new (Err fault)
 
 -- the failures are read from the file that is named, and are none where none is, of which nothing is read
 pub record ReadsFailures (network : Network) (series : Series) (named : Option (List ℕ)) (old new : Shown) (result : Result Failures Fault) : Type 0 where

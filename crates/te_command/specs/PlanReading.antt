@@ -7,15 +7,15 @@ use Rattle.failure.specs.declared.outage.Failures.{Failures}
 use Rattle.plan.specs.declared.experiment.Experiment.{Experiment}
 use Rattle.command_frame.specs.Reading.{Reading, reads}
 use Rattle.te_command.specs.TopologyFile.{topologies}
-use Rattle.te_command.specs.MatrixFile.{matrices}
+use Rattle.te_command.specs.MatrixFile.{matrices_for}
 use Rattle.te_command.specs.FailureFile.{failure_files}
 use Rattle.te_command.specs.PlanFile.{plans}
 
--- a plan is read, then its topology and its matrices
-abbrev pub with_plan : List ℕ → (Experiment → Network → Series → Reading) → Reading
-with_plan file next =
+-- a plan is read, then its topology and its matrices, which have this step where one is given
+abbrev pub with_plan : Option ℕ → List ℕ → (Experiment → Network → Series → Reading) → Reading
+with_plan step file next =
     reads Experiment plans file (λ plan. reads Network topologies plan.topology (λ network.
-    reads Series (matrices network) plan.matrices (λ series. next plan network series)))
+    reads Series (matrices_for step network) plan.matrices (λ series. next plan network series)))
 
 -- a failure file is read, where one is named
 abbrev pub with_failures : Network → Series → Option (List ℕ) → (Failures → Reading) → Reading

@@ -1,5 +1,5 @@
 -- What `publish` answers of a plan on its network and its series: the file of a certificate, or which pair has no path.
-use Rattle.std.specs.Prelude.{◌≡◌, ◌≤◌, ◌⊎◌, ℕ, List, [], ◌∷◌, ◌++◌, codes, length, Some}
+use Rattle.std.specs.Prelude.{◌≡◌, ◌≤◌, ◌⊎◌, ℕ, List, [], ◌∷◌, ◌++◌, codes, length, Some, None}
 use Rattle.te_model.specs.declared.certificate.Certificate.{Certificate}
 use Rattle.te_model.specs.declared.network.Network.{Network}
 use Rattle.te_model.specs.declared.route.Pair.{Pair}
@@ -67,7 +67,7 @@ pub record IsAnsweredYes (bytes : List ℕ) : Type 0 where
 -- `publish PLAN` writes a file to which `check` says yes, or names a pair without a path
 abbrev pub publish_entry : List ℕ → Entry
 publish_entry plan = record {
-  reading = with_plan plan (λ named network series. answers (publication_of named network series));
+  reading = with_plan None plan (λ named network series. answers (publication_of named network series));
   may_answer = λ status text. ((status ≡ 0) × IsAnsweredYes text) ⊎ (status ≡ 7);
   has_one_text = ⊥;
   in_range = Unit {0};

@@ -1,5 +1,5 @@
 -- What `run` answers of a plan on its network, its series and its failures: the report of its schemes.
-use Rattle.std.specs.Prelude.{◌≡◌, ℕ, List}
+use Rattle.std.specs.Prelude.{◌≡◌, ℕ, List, None}
 use Rattle.te_model.specs.declared.network.Network.{Network}
 use Rattle.traffic_matrix.specs.declared.series.Series.{Series}
 use Rattle.failure.specs.declared.outage.Failures.{Failures}
@@ -20,7 +20,7 @@ report_of plan network series failures = record {
 -- `run PLAN` writes a report
 abbrev pub run_entry : List ℕ → Entry
 run_entry plan = record {
-  reading = with_plan plan (λ named network series. with_failures network series named.failures (λ failures. answers (report_of named network series failures)));
+  reading = with_plan None plan (λ named network series. with_failures network series named.failures (λ failures. answers (report_of named network series failures)));
   may_answer = λ status text. status ≡ 0;
   has_one_text = ⊥;
   in_range = Unit {0};

@@ -1,6 +1,8 @@
 //! The commands.
 mod attack;
 mod bound_hose;
+mod bounds;
+mod break_down;
 mod check;
 mod check_hose;
 mod check_network;
@@ -10,11 +12,14 @@ mod convert;
 mod generate;
 mod protect;
 mod publish;
+mod reprice;
 mod run_plan;
 mod update;
 
 pub use attack::Attack;
 pub use bound_hose::BoundHose;
+pub use bounds::Bounds;
+pub use break_down::{BreakDown, step_of};
 pub use check::Check;
 pub use check_hose::CheckHose;
 pub use check_network::CheckNetwork;
@@ -24,5 +29,6 @@ pub use convert::Convert;
 pub use generate::{Generate, generate_of};
 pub use protect::{Protect, failures_of};
 pub use publish::Publish;
+pub use reprice::Reprice;
 pub use run_plan::RunPlan;
 pub use update::Update;

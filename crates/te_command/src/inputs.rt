@@ -4,7 +4,7 @@ ghost use Rattle.te_model.specs.Network.{is_well_formed, link_count, node_count}
 ghost use Rattle.traffic_matrix.specs.Limits.{IsSeries};
 ghost use Rattle.plan.specs.Plan.{InRange};
 ghost use Rattle.te_ports.specs.Shown.{shown_by};
-ghost use Rattle.te_command.specs.Outcome.{ReadsInputs, ReadsFailures};
+ghost use Rattle.te_command.specs.Outcome.{HasStep, ReadsInputs, ReadsFailures};
 
 use crate::kind::{FailureFiles, Matrices, Plans, Topologies};
 use command_frame::{Fault, value_in};
@@ -23,22 +23,31 @@ pub struct Inputs {
     pub series: Series,
 }
 
-/// What the plan in the file of this name says, the network of its topology and the series of its matrices. The topology
-/// and the matrices are read only where no file before them is refused.
+/// What the plan in the file of this name says, the network of its topology and the series of its matrices, which has the step
+/// where one is given. The topology and the matrices are read only where no file before them is refused.
 ///
 /// `Refused` comes only for what reads of the files gave, and `Read` only where a read of one of them failed in the call.
-pub fn inputs_in<D: Depot>(alloc: Global, depot: &mut D, plan: &str) -> Result<Inputs, Fault>
+pub fn inputs_in<D: Depot>(
+    alloc: Global,
+    depot: &mut D,
+    plan: &str,
+    step: Option<u32>,
+) -> Result<Inputs, Fault>
     ensures in_range { IfOk result (λ inputs. InRange inputs.plan) }
     ensures formed { IfOk result (λ inputs. IsTrue (is_well_formed inputs.network)) }
     ensures links { IfOk result (λ inputs. 1 ≤ link_count inputs.network) }
     ensures series { IfOk result (λ inputs. IsSeries (node_count inputs.network) inputs.series) }
-    ensures reads { ReadsInputs plan.now (shown_by D.content D.gave D.faults depot.old) (shown_by D.content D.gave D.faults depot.new) result }
+    ensures step { IfOk result (λ inputs. HasStep step inputs.series) }
+    ensures reads { ReadsInputs step plan.now (shown_by D.content D.gave D.faults depot.old) (shown_by D.content D.gave D.faults depot.new) result }
 {
     let named = value_in(alloc, depot, &Plans, plan)?;
     let topology = named.topology.as_str();
     let network = value_in(alloc, depot, &Topologies, topology)?;
     let matrices = named.matrices.as_str();
-    let of = Matrices { network: &network };
+    let of = Matrices {
+        network: &network,
+        step,
+    };
     let series = value_in(alloc, depot, &of, matrices)?;
     Ok(Inputs {
         plan: named,

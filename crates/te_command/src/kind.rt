@@ -1,16 +1,21 @@
 //! The kinds of files that the commands read.
-ghost use Rattle.std.specs.Prelude.{◌≤◌, IsTrue};
+ghost use Rattle.std.specs.Prelude.{◌≡◌, ◌≤◌, IfOk, IsTrue};
 ghost use Rattle.te_model.specs.Network.{is_well_formed, link_count, node_count};
 ghost use Rattle.te_model.specs.Validity.{IsValid, IsValidHead};
 ghost use Rattle.traffic_matrix.specs.Limits.{IsSeries};
 ghost use Rattle.plan.specs.Plan.{InRange};
+ghost use Rattle.link_bounds.specs.Laws.{CanReprice};
+ghost use Rattle.te_command.specs.CapacityFile.{priced_network};
 
-use crate::reasons::{FailureReason, FormatReason, MatrixReason, PlanReason, TopologyReason};
+use crate::reasons::{
+    CapacityReason, FailureReason, FormatReason, MatrixReason, PlanReason, TopologyReason,
+};
 use cert_text::CertFault;
 use command_frame::{BytesFault, FileKind};
 use failure::{FailureFault, Failures};
 use fault_rates::{RateFault, RatePlan, read_by_routes};
 use hose_bound::{Hose, HoseCert, HoseFault};
+use link_bounds::{has_ratio_on, have_same_links};
 use plan::{Experiment, PlanFault, read_plan};
 use ratio_witness::{Witness, WitnessFault};
 use std::alloc::Global;
@@ -241,25 +246,26 @@ impl FileKind for Topologies {
     }
 }
 
-/// The matrices of a network.
+/// Topologies with the links of a certificate, of any capacities and costs. On the network of one the blocks need a ratio that a file
+/// can spell.
 #[derive(Clone, Copy)]
-pub struct Matrices<'a> {
-    pub network: &'a Network,
+pub struct Capacities<'a> {
+    pub certificate: &'a Certificate,
 }
 
-impl<'a> FileKind for Matrices<'a> {
-    ghost use Rattle.te_command.specs.MatrixFile.{matrices};
+impl<'a> FileKind for Capacities<'a> {
+    ghost use Rattle.te_command.specs.CapacityFile.{capacities};
     ghost use Rattle.te_command.specs.Limits.{input_limits};
 
-    type Value = Series;
+    type Value = Network;
 
-    type Refusal = MatrixReason;
+    type Refusal = CapacityReason;
 
-    ghost is_ready = { λ of. IsTrue (is_well_formed of.network.now) };
+    ghost is_ready = { λ of. IsValid of.certificate.now };
 
-    ghost kind = { λ of. matrices of.network.now };
+    ghost kind = { λ of. capacities of.certificate.now };
 
-    ghost IsSound = { λ of. IsSeries (node_count of.network.now) };
+    ghost IsSound = { λ of. CanReprice of.certificate.now };
 
     ghost limited = { λ _. input_limits };
 
@@ -267,11 +273,88 @@ impl<'a> FileKind for Matrices<'a> {
         INPUT_LIMIT
     }
 
+    fn read(&self, alloc: Global, bytes: &[u8]) -> Result<Network, BytesFault<CapacityReason>> {
+        match topology::read(alloc, bytes) {
+            Ok(network) => match priced(self.certificate, network) {
+                Ok(network) => Ok(network),
+                Err(reason) => Err(BytesFault::Refused(reason)),
+            },
+            Err(TopologyFault::Memory) => Err(BytesFault::Memory),
+            Err(fault) => Err(BytesFault::Refused(CapacityReason::Topology(fault))),
+        }
+    }
+}
+
+// The network, where the certificate can take its capacities, or why it cannot.
+fn priced(certificate: &Certificate, network: Network) -> Result<Network, CapacityReason>
+    requires valid { IsValid certificate.now }
+    requires formed { IsTrue (is_well_formed network) }
+    ensures reads { result ≡ priced_network certificate.now network }
+    ensures sound { IfOk result (CanReprice certificate.now) }
+{
+    if !have_same_links(&certificate.head.network, &network) {
+        Err(CapacityReason::OtherLinks)
+    } else if has_ratio_on(certificate, &network) {
+        Ok(network)
+    } else {
+        Err(CapacityReason::GreatRatio)
+    }
+}
+
+/// The matrices of a network.
+#[derive(Clone, Copy)]
+pub struct Matrices<'a> {
+    pub network: &'a Network,
+    /// A step that the series has to have, if there is one.
+    pub step: Option<u32>,
+}
+
+impl<'a> Matrices<'a> {
+    ghost use Rattle.std.specs.Prelude.{◌≡◌};
+    ghost use Rattle.te_command.specs.Outcome.{missing_step};
+
+    // The step that the series has to have and has not.
+    fn missing_step(&self, series: &Series) -> Option<u32>
+        ensures { result ≡ missing_step self.now.step series.now }
+    {
+        let step = self.step?;
+        if (step as usize) < series.steps.as_slice().len() {
+            None
+        } else {
+            Some(step)
+        }
+    }
+}
+
+impl<'a> FileKind for Matrices<'a> {
+    ghost use Rattle.te_command.specs.MatrixFile.{matrices_for};
+    ghost use Rattle.te_command.specs.Outcome.{HasStep};
+    ghost use Rattle.te_command.specs.Limits.{matrices_limits};
+
+    type Value = Series;
+
+    type Refusal = MatrixReason;
+
+    ghost is_ready = { λ of. IsTrue (is_well_formed of.network.now) };
+
+    ghost kind = { λ of. matrices_for of.step of.network.now };
+
+    ghost IsSound = { λ of series. IsSeries (node_count of.network.now) series × HasStep of.step series };
+
+    ghost limited = { λ of. matrices_limits of.step of.network.now };
+
+    fn limit(&self, _start: &[u8]) -> u64 {
+        INPUT_LIMIT
+    }
+
     fn read(&self, alloc: Global, bytes: &[u8]) -> Result<Series, BytesFault<MatrixReason>> {
         match traffic_matrix::read(alloc, self.network, bytes) {
-            Ok(series) => Ok(series),
+            Ok(series) => match self.missing_step(&series) {
+                None => Ok(series),
+                Some(step) => Err(BytesFault::Refused(MatrixReason::NoStep(step))),
+            },
             Err(MatrixFault::Memory) => Err(BytesFault::Memory),
-            Err(fault) => Err(BytesFault::Refused(MatrixReason(fault))),
+            Err(fault) => Err(BytesFault::Refused(MatrixReason::Fault(fault))),
         }
     }
 }

@@ -7,7 +7,7 @@ ghost use Rattle.fault_rates.specs.Answers.{verdict_line};
 ghost use Rattle.command_frame.specs.Files.{Span, span, given_files, told_files, known_files};
 ghost use Rattle.command_frame.specs.Reading.{IsTold, Means, MeansStatus, Proves, ReadFailed, RefusesUntold};
 ghost use Rattle.command_frame.specs.Order.{ReadsAlong, AsksNext};
-ghost use Rattle.te_command.specs.Commands.{Command, attack, bound_hose, check, check_hose, check_network, check_rates, check_witness, protect, update, reading_of, MeansOneText};
+ghost use Rattle.te_command.specs.Commands.{Command, attack, bound_hose, check, check_hose, check_network, check_rates, check_witness, protect, reprice, update, reading_of, MeansOneText};
 ghost use Rattle.te_command.specs.Attack.{SaysYesTo};
 ghost use Rattle.te_command.specs.BoundHose.{SaysYesToHose};
 ghost use Rattle.te_command.specs.Run.{OfToldCommand};
@@ -48,6 +48,16 @@ pub fn converted_files_are_answered_alike()
     ensures yes { (content : List ℕ → Option (List ℕ)) → (file : List ℕ) → (made : List ℕ) → AreConverted content file made → (line : List ℕ) →
         Means (reading_of (check file)) (told_files content) 0 line →
         (boxed : List ℕ) × SayYesAlike line boxed × Means (reading_of (check made)) (told_files content) 0 boxed }
+{}
+
+/// `check` says yes to the file that `reprice` made of a certificate and a topology, alone and of this topology.
+pub fn repriced_files_are_answered_yes()
+    ensures alone { (content : List ℕ → Option (List ℕ)) → (file : List ℕ) → (topology : List ℕ) → (made : List ℕ) → (text : List ℕ) →
+        content made ≡ Some text → Means (reading_of (reprice file topology)) (told_files content) 0 text →
+        (line : List ℕ) × Means (reading_of (check made)) (told_files content) 0 line }
+    ensures of_topology { (content : List ℕ → Option (List ℕ)) → (file : List ℕ) → (topology : List ℕ) → (made : List ℕ) → (text : List ℕ) →
+        content made ≡ Some text → Means (reading_of (reprice file topology)) (told_files content) 0 text →
+        (line : List ℕ) × Means (reading_of (check_network made topology)) (told_files content) 0 line }
 {}
 
 /// `check-witness` says of the file that `convert` made what it says of the one that was converted, of the same witness: the

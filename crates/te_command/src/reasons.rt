@@ -85,17 +85,52 @@ fn topology_words(fault: TopologyFault) -> AtRow<'static>
     }
 }
 
-/// A fault of a matrix file, which shows as its words.
+/// Why a certificate cannot take the capacities of a topology, which shows as its words.
 #[derive(Clone, Copy)]
-pub struct MatrixReason(pub MatrixFault);
+pub enum CapacityReason {
+    /// The file is no topology.
+    Topology(TopologyFault),
+    /// The nodes by name, or the links by their ends, are not those of the certificate, in order.
+    OtherLinks,
+    /// The blocks need a ratio of 10^19 or more.
+    GreatRatio,
+}
+
+impl fmt::Display for CapacityReason {
+    ghost use Rattle.std.specs.Prelude.{Some};
+    ghost use Rattle.te_command.specs.CapacityFile.{capacity_reason};
+
+    ghost output = { λ reason. Some (capacity_reason reason) };
+
+    fn fmt<W: fmt::Write>(&self, f: &mut fmt::Formatter<W>) -> fmt::Result {
+        match self {
+            CapacityReason::Topology(fault) => topology_words(*fault).fmt(f),
+            CapacityReason::OtherLinks => f.write_str("not the links"),
+            CapacityReason::GreatRatio => f.write_str("ratio too great"),
+        }
+    }
+}
+
+/// Why a matrix file is refused, which shows as its words.
+#[derive(Clone, Copy)]
+pub enum MatrixReason {
+    /// A fault of its rows.
+    Fault(MatrixFault),
+    /// Its series has no step of this number.
+    NoStep(u32),
+}
 
 impl fmt::Display for MatrixReason {
     ghost use Rattle.std.specs.Prelude.{Some};
+    ghost use Rattle.te_command.specs.Refusals.{series_reason};
 
-    ghost output = { λ reason. Some (matrices_reason reason.0) };
+    ghost output = { λ reason. Some (series_reason reason) };
 
     fn fmt<W: fmt::Write>(&self, f: &mut fmt::Formatter<W>) -> fmt::Result {
-        matrices_words(self.0).fmt(f)
+        match *self {
+            MatrixReason::Fault(fault) => matrices_words(fault).fmt(f),
+            MatrixReason::NoStep(step) => write!(f, "no step {step}"),
+        }
     }
 }
 

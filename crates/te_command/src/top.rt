@@ -16,7 +16,7 @@ use te_ports::{Depot, Sink};
 ///
 /// | Status | When | What is written |
 /// |---|---|---|
-/// | 0 | the answer is yes, a certificate is published or converted, the schemes are compared, a drawn network is summed up, an update is planned, rates are made, or a hose is bounded | the line, the certificate's file, the report, the summary, the plan, the rates or the hose certificate, to `out` |
+/// | 0 | the answer is yes, a certificate is published or converted, the schemes are compared, a step of them is broken down, a drawn network is summed up, an update is planned, rates are made, or a hose is bounded | the line, the certificate's file, the report, the breakdown, the summary, the plan, the rates or the hose certificate, to `out` |
 /// | 1 | the answer is no, an update has no plan, or the declared pairs of rates are others | the line, to `out` |
 /// | 2 | the words are no form of a command | `usage`, to `err` |
 /// | 3 | a file is refused | the file and the reason, to `err` |

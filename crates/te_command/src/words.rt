@@ -1,15 +1,18 @@
 //! The words of the command line, and the table of the commands.
 ghost use Rattle.std.specs.Prelude.{◌≡◌, [], ◌∷◌, map, string_bytes};
 ghost use Rattle.std.specs.Option.{option_map};
-ghost use Rattle.te_command.specs.Commands.{command_of};
+ghost use Rattle.te_command.specs.Commands.{break_down, command_of};
 ghost use Rattle.te_command.specs.Asked.{command_meant};
+ghost use Rattle.te_command.specs.BreakDown.{step_number};
 
 use crate::commands::{
-    Attack, BoundHose, Check, CheckHose, CheckNetwork, CheckRates, CheckWitness, Convert, Generate,
-    Protect, Publish, RunPlan, Update, failures_of, generate_of,
+    Attack, BoundHose, Bounds, BreakDown, Check, CheckHose, CheckNetwork, CheckRates, CheckWitness,
+    Convert, Generate, Protect, Publish, Reprice, RunPlan, Update, failures_of, generate_of,
+    step_of,
 };
 use command_frame::{Answer, Ask, Fault, Table};
 use std::alloc::Global;
+use step_detail::Breakdown;
 use te_ports::Depot;
 
 /// What the words ask for.
@@ -28,6 +31,9 @@ pub enum Command<'a> {
     CheckRates(CheckRates<'a>),
     BoundHose(BoundHose<'a>),
     CheckHose(CheckHose<'a>),
+    Bounds(Bounds<'a>),
+    Reprice(Reprice<'a>),
+    BreakDown(BreakDown<'a>),
 }
 
 impl<'a> Ask for Command<'a> {
@@ -50,6 +56,9 @@ impl<'a> Ask for Command<'a> {
             Command::CheckRates(command) => command.answer(alloc, depot),
             Command::BoundHose(command) => command.answer(alloc, depot),
             Command::CheckHose(command) => command.answer(alloc, depot),
+            Command::Bounds(command) => command.answer(alloc, depot),
+            Command::Reprice(command) => command.answer(alloc, depot),
+            Command::BreakDown(command) => command.answer(alloc, depot),
         }
     }
 }
@@ -109,6 +118,8 @@ fn command_with_file<'a>(word: &str, file: &'a str) -> Option<Command<'a>>
         Some(Command::Publish(Publish { plan: file }))
     } else if word == "run" {
         Some(Command::Run(RunPlan { plan: file }))
+    } else if word == "bounds" {
+        Some(Command::Bounds(Bounds { certificate: file }))
     } else {
         None
     }
@@ -141,9 +152,32 @@ fn command_with_two<'a>(word: &str, first: &'a str, second: &'a str) -> Option<C
             certificate: first,
             hose: second,
         }))
+    } else if word == "reprice" {
+        Some(Command::Reprice(Reprice {
+            certificate: first,
+            topology: second,
+        }))
+    } else if word == "links" {
+        break_down_by(Breakdown::Links, first, second)
+    } else if word == "pairs" {
+        break_down_by(Breakdown::Pairs, first, second)
+    } else if word == "paths" {
+        break_down_by(Breakdown::Paths, first, second)
     } else {
         None
     }
+}
+
+// The breakdown of a step of a plan, where the word is the decimal of a step.
+fn break_down_by<'a>(breakdown: Breakdown, plan: &'a str, step: &str) -> Option<Command<'a>>
+    ensures { option_map command_meant result ≡ option_map (break_down breakdown plan.now) (step_number step.now) }
+{
+    let step = step_of(step)?;
+    Some(Command::BreakDown(BreakDown {
+        breakdown,
+        plan,
+        step,
+    }))
 }
 
 // The command of a word and three more.

@@ -8,6 +8,7 @@ ghost use Rattle.te_command.specs.Check.{IsVerdict, yes_line};
 ghost use Rattle.command_frame.specs.Outcome.{status_of, answer_text};
 ghost use Rattle.te_command.specs.Outcome.{IsLineOf};
 
+use crate::answer::failure_answer;
 use crate::certificates::feed_in;
 use command_frame::{Answer, Ask, Fault};
 use ratio_checker::{Feed, Finding};
@@ -52,10 +53,7 @@ fn line_of(alloc: Global, yes: String, finding: Finding) -> Result<Answer, Memor
 {
     match finding {
         Finding::Yes => Ok(Answer::Done(yes.into_bytes())),
-        Finding::No { link, rule, place } => {
-            let line = format!(in alloc; "no link {link} rule I{rule} place {place}\n")?;
-            Ok(Answer::No(line.into_bytes()))
-        }
+        Finding::No { link, rule, place } => failure_answer(alloc, link, rule, place),
     }
 }
 

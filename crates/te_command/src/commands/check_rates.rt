@@ -57,6 +57,7 @@ fn check_head<D: Depot>(
 {
     let of = Matrices {
         network: &head.network,
+        step: None,
     };
     let series = value_in(alloc, depot, &of, matrices)?;
     check_series(alloc, depot, head, &series, rates)

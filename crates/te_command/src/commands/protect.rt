@@ -72,6 +72,7 @@ fn protect_head<D: Depot>(
 {
     let of = Matrices {
         network: &head.network,
+        step: None,
     };
     let series = value_in(alloc, depot, &of, matrices)?;
     protect_under(alloc, head, &series, failures)

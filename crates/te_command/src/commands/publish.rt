@@ -28,7 +28,7 @@ impl<'a> Ask for Publish<'a> {
     ghost reading = { λ c. reading_of (publish c.plan.now) };
 
     fn answer<D: Depot>(&self, alloc: Global, depot: &mut D) -> Result<Answer, Fault> {
-        let inputs = inputs_in(alloc, depot, self.plan)?;
+        let inputs = inputs_in(alloc, depot, self.plan, None)?;
         certify(alloc, &inputs.plan, &inputs.network, &inputs.series)
     }
 }

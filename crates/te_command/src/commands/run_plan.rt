@@ -29,7 +29,7 @@ impl<'a> Ask for RunPlan<'a> {
     ghost reading = { λ c. reading_of (run c.plan.now) };
 
     fn answer<D: Depot>(&self, alloc: Global, depot: &mut D) -> Result<Answer, Fault> {
-        let inputs = inputs_in(alloc, depot, self.plan)?;
+        let inputs = inputs_in(alloc, depot, self.plan, None)?;
         report_on(alloc, depot, &inputs)
     }
 }

@@ -73,6 +73,7 @@ fn update_between<D: Depot>(
 {
     let of = Matrices {
         network: &before.network,
+        step: None,
     };
     let series = value_in(alloc, depot, &of, matrices)?;
     update_under(alloc, before, after, &series)

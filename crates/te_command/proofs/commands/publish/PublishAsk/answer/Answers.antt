@@ -1,4 +1,5 @@
 use Rattle.std.proofs.lemmas.Result.{err_from_is_err_and}
+use Rattle.std.proofs.Common.{None}
 use Rattle.command_frame.specs.Reading.{answers}
 use Rattle.te_command.specs.Publish.{publication_of}
 use Rattle.command_frame.proofs.Following.{ends_or_falls_short}
@@ -9,11 +10,11 @@ pub returns-in_err-inputs : goal.returns-in_err-inputs
 returns-in_err-inputs g c =
     let p = err_from_is_err_and c.from_residual.result c.from_residual.ensures.1 in
     rw (p.1, p.2)
-    (plan_stops c.args.self.now.plan.now (λ plan network series. answers (publication_of plan network series)) _ _ c.in_err-inputs.field-0.0 c.in_err-inputs.ensures.reads)
+    (plan_stops None c.args.self.now.plan.now (λ plan network series. answers (publication_of plan network series)) _ _ c.in_err-inputs.field-0.0 c.in_err-inputs.ensures.reads)
 
 pub returns : goal.returns
 returns g c =
     let inputs = c.in_ok-inputs.inputs in
-    plan_goes_on c.args.self.now.plan.now (λ plan network series. answers (publication_of plan network series)) inputs.plan inputs.network inputs.series _ _ _
+    plan_goes_on None c.args.self.now.plan.now (λ plan network series. answers (publication_of plan network series)) inputs.plan inputs.network inputs.series _ _ _
     c.certify.result c.in_ok-inputs.ensures.reads
     (ends_or_falls_short (publication_of inputs.plan inputs.network inputs.series) _ c.certify.result c.certify.ensures.answer c.certify.ensures.memory)
