@@ -8,6 +8,8 @@ mod k_paths_tests;
 #[cfg(test)]
 mod path_budget_tests;
 #[cfg(test)]
+mod robust_routing_tests;
+#[cfg(test)]
 mod routing_tests;
 #[cfg(test)]
 mod scheme_tests;
