@@ -1,5 +1,6 @@
 pub mod Ordering
 pub mod WalkSums
+pub mod OpenSums
 pub mod Visits
 pub mod ClassLeast
 pub mod Deviating

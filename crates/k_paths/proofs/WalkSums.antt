@@ -1,8 +1,9 @@
 -- Sums that are lowered link by link, and that are the least once no link lowers one.
-use Rattle.std.proofs.Common.{inl, inr, ◌≡◌, ℕ, ◌+◌, ◌*◌, ◌<◌, ◌≤◌, Bool, true, false, List, [], ◌∷◌, Option, Some, None, length, set, arith, ap, sym, ◌∙◌, subst, slice_index, replicate}
-use Rattle.std.specs.Prelude.{MatchOption}
+use Rattle.std.proofs.Common.{inl, inr, ◌≡◌, ℕ, ◌+◌, ◌*◌, ◌<◌, ◌≤◌, Bool, true, false, List, [], ◌∷◌, Option, Some, None, length, set, take, arith, ap, sym, ◌∙◌, subst, slice_index}
+use Rattle.std.specs.Prelude.{All, MatchOption}
 use Rattle.std.proofs.lemmas.Bool.{cases_eq, cases_lt}
-use Rattle.std.proofs.lemmas.List.{length-replicate, length-set, get_or-replicate, get_or_past, get_or-set_same, get_or-set_other}
+use Rattle.std.proofs.lemmas.List.{length-set, get_or_past, get_or-set_same, get_or-set_other}
+use Rattle.std.proofs.lemmas.List.Elements.{All-more, All-nil}
 use Rattle.te_model.specs.declared.network.Network.{Network}
 use Rattle.te_model.specs.declared.limits.TheConstants.{FORMAT_2}
 use Rattle.te_model.specs.Network.{node_count, link_count, tail_of, head_of}
@@ -13,15 +14,16 @@ use Rattle.shortest_path.specs.Paths.{sum_along}
 use Rattle.shortest_path.proofs.Relaxing.{at_most-some, at_most-is}
 use Rattle.k_paths.specs.Sums.{AreWalkSums, IsTaut}
 
--- the sums after the links below h, from the old ones
-pub record LoweredSoFar (net : Network) (costs : List ℕ) (marks : List Bool) (t h : ℕ) (fell : Bool) (old sums : List (Option ℕ)) : Type 0 where
-  pub are : (n : ℕ) → AreWalkSums net costs marks t n old → AreWalkSums net costs marks t (n + 65535 * h) sums
-  pub same : fell ≡ false → sums ≡ old
-  pub taut : fell ≡ false → (k : ℕ) → k < h → IsTaut net costs marks sums k
+-- the sums after the first i links of a list, from the old ones
+pub record LoweredSoFar (net : Network) (costs : List ℕ) (marks : List Bool) (among : List ℕ) (t i : ℕ) (fell : Bool) (old sums : List (Option ℕ)) : Type 0 where
+  pub are : (n : ℕ) → AreWalkSums net costs marks t n old → AreWalkSums net costs marks t (n + 65535 * i) sums
+  pub falls : (v x : ℕ) → AtMost (distance_at old v) x → AtMost (distance_at sums v) x
+  pub taut : fell ≡ false → All (IsTaut net costs marks sums) (take i among)
 
-pub lowered_skip : (net : Network) (costs : List ℕ) (marks : List Bool) (t h : ℕ) (fell : Bool) (old sums : List (Option ℕ)) →
-    LoweredSoFar net costs marks t h fell old sums → IsTaut net costs marks sums h → LoweredSoFar net costs marks t (h + 1) fell old sums
-lowered_skip net costs marks t h fell old sums so taut = record {
+pub lowered_skip : (net : Network) (costs : List ℕ) (marks : List Bool) (among : List ℕ) (t i : ℕ) (fell : Bool) (old sums : List (Option ℕ)) →
+    LoweredSoFar net costs marks among t i fell old sums → i < length among → IsTaut net costs marks sums (slice_index among i) →
+    LoweredSoFar net costs marks among t (i + 1) fell old sums
+lowered_skip net costs marks among t i fell old sums so inside taut = record {
   are = λ n were.
       let now = so.are n were in
       record {
@@ -30,22 +32,19 @@ lowered_skip net costs marks t h fell old sums so taut = record {
         reached = now.reached;
         small = λ v d is. omega (arith, now.small v d is);
       };
-  same = so.same;
-  taut = λ e k below. elim (cases_lt k h) [
-    | inl lt ↦ so.taut e k lt
-    | inr ge ↦ let is : k ≡ h = omega arith in subst (λ j. IsTaut net costs marks sums j) (sym is) taut
-  ];
+  falls = so.falls;
+  taut = λ e. All-more (IsTaut net costs marks sums) among i 0 inside (so.taut e) taut;
 }
 
-some_is : (o : Option ℕ) (x y : ℕ) → o ≡ Some x → o ≡ Some y → y ≡ x
+pub some_is : (o : Option ℕ) (x y : ℕ) → o ≡ Some x → o ≡ Some y → y ≡ x
 some_is o x y one two = let both : Some y ≡ Some x = sym two ∙ one in cc
 
-pub lowered_more : (net : Network) (costs : List ℕ) (marks : List Bool) (t h y : ℕ) (fell : Bool) (old sums : List (Option ℕ)) →
-    LoweredSoFar net costs marks t h fell old sums → h < link_count net → tail_of net h < node_count net → slice_index costs h ≤ 65535 →
+pub lowered_more : (net : Network) (costs : List ℕ) (marks : List Bool) (among : List ℕ) (t i h y : ℕ) (fell : Bool) (old sums : List (Option ℕ)) →
+    LoweredSoFar net costs marks among t i fell old sums → h < link_count net → tail_of net h < node_count net → slice_index costs h ≤ 65535 →
     is_open marks h ≡ true → distance_at sums (head_of net h) ≡ Some y →
     (AtMost (distance_at sums (tail_of net h)) (slice_index costs h + y) → ⊥) →
-    LoweredSoFar net costs marks t (h + 1) true old (set sums (tail_of net h) (Some (slice_index costs h + y)))
-lowered_more net costs marks t h y fell old sums so inside tail_in small_cost open_h at_head above =
+    LoweredSoFar net costs marks among t (i + 1) true old (set sums (tail_of net h) (Some (slice_index costs h + y)))
+lowered_more net costs marks among t i h y fell old sums so inside tail_in small_cost open_h at_head above =
     let u = tail_of net h in
     let d = slice_index costs h + y in
     let new = set sums u (Some d) in
@@ -76,13 +75,40 @@ lowered_more net costs marks t h y fell old sums so inside tail_in small_cost op
               | inr ne ↦ omega (arith, now.small v x (sym (other v ne) ∙ is))
             ];
           };
-      same = λ never. cc;
+      falls = λ v x low. elim (cases_eq v u) [
+        | inl e ↦
+            let same : distance_at new u ≡ Some d = get_or-set_same sums u (Some d) None (known_inside u x (subst (λ w. AtMost (distance_at sums w) x) e (so.falls v x low))) in
+            subst (λ w. AtMost (distance_at new w) x) (sym e)
+            (at_most-is (distance_at new u) x d same (lesser (distance_at sums u) x (subst (λ w. AtMost (distance_at sums w) x) e (so.falls v x low)) above))
+        | inr ne ↦ subst (λ o. AtMost o x) (sym (get_or-set_other sums u v (Some d) None ne)) (so.falls v x low)
+      ];
       taut = λ never. cc;
     }
+  where
+    lesser : (o : Option ℕ) (x : ℕ) → AtMost o x → (AtMost o (slice_index costs h + y) → ⊥) → slice_index costs h + y ≤ x
+    lesser None x at not_at = absurd at
+    lesser (Some z) x at not_at = elim (cases_lt x (slice_index costs h + y)) [
+      | inl lt ↦ absurd (not_at (omega (arith, at, lt)))
+      | inr ge ↦ ge
+    ]
 
-pub lowered_sums : (net : Network) (costs : List ℕ) (marks : List Bool) (t h : ℕ) (fell : Bool) (old sums : List (Option ℕ)) →
-    LoweredSoFar net costs marks t h fell old sums → h ≤ FORMAT_2.links → (n : ℕ) → AreWalkSums net costs marks t n old → AreWalkSums net costs marks t (n + 65535 * FORMAT_2.links) sums
-lowered_sums net costs marks t h fell old sums so few n were =
+    known_inside : (u x : ℕ) → AtMost (distance_at sums u) x → u < length sums
+    known_inside u x at = elim (cases_lt u (length sums)) [
+      | inl lt ↦ lt
+      | inr past ↦ absurd (subst (λ o. AtMost o x) (get_or_past sums u None past) at)
+    ]
+
+pub lowered_none : (net : Network) (costs : List ℕ) (marks : List Bool) (among : List ℕ) (t : ℕ) (fell : Bool) (sums : List (Option ℕ)) →
+    LoweredSoFar net costs marks among t 0 fell sums sums
+lowered_none net costs marks among t fell sums = record {
+  are = λ n were. let e : n ≡ n + 65535 * 0 = omega arith in subst (λ m. AreWalkSums net costs marks t m sums) e were;
+  falls = λ v x low. low;
+  taut = λ e. All-nil (IsTaut net costs marks sums);
+}
+
+pub lowered_sums : (net : Network) (costs : List ℕ) (marks : List Bool) (among : List ℕ) (t i : ℕ) (fell : Bool) (old sums : List (Option ℕ)) →
+    LoweredSoFar net costs marks among t i fell old sums → i ≤ FORMAT_2.links → (n : ℕ) → AreWalkSums net costs marks t n old → AreWalkSums net costs marks t (n + 65535 * FORMAT_2.links) sums
+lowered_sums net costs marks among t i fell old sums so few n were =
     let now = so.are n were in
     record {
       count = now.count;
@@ -90,35 +116,6 @@ lowered_sums net costs marks t h fell old sums so few n were =
       reached = now.reached;
       small = λ v d is. omega (arith, few, now.small v d is);
     }
-
-pub sums_start : (net : Network) (costs : List ℕ) (marks : List Bool) (t : ℕ) (sums : List (Option ℕ)) → t < node_count net →
-    sums ≡ set (replicate (node_count net) None) t (Some 0) → AreWalkSums net costs marks t 0 sums
-sums_start net costs marks t sums t_in is =
-    let none = replicate (node_count net) None in
-    let size : length none ≡ node_count net = length-replicate (node_count net) None in
-    let at_t : distance_at sums t ≡ Some 0 = ap (λ (l : List (Option ℕ)). distance_at l t) is ∙ get_or-set_same none t (Some 0) None (omega (arith, size, t_in)) in
-    let known : (v d : ℕ) → distance_at sums v ≡ Some d → (v ≡ t) × (d ≡ 0) = λ v d at. elim (cases_eq v t) [
-      | inl e ↦ (e, some_is (distance_at sums t) 0 d at_t (subst (λ w. distance_at sums w ≡ Some d) e at))
-      | inr ne ↦ absurd (elsewhere v d (sym (ap (λ (l : List (Option ℕ)). distance_at l v) is ∙ get_or-set_other none t v (Some 0) None ne) ∙ at))
-    ]
-    in
-    record {
-      count = ap (λ (l : List (Option ℕ)). length l) is ∙ (length-set none t (Some 0) ∙ size);
-      start = subst (λ o. AtMost o 0) (sym at_t) (omega arith);
-      reached = λ v d at. ([], (known v d at).0, sym (known v d at).1);
-      small = λ v d at. omega (arith, (known v d at).1);
-    }
-  where
-    elsewhere : (v d : ℕ) → distance_at (replicate (node_count net) None) v ≡ Some d → ⊥
-    elsewhere v d at = elim (cases_lt v (node_count net)) [
-      | inl lt ↦ let none = get_or-replicate (node_count net) v None None lt in let never : None ≡ Some d = sym none ∙ at in cc
-      | inr ge ↦
-          let past : distance_at (replicate (node_count net) None) v ≡ None =
-          get_or_past (replicate (node_count net) None) v None (omega (arith, ge, length-replicate {A = Option ℕ} (node_count net) None))
-          in
-          let never : None ≡ Some d = sym past ∙ at in
-          cc
-    ]
 
 pub sums_within : (net : Network) (costs : List ℕ) (marks : List Bool) (t n m : ℕ) (sums : List (Option ℕ)) → AreWalkSums net costs marks t n sums → n ≤ m →
     AreWalkSums net costs marks t m sums

@@ -36,7 +36,7 @@ fn detour(
 {
     let marks = class_marks(alloc, net, src, prefix, excluded, node)?;
     let costs = ways.costs.as_slice();
-    let sums = least_sums(alloc, net, costs, &marks, ways.dst)?;
+    let sums = least_sums(alloc, net, ways, &marks)?;
     match follow(alloc, net, costs, &marks, &sums, node, ways.dst)? {
         None => Ok(None),
         Some(rest) => {

@@ -54,7 +54,7 @@ follow-requires-clause-positive c = subst (λ (l : List ℕ). All (λ x. 1 ≤ x
 pub follow-requires-clause-distances : goal.follow-requires-clause-distances
 follow-requires-clause-distances c =
     let net = c.args.net.now in
-    let costs = c.as_slice-costs.result.now in
-    let dst = c.args.ways.now.dst in
-    subst (λ (m : List Bool). AreLeastSums net costs m dst c.deref-3.result.now) (c.deref.ensures.value ∙ sym c.deref-2.ensures.value)
-    (subst (AreLeastSums net costs c.deref.result.now dst) (sym c.deref-3.ensures.value) c.in_ok-sums.ensures)
+    let ways = c.args.ways.now in
+    subst (λ k. AreLeastSums net k c.deref-2.result.now ways.dst c.deref-3.result.now) (sym c.as_slice-costs.ensures)
+    (subst (λ (m : List Bool). AreLeastSums net ways.costs m ways.dst c.deref-3.result.now) (c.deref.ensures.value ∙ sym c.deref-2.ensures.value)
+    (subst (AreLeastSums net ways.costs c.deref.result.now ways.dst) (sym c.deref-3.ensures.value) c.in_ok-sums.ensures))
