@@ -16,6 +16,8 @@ Taking = collections.namedtuple("Taking", "place crate calls")
 FREE, NEVER, NOTHING, WITHOUT_MEMORY = "free", "never", "-", "6"
 # What the system's own files and streams answer, no clause says.
 OF_SYSTEM = ("Disk::read_once", "SystemDisk::read_once", "OpenFile::read_at", "Stream::write_once", "SystemStream::write_once")
+# It takes memory, and has no answer of its own for the want of it.
+TAKES_MEMORY = ("RecordDepot::fetch",)
 NAME = re.compile(r"`([^`]+)`")
 TEST = re.compile(r"#\[test\]\s+fn (\w+)")
 
@@ -148,7 +150,8 @@ class Judge:
                 elif self.can_want_memory(call, never):
                     faults.append(f"{row.place}: {name} can answer that memory is short")
         for key, call in self.calls.items():
-            if key not in listed | is_open and not call.is_of_trait and not self.can_want_memory(call, never):
+            takes = call.name in TAKES_MEMORY or self.can_want_memory(call, never)
+            if key not in listed | is_open and not call.is_of_trait and not takes:
                 faults.append(f"{call.crate}: {call.name} is not among the calls that take no memory")
         return faults
 

@@ -31,6 +31,7 @@ delivers_whole status text out said faults small whole steady later = record {
   said = λ five. absurd (omega (arith, five, small));
   quiet = λ is. refl;
   out_faults = λ other. steady;
+  err_faults = λ is. refl;
   out_later = later;
   err_later = omega arith;
 }
@@ -49,6 +50,7 @@ delivers_part status text out err small part rose later says err_later = record 
   said = λ five. says;
   quiet = λ is. absurd (omega (arith, is));
   out_faults = λ other. absurd (other refl);
+  err_faults = λ is. absurd (omega (arith, is));
   out_later = later;
   err_later = err_later;
 }
@@ -67,6 +69,7 @@ delivers_name line text faults err says later = record {
   said = λ five. absurd (omega (arith, five));
   quiet = λ is. absurd (omega (arith, is));
   out_faults = λ other. refl;
+  err_faults = λ is. absurd (omega (arith, is));
   out_later = omega arith;
   err_later = later;
 }
@@ -171,10 +174,11 @@ form_said result err (inr (inl is)) says low three seven = subst (λ (n : ℕ). 
 form_said result err (inr (inr is)) says low three seven = absurd (seven is)
 
 pub form_written : (result : ℕ) (out err : Change) → IsForm result → (2 ≤ result → result ≢ 5 → out.new ≡ out.old) → (result ≡ 5 → Says err (message 5)) →
-    (result ≤ 1 → err.new ≡ err.old) → Written result out err
-form_written result out err form silent says quiet = record {
+    (result ≤ 1 → err.new ≡ err.old) → (result ≤ 1 → err.now ≡ err.before) → Written result out err
+form_written result out err form silent says quiet steady = record {
   known = form_known result form;
   silent = silent;
   said = λ low three seven. form_said result err form says low three seven;
   quiet = quiet;
+  err_faults = steady;
 }

@@ -57,7 +57,7 @@ module _ {Command : Type 0} (table : TableOf Command) (all : IsSoundTable table)
         write = d.write;
         exact = answer_exact table all asked words old.content (span old.gave new.gave) answer result out err is agrees d follows.means;
         complete = answer_complete table all asked words old.content (span old.gave new.gave) _ answer result out err is agrees d follows.means;
-        written = form_written result out err d.form d.silent d.said d.quiet;
+        written = form_written result out err d.form d.silent d.said d.quiet d.err_faults;
         content = follows.may.content;
         added = follows.may.added;
         steady = record { depot = λ other. follows.steady (λ e. cc); out_faults = d.out_faults };
@@ -103,6 +103,7 @@ module _ {Command : Type 0} (table : TableOf Command) (all : IsSoundTable table)
       silent = λ low other. refl;
       said = λ low three seven. said three;
       quiet = λ small. absurd (omega (arith, small, many));
+      err_faults = λ small. absurd (omega (arith, small, many));
     };
     content = may.content;
     added = may.added;

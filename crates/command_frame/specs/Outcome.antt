@@ -56,6 +56,7 @@ pub record Delivers (result meant : ℕ) (text : List ℕ) (out err : Change) : 
   pub said : result ≡ 5 → Says err (message 5)
   pub quiet : result ≤ 1 → err.new ≡ err.old
   pub out_faults : result ≢ 5 → out.now ≡ out.before
+  pub err_faults : result ≤ 1 → err.now ≡ err.before
   pub out_later : out.before ≤ out.now
   pub err_later : err.before ≤ err.now
 

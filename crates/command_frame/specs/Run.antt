@@ -39,9 +39,10 @@ Writes P out = (text : List ℕ) × P text × (out.new ≡ append_known out.old 
 abbrev pub WritesPart : (List ℕ → Type 0) → Change → Type 0
 WritesPart P out = (text : List ℕ) × P text × AppendsPart out.old out.new text
 
--- the whole text was appended, or where faults rose a part of it
+-- the whole text was appended and no write failed, or where faults rose a part of it
 abbrev pub Says : Change → List ℕ → Type 0
-Says err text = (err.new ≡ append_known err.old text) ⊎ (AppendsPart err.old err.new text × Rose err.before err.now)
+Says err text =
+    ((err.new ≡ append_known err.old text) × (err.now ≡ err.before)) ⊎ (AppendsPart err.old err.new text × Rose err.before err.now)
 
 -- some text with this meaning was said
 abbrev pub SaysSome : (List ℕ → Type 0) → Change → Type 0
@@ -92,12 +93,13 @@ IsOrFails result status = (result ≡ status) ⊎ (result ≡ 4) ⊎ (result ≡
 abbrev pub GivesOrMemory : ℕ → Change → ℕ → (List ℕ → Type 0) → Type 0
 GivesOrMemory result out status P = ((result ≡ status) × (status ≤ 1 → Writes P out)) ⊎ (result ≡ 6)
 
--- nothing else is written to out, nothing to err at 0 and 1, and each other status has its message
+-- nothing else is written to out, nothing to err at 0 and 1, where no write to it fails, and each other status has its message
 pub record Written (result : ℕ) (out err : Change) : Type 0 where
   pub known : result ≤ 7
   pub silent : 2 ≤ result → result ≢ 5 → out.new ≡ out.old
   pub said : 2 ≤ result → result ≢ 3 → result ≢ 7 → Says err (message result)
   pub quiet : result ≤ 1 → err.new ≡ err.old
+  pub err_faults : result ≤ 1 → err.now ≡ err.before
 
 -- no count of faults rises without its status
 pub record Steady (result : ℕ) (before now : List ℕ → ℕ) (out : Change) : Type 0 where

@@ -1,7 +1,7 @@
 //! Rates are printed and read back, and read and printed again.
-ghost use Rattle.std.specs.Prelude.{◌≡◌, IfOk};
+ghost use Rattle.std.specs.Prelude.{◌≡◌, Err, IfErr, IfOk};
 ghost use Rattle.fault_rates.specs.Plan.{IsValidPlan};
-ghost use Rattle.fault_rates.specs.Reading.{GivesRatesOrMemory};
+ghost use Rattle.fault_rates.specs.Reading.{GivesRates, GivesRatesOrMemory};
 
 use crate::fault::RateFault;
 use crate::plan::RatePlan;
@@ -26,6 +26,9 @@ pub fn print_and_read(
 /// Reads the file and prints it again: what [`read`] takes, [`print`] writes byte for byte.
 pub fn read_and_print(alloc: Global, routing: &Routing, bytes: &[u8]) -> Result<Vec<u8>, RateFault>
     ensures same { IfOk result (λ file. file.items ≡ bytes.now) }
+
+    // It is refused as [`read`] refuses it, but for want of memory.
+    ensures refused { IfErr result (λ fault. GivesRates routing.now.routes bytes.now (Err fault)) }
 {
     let plan = read(alloc, routing, bytes)?;
     Ok(print(alloc, &plan)?)

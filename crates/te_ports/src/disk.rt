@@ -1,5 +1,5 @@
 //! The files of the system, of which one at a time is kept open.
-ghost use Rattle.std.specs.Prelude.{◌≡◌, ◌≤◌, ◌<◌, ◌+◌, ◌-◌, ◌^◌, min, [], ◌∷◌, ◌++◌, List, length, take, IfOk, Some, Ok};
+ghost use Rattle.std.specs.Prelude.{◌≡◌, ◌≤◌, ◌<◌, ◌+◌, ◌-◌, ◌^◌, min, [], ◌∷◌, ◌++◌, List, length, take, IfOk, IsErrOf, Some, None, Ok};
 ghost use Rattle.std.specs.Io.{ReadsAtMost};
 ghost use Rattle.te_ports.specs.Calls.{SystemCall, system_call, reads, bytes_read, read_into};
 ghost use Rattle.te_ports.specs.OpenFiles.{name_bytes, telling, ReadsAt};
@@ -55,6 +55,7 @@ impl<F: Read + Seek + Drop> OpenFile<F> {
     /// The file of this name, which nobody has read from.
     pub fn new(name: FileName, file: F) -> Self
         ensures name { result.name ≡ name }
+        ensures file { result.file ≡ file }
         ensures start { result.next ≡ 0 }
     {
         OpenFile {
@@ -67,13 +68,14 @@ impl<F: Read + Seek + Drop> OpenFile<F> {
     /// Reads once, and goes to the place first only where the last read did not end there. An error is the file's own, of the
     /// move or of the read.
     ///
-    /// The bytes are the next that the file has left, where it tells them, and where it tells its place it went to that one.
+    /// The bytes are the next that the file has left, where it tells them, and where it tells its place it went to that one. After
+    /// an error the next read begins at the place of this one, or where it would have begun before if the move failed.
     pub fn read_at(&mut self, at: u64, buf: &mut [u8]) -> io::Result<usize>
         ensures bound { ReadsAtMost result buf.new }
         ensures name { self.new.name ≡ self.old.name }
         ensures next { IfOk result (λ n. self.new.next ≡ min (at + n) (2 ^ 64 - 1)) }
-        ensures reads { ReadsAt (telling F.remaining F.stream_position F.stream_bytes) self.old.next self.old.file self.new.file at
-            result buf.new }
+        ensures reads { ReadsAt (telling F.remaining F.stream_position F.stream_bytes) self.old.next self.new.next
+            self.old.file self.new.file at result buf.new }
     {
         if self.next != at {
             self.file.seek(SeekFrom::Start(at))?;
@@ -105,7 +107,9 @@ pub struct SystemDisk<R: Files + Drop> {
 impl<R: Files + Drop> SystemDisk<R> {
     /// No file is open yet.
     pub fn new(files: R) -> Self
-        ensures { result.log.calls ≡ [] }
+        ensures files { result.files ≡ files }
+        ensures nothing_open { result.last ≡ None }
+        ensures nothing_read { result.log.calls ≡ [] }
     {
         SystemDisk {
             files,
@@ -127,6 +131,7 @@ impl<R: Files + Drop> SystemDisk<R> {
     fn last_or_open(&mut self, name: &str) -> io::Result<OpenFile<R::File>>
         ensures name { IfOk result (λ file. name_bytes file.name ≡ name.now) }
         ensures last { (file : OpenFile R.File) → self.old.last ≡ Some file → name_bytes file.name ≡ name.now → result ≡ Ok file }
+        ensures taken { self.new.last ≡ None }
         ensures log { self.new.log.calls ≡ self.old.log.calls }
     {
         match self.last.take() {
@@ -143,7 +148,8 @@ impl<R: Files + Drop> SystemDisk<R> {
             (file.next ≡ min (at + n) (2 ^ 64 - 1))) }
         ensures reads { IfOk result (λ n. (old : OpenFile R.File) → (new : OpenFile R.File) → self.old.last ≡ Some old → self.new.last ≡ Some new →
             name_bytes old.name ≡ name.now → ReadsAt {E = IoError} (telling R.File.remaining R.File.stream_position R.File.stream_bytes)
-            old.next old.file new.file at (Ok n) buf.new) }
+            old.next new.next old.file new.file at (Ok n) buf.new) }
+        ensures closed { IsErrOf result SystemFault.Failed → self.new.last ≡ None }
         ensures log { self.new.log.calls ≡ self.old.log.calls }
     {
         let mut file = self.last_or_open(name)?;

@@ -1,5 +1,5 @@
 //! The files of the system as a depot. They tell no content, and count each failure.
-ghost use Rattle.std.specs.Prelude.{◌≡◌, ◌≤◌, ◌<◌, ◌+◌, ◌-◌, ◌^◌, [], ◌∷◌, ◌++◌, ℕ, List, length, take, IfOk, OnOk, OnErr};
+ghost use Rattle.std.specs.Prelude.{◌≡◌, ◌≤◌, ◌<◌, ◌+◌, ◌-◌, ◌^◌, [], ◌∷◌, ◌++◌, ℕ, List, length, take, IfOk, OnOk, OnErr, None};
 ghost use Rattle.std.specs.declared.result.Result.{Result};
 ghost use Rattle.std.specs.Io.{ReadsAtMost};
 ghost use Rattle.te_ports.specs.Ports.{Rose};
@@ -25,8 +25,10 @@ pub struct RealDepot<D: Disk + Drop> {
 impl<R: Files + Drop> RealDepot<SystemDisk<R>> {
     /// The files that the runtime reaches.
     pub fn new(files: R) -> Self
-        ensures no_fault { result.faults ≡ 0 }
+        ensures files { result.disk.files ≡ files }
+        ensures nothing_open { result.disk.last ≡ None }
         ensures nothing_read { result.disk.log.calls ≡ [] }
+        ensures no_fault { result.faults ≡ 0 }
     {
         RealDepot::over(SystemDisk::new(files))
     }
@@ -63,8 +65,6 @@ fn read_again<D: Disk>(
 }
 
 impl<D: Disk + Drop> Depot for RealDepot<D> {
-    ghost use Rattle.std.specs.Prelude.{None};
-
     ghost content = { λ _ _. None };
 
     ghost faults = { λ d _. d.faults };

@@ -2,7 +2,8 @@
 ghost use Rattle.std.specs.Prelude.{◌≡◌, ◌≤◌, ◌<◌, ◌+◌, ◌-◌, ◌^◌, min, [], ◌∷◌, ◌++◌, ℕ, List, length, take, IfOk, OnOk, OnErr};
 ghost use Rattle.te_ports.specs.Ports.{Rose};
 ghost use Rattle.te_ports.specs.Record.{read};
-ghost use Rattle.te_ports.specs.RecordDepot.{written_down};
+ghost use Rattle.te_ports.specs.RecordDepot.{FailsBy, written_down};
+ghost use Rattle.te_ports.specs.Shown.{shown_by};
 
 use crate::{Depot, Failed};
 use std::alloc::{AllocError, Global};
@@ -91,6 +92,11 @@ impl<D: Depot + Drop> Depot for RecordDepot<D> {
         ensures no_room { length buf.new ≡ 0 → self.new.log.items ≡ self.old.log.items }
         ensures unread { OnErr result (self.new.log.items ≡ self.old.log.items) }
         ensures counted { OnErr result (self.new.faults ≡ min (self.old.faults + 1) (2 ^ 64 - 1)) }
+
+        // It fails only where the read of the other depot did, or memory was short to write down what that gave.
+        ensures cause { OnErr result (FailsBy name.now at (shown_by D.content D.gave D.faults self.old.inner)
+            (shown_by D.content D.gave D.faults self.new.inner)) }
+        ensures inner { D.content self.new.inner ≡ D.content self.old.inner }
     {
         if let Ok(count) = self.inner.fetch(name, at, buf) {
             if buf.is_empty() {
