@@ -20,8 +20,8 @@ use Rattle.routing.specs.Split.{are_splits, is_split, total_weight}
 use Rattle.routing.proofs.Splits.{weight_on-le}
 use Rattle.ratio_checker.specs.Ascending.{AscendsFrom}
 use Rattle.ratio_checker.proofs.Ascending.{ascends_from_steps}
-use Rattle.ratio_witness.specs.Judged.{IsSimplePath}
-use Rattle.ratio_witness.proofs.KeptRules.{simple_paths}
+use Rattle.ratio_checker.specs.Checked.{IsSimplePath}
+use Rattle.ratio_checker.proofs.SimplePaths.{simple_paths}
 use Rattle.hose_bound.specs.declared.hose.Hose.{Hose}
 use Rattle.hose_bound.specs.declared.hose.HoseCert.{HoseCert}
 use Rattle.hose_bound.specs.Files.{is_shaped_hose}

@@ -6,13 +6,13 @@ ghost use Rattle.te_model.specs.Counting.{first_below, unless};
 ghost use Rattle.te_model.specs.Path.{weight_on, routes_at};
 ghost use Rattle.routing.specs.Split.{total_weight};
 ghost use Rattle.ratio_checker.specs.Ascending.{AscendsFrom};
-ghost use Rattle.ratio_witness.specs.Judged.{IsSimplePath};
+ghost use Rattle.ratio_checker.specs.Checked.{IsSimplePath};
 ghost use Rattle.hose_bound.specs.Judging.{IsSmallBlock, IsFirstUncoveredPair, fault_of_pairs};
 ghost use Rattle.hose_bound.specs.Verdict.{hose_block_of, covers_pair};
 
 use crate::blocks::blocks_after;
 use crate::hose::HoseBlock;
-use ratio_witness::link_shares;
+use ratio_checker::shares_by_link;
 use te_model::{InequalityFault, Pair, PairRoutes, number_at};
 
 // A link, and a pair whose share on it is not covered.
@@ -23,13 +23,13 @@ pub struct UncoveredPair {
 }
 
 // The numbers at the ends of the pair cover the share.
-fn covers_ends(block: &HoseBlock, pair: Pair, share: u128) -> bool
+fn covers_ends(block: &HoseBlock, pair: Pair, share: u64) -> bool
     requires { IsSmallBlock block.now }
     ensures { result ≡ nat_le share (slice_index block.now.tails pair.src + slice_index block.now.heads pair.dst) }
 {
     let tail = number_at(block.tails.as_slice(), pair.src as usize);
     let head = number_at(block.heads.as_slice(), pair.dst as usize);
-    share <= u128::from(tail + head)
+    share <= tail + head
 }
 
 // The share of the pair on the link, whose block is the first if it is there, is covered.
@@ -38,7 +38,7 @@ fn covers_on_link(
     blocks: &[HoseBlock],
     link: u32,
     p: usize,
-    share: u128,
+    share: u64,
 ) -> bool
     requires blocks { All IsSmallBlock blocks.now }
     requires ascend { AscendsFrom (λ b. b.link) link blocks.now }
@@ -67,7 +67,7 @@ fn uncovered_link(
     requires limit { limit ≤ FORMAT_2.links }
     ensures { result ≡ first_below limit (λ e. unless (covers_pair routes.now e (hose_block_of blocks.now e) p) e) }
 {
-    let shares = link_shares(routes[p].paths.as_slice());
+    let shares = shares_by_link(routes[p].paths.as_slice());
     let mut rest = blocks;
     for e in 0..limit {
         let link = e as u32;

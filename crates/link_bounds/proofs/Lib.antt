@@ -1,7 +1,6 @@
 pub mod LinkRatios
 pub mod FeasibleBlocks
 pub mod SameLinks
-pub mod FormedHeads
 pub mod SharesOn
 pub mod FirstThree
 pub mod FirstInfeasible

@@ -26,7 +26,7 @@ use Rattle.ratio_checker.proofs.MoreBlocks.{link_is_there}
 use Rattle.ratio_checker.proofs.Validity.{blocks_in_order}
 use Rattle.best_blocks.specs.Need.{HasNumbers, IsGreatestNeed, IsNeed, need_of}
 use Rattle.best_blocks.proofs.Needs.{is_need, pays_more}
-use Rattle.link_bounds.proofs.FormedHeads.{head_formed}
+use Rattle.ratio_checker.proofs.FormedHeads.{head_formed}
 use Rattle.link_bounds.specs.Laws.{CanReprice, LastRepricingCounts, RepricedHolds, RepricingKeepsFailures, RepricingLowersRatio}
 use Rattle.link_bounds.specs.Repriced.{greatest_need, repriced}
 use Rattle.link_bounds.proofs.AbsentBlocks.{empty_pays}

@@ -1,5 +1,5 @@
 //! Which of the first three inequalities of a certificate fails first.
-ghost use Rattle.std.specs.Prelude.{◌≡◌, All};
+ghost use Rattle.std.specs.Prelude.{◌≡◌, All, IfOk};
 ghost use Rattle.te_model.specs.Certificate.{block_of};
 ghost use Rattle.te_model.specs.Inequalities.{shares_failure};
 ghost use Rattle.te_model.specs.Network.{link_count};
@@ -15,7 +15,8 @@ use ratio_checker::blocks::blocks_after;
 use ratio_checker::finding::{block_failure, finding_on};
 use ratio_checker::share_rows::{first_share, shares_failure};
 use ratio_checker::share_table::ShareTable;
-use te_model::{Block, Certificate, Head, InequalityFault};
+use std::alloc::Global;
+use te_model::{Block, Certificate, Head, InequalityFault, Memory};
 
 // The first of I1 to I3 that fails of what the block says of its link, where `shares` is what fails of I2. I4 comes last, so where
 // it is the first of the four none of the three fails.
@@ -77,4 +78,15 @@ pub fn first_infeasibility(certificate: &Certificate, shares: &ShareTable) -> Fi
         blocks = blocks_after(blocks, link);
     }
     Finding::Yes
+}
+
+/// Which of the first three inequalities fails first, in order of link, inequality and place, or yes where they hold of every link.
+///
+/// `Memory` comes where memory is wanting: 4 bytes for each pair on each link.
+pub fn find_infeasibility(alloc: Global, certificate: &Certificate) -> Result<Finding, Memory>
+    requires { IsValid certificate.now }
+    ensures { IfOk result (λ finding. finding ≡ finding_of (first_infeasibility certificate.now)) }
+{
+    let shares = ShareTable::new(alloc, &certificate.head)?;
+    Ok(first_infeasibility(certificate, &shares))
 }

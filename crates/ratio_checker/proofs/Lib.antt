@@ -10,6 +10,7 @@ pub mod Sizes
 pub mod Absent
 pub mod FedBlocks
 pub mod MoreBlocks
+pub mod FormedHeads
 pub mod Validity
 pub mod Verdicts
 mod Weighed

@@ -29,7 +29,7 @@ first_failure_found c e f below before fails =
 yes_from_none : (o : Option LinkFailure) → o ≡ None → finding_of o ≡ Yes
 yes_from_none o e = ap finding_of e
 
-none_from_yes : (o : Option LinkFailure) → finding_of o ≡ Yes → o ≡ None
+pub none_from_yes : (o : Option LinkFailure) → finding_of o ≡ Yes → o ≡ None
 none_from_yes None e = refl
 none_from_yes (Some f) e = cc
 
@@ -43,7 +43,7 @@ pub yes_is_ratio : (c : Certificate) (r : Finding) → IsValid c → r ≡ findi
     IsObliviousRatio c.head.network c.head.routes c.head.set c.head.ratio
 yes_is_ratio c r valid is said = holds_is_oblivious c valid ((yes_is_holds c r is).0 said)
 
-failure_from_no : (o : Option LinkFailure) (link rule place : ℕ) → finding_of o ≡ No link rule place →
+pub failure_from_no : (o : Option LinkFailure) (link rule place : ℕ) → finding_of o ≡ No link rule place →
     o ≡ Some (record { link = link; rule = rule; place = place })
 failure_from_no None link rule place e = cc
 failure_from_no (Some f) link rule place e =

@@ -6,7 +6,7 @@ mod bounds;
 mod capacity;
 pub mod feed;
 pub mod finding;
-mod link_shares;
+pub mod link_shares;
 mod potentials;
 mod rows;
 pub mod share_rows;
@@ -15,3 +15,4 @@ mod shares;
 
 pub use feed::Feed;
 pub use finding::{Finding, verdict};
+pub use link_shares::shares_by_link;

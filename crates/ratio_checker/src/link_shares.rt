@@ -22,7 +22,7 @@ fn add_weight(shares: &mut [u64], links: &[u32], weight: u64)
     }
 }
 
-// The weights of those paths that hold the link, for each link.
+/// What a pair with these paths puts on each link: the weights of those paths that hold it, in millionths. It takes no memory.
 pub fn shares_by_link(paths: &[PathShare]) -> [u64; MOST]
     requires paths { All IsSimplePath paths.now }
     requires weights { sum_by (λ s. s.weight) paths.now < 2 ^ 64 }

@@ -1,29 +1,26 @@
 -- What a valid head and a witness that keeps U1 to U6 give.
-use Rattle.std.proofs.Common.{◌≡◌, ℕ, ◌^◌, ◌<◌, ◌≤◌, Bool, true, ◌&&◌, ◌||◌, Option, Some, None, List, [], ◌∷◌, length, get_or, arith, refl, All, nat_le, ◌==◌, sum_by}
+use Rattle.std.proofs.Common.{◌≡◌, ℕ, ◌^◌, ◌<◌, ◌≤◌, Bool, true, ◌&&◌, ◌||◌, Option, Some, None, List, [], ◌∷◌, length, get_or, arith, refl, nat_le, ◌==◌, sum_by}
 use Rattle.std.specs.Option.{option_or}
 use Rattle.std.specs.Prelude.{IsTrue}
 use Rattle.std.specs.List.{list_all}
 use Rattle.std.proofs.lemmas.Bool.{leb-true}
 use Rattle.std.proofs.lemmas.Bool.Decides.{nat_tests}
-use Rattle.std.proofs.lemmas.List.Elements.{All-nil, All-weaker}
 use Rattle.te_model.specs.declared.certificate.Certificate.{Certificate}
 use Rattle.te_model.specs.declared.certificate.Head.{Head}
 use Rattle.te_model.specs.declared.certificate.RuleFault.{RuleFault}
-use Rattle.te_model.specs.declared.limits.TheConstants.{FORMAT_2}
-use Rattle.te_model.specs.declared.network.Network.{Network}
 use Rattle.te_model.specs.declared.route.PathShare.{PathShare}
 use Rattle.te_model.specs.Counting.{first_some}
 use Rattle.te_model.specs.Formats.{limits_of}
 use Rattle.te_model.specs.Network.{link_count}
 use Rattle.te_model.specs.Path.{is_path, routes_at, source_of, destination_of}
 use Rattle.te_model.specs.Shape.{is_shaped_head}
-use Rattle.te_model.specs.Validity.{IsValid, IsValidBlock, IsValidHead, fault_at, faults_from, paths_ascend}
-use Rattle.te_model.proofs.SimplePaths.{path_links, path_links_once}
+use Rattle.te_model.specs.Validity.{IsValidHead, fault_at, faults_from, paths_ascend}
 use Rattle.te_model.proofs.Tests.{and_true, first_some_none_at, first_failing_none_at, all_from_tests}
 use Rattle.te_model.proofs.Valid.{rules_hold, valid_limits}
-use Rattle.te_model.proofs.ValidParts.{valid_parts}
+use Rattle.ratio_checker.proofs.MoreBlocks.{valid_without_blocks}
+use Rattle.ratio_checker.proofs.SimplePaths.{simple_paths}
 use Rattle.ratio_witness.specs.declared.witness.Witness.{Witness}
-use Rattle.ratio_witness.specs.Judged.{IsSimplePath, CanJudge}
+use Rattle.ratio_witness.specs.Judged.{CanJudge}
 use Rattle.ratio_witness.specs.Rules.{demand_of, rival_paths, has_bound, has_scale, has_small_demand, is_carried, has_sound_rival, has_whole_rival, witness_rules, KeepsRules}
 use Rattle.ratio_witness.specs.Witness.{IsRivalOf}
 
@@ -60,17 +57,6 @@ rules_kept h w keeps =
       whole = λ p below. first_failing_none_at pairs (has_whole_rival w) (fault_at 6) p (at 5) below;
     }
 
-simple_path : (net : Network) (s t : ℕ) (path : PathShare) → link_count net ≤ FORMAT_2.links → is_path net s t path.links ≡ true → IsSimplePath path
-simple_path net s t path few is =
-    record {
-      links = All-weaker (λ h. h < link_count net) (λ h. h < FORMAT_2.links) (λ h inside. omega (arith, inside, few)) path.links (path_links net s t path.links is);
-      once = path_links_once net s t path.links is;
-    }
-
-pub simple_paths : (net : Network) (s t : ℕ) (paths : List PathShare) → link_count net ≤ FORMAT_2.links → list_all (λ q. is_path net s t q.links) paths ≡ true →
-    All IsSimplePath paths
-simple_paths net s t paths few all = all_from_tests (λ q. is_path net s t q.links) IsSimplePath (λ q is. simple_path net s t q few is) paths all
-
 -- where there is a path, the weights sum to one million
 some_whole : (n sum : ℕ) (weighted : Bool) → (n == 0 || (weighted && sum == 1000000)) ≡ true → 1 ≤ n → sum ≡ 1000000
 some_whole n sum weighted whole some = grind (arith, nat_tests)
@@ -86,23 +72,13 @@ whole_le (s ∷ ss) is =
 some_path : (demand n : ℕ) → (demand == 0 || nat_le 1 n) ≡ true → 0 < demand → 1 ≤ n
 some_path demand n carried some = grind (arith, nat_tests)
 
--- a valid head is that of a valid certificate without blocks
-pub valid_alone : (h : Head) → IsValidHead h → IsValid (record { head = h; blocks = [] })
-valid_alone h valid =
-    (valid_parts (record { head = h; blocks = [] })).1 (record {
-      head = valid;
-      count = omega arith;
-      blocks = All-nil (IsValidBlock h);
-      ascending = λ k below. absurd (omega (arith, below));
-    })
-
 some_link : (h : Head) → is_shaped_head (limits_of h.format) h ≡ true → 1 ≤ link_count h.network
 some_link h shaped = grind (arith, nat_tests)
 
 pub can_judge : (h : Head) (w : Witness) → IsValidHead h → KeepsRules h w → CanJudge h w
 can_judge h w valid keeps =
     let c : Certificate = record { head = h; blocks = [] } in
-    let is = valid_alone h valid in
+    let is = valid_without_blocks h valid in
     let limits = valid_limits c is in
     let head_rules = rules_hold c is.1 in
     let kept = rules_kept h w keeps in

@@ -1,23 +1,13 @@
 -- What pairs have put on the links, pair by pair.
-use Rattle.std.proofs.Common.{◌≡◌, inl, inr, ℕ, suc, ◌+◌, ◌*◌, ◌^◌, ◌<◌, ◌≤◌, List, slice_index, replicate, arith, ap}
-use Rattle.std.proofs.lemmas.Bool.{cases_lt}
-use Rattle.std.proofs.lemmas.List.{get_or-replicate, length-replicate}
+use Rattle.std.proofs.Common.{◌≡◌, ℕ, suc, ◌+◌, ◌*◌, ◌^◌, ◌<◌, ◌≤◌, List, arith, ap}
 use Rattle.std.proofs.lemmas.Nat.{mul-le}
 use Rattle.te_model.specs.declared.limits.TheConstants.{FORMAT_2}
 use Rattle.te_model.specs.declared.route.PathShare.{PathShare}
 use Rattle.te_model.specs.Flow.{load}
 use Rattle.te_model.specs.Path.{weight_on}
 use Rattle.te_model.proofs.Sums.{sum_below-bound}
-use Rattle.te_model.proofs.Tests.{get_or_past}
 use Rattle.routing.proofs.Splits.{weight_on-le}
 use Rattle.ratio_witness.specs.Judged.{AreSimpleSplits}
-
--- before any pair all is zero
-pub zeros : (n e : ℕ) → slice_index (replicate n 0) e ≡ 0
-zeros n e = elim (cases_lt e n) [
-  | inl lt ↦ get_or-replicate n e 0 0 lt
-  | inr ge ↦ get_or_past (replicate n 0) e 0 (omega (arith, length-replicate {A = ℕ} n 0))
-]
 
 -- one pair more
 pub load_more : (n : ℕ) (demand : ℕ → ℕ) (flows : ℕ → ℕ → ℕ) (e : ℕ) → load (n + 1) demand flows e ≡ load n demand flows e + demand n * flows n e

@@ -18,7 +18,7 @@ use Rattle.ratio_witness.specs.Reading.{SpellsWitness}
 use Rattle.ratio_witness.specs.Rules.{witness_fault, KeepsRules}
 use Rattle.ratio_witness.specs.Text.{is_shaped_witness, keep_witness, witness_due, witness_first, witness_lines, witness_text, IsWitnessOf, IsWitnessRuleFault}
 use Rattle.ratio_witness.proofs.Ending.{shaped_parts, witness_file}
-use Rattle.ratio_witness.proofs.KeptRules.{valid_alone}
+use Rattle.ratio_checker.proofs.MoreBlocks.{valid_without_blocks}
 use Rattle.ratio_witness.proofs.Narrowing.{witness_fault_kept, witness_whole}
 use Rattle.ratio_witness.proofs.OneWitness.{one_witness}
 
@@ -121,6 +121,6 @@ witness_answers h bytes v (Err e) few spells is =
 -- a valid head has fewer links than a field of 32 bits has numbers
 pub few_links : (h : Head) → IsValidHead h → link_count h.network ≤ 2 ^ 32 - 1
 few_links h valid =
-    let limits = valid_limits (record { head = h; blocks = [] }) (valid_alone h valid) in
+    let limits = valid_limits (record { head = h; blocks = [] }) (valid_without_blocks h valid) in
     let links = limits.links in
     omega (arith, links)

@@ -16,7 +16,7 @@ use Rattle.number_tables.specs.declared.line.NumLine.{NumLine}
 use Rattle.number_tables.specs.Table.{line_text, table_lines}
 use Rattle.text_size.proofs.Widths.{digit_count, length-lines, length-words, line-numbers, size, size-append, widest, width-le, widths-le}
 use Rattle.ratio_witness.specs.declared.witness.Witness.{Witness}
-use Rattle.ratio_witness.specs.Judged.{IsSimplePath}
+use Rattle.ratio_checker.specs.Checked.{IsSimplePath}
 use Rattle.ratio_witness.specs.Rules.{rival_paths}
 use Rattle.ratio_witness.specs.Text.{are_shaped_paths, pair_lines, share_line, witness_first, witness_lines, witness_text, IsWitnessOf, WitnessTextsAreShort}
 use Rattle.ratio_witness.proofs.Ending.{shaped_parts}

@@ -1,20 +1,15 @@
 -- What the verdict takes for granted of a valid head and of a witness that keeps its rules.
-use Rattle.std.specs.Prelude.{ℕ, ◌^◌, ◌≤◌, ◌<◌, List, All, IsTrue, length, slice_index, sum_by}
+use Rattle.std.specs.Prelude.{ℕ, ◌^◌, ◌≤◌, ◌<◌, List, All, length, slice_index, sum_by}
 use Rattle.te_model.specs.declared.certificate.Head.{Head}
-use Rattle.te_model.specs.declared.limits.TheConstants.{FORMAT_2}
 use Rattle.te_model.specs.declared.network.Network.{Network}
 use Rattle.te_model.specs.declared.route.PathShare.{PathShare}
 use Rattle.te_model.specs.declared.units.TheConstants.{SHARE_UNIT}
 use Rattle.te_model.specs.Bounds.{HasSmallLimits}
 use Rattle.te_model.specs.Network.{link_count, capacity_of}
-use Rattle.te_model.specs.Path.{is_distinct, routes_at}
+use Rattle.te_model.specs.Path.{routes_at}
+use Rattle.ratio_checker.specs.Checked.{IsSimplePath}
 use Rattle.ratio_witness.specs.declared.witness.Witness.{Witness}
 use Rattle.ratio_witness.specs.Rules.{demand_of, rival_paths}
-
--- a path whose links are within the limit of the second format, none of them twice
-pub record IsSimplePath (s : PathShare) : Type 0 where
-  pub links : All (λ h. h < FORMAT_2.links) s.links
-  pub once : IsTrue (is_distinct s.links)
 
 -- such paths of each of n pairs, whose weights sum to one million at most
 pub record AreSimpleSplits (n : ℕ) (paths : ℕ → List PathShare) : Type 0 where

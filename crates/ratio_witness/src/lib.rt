@@ -17,7 +17,6 @@ mod witness;
 
 pub use answers::check_witness_text;
 pub use fault::WitnessFault;
-pub use loads::link_shares;
 pub use printing::print;
 pub use reading::read;
 pub use rules::witness_fault;

@@ -4,9 +4,10 @@ ghost use Rattle.te_model.specs.declared.limits.TheConstants.{FORMAT_2};
 ghost use Rattle.te_model.specs.declared.units.TheConstants.{SHARE_UNIT};
 ghost use Rattle.te_model.specs.Flow.{load};
 ghost use Rattle.te_model.specs.Path.{amount_on, is_distinct, share, weight_on};
-ghost use Rattle.ratio_witness.specs.Judged.{CanJudge, IsSimplePath};
+ghost use Rattle.ratio_witness.specs.Judged.{CanJudge};
 ghost use Rattle.ratio_witness.specs.Rules.{demand_of};
 ghost use Rattle.ratio_witness.specs.Witness.{rival_share};
+ghost use Rattle.ratio_checker.specs.Checked.{IsSimplePath};
 
 use crate::witness::Witness;
 use te_model::{FORMAT_2, Head, PathShare};
@@ -72,25 +73,5 @@ pub fn loads_by_rival(head: &Head, witness: &Witness) -> [u128; MOST]
         let demand = witness.demand_of(p);
         add_demand(&mut loads, witness.rival_paths(p), demand);
     }
-    loads
-}
-
-// No load on any link.
-fn no_loads() -> [u128; MOST]
-    ensures count { length result ≡ FORMAT_2.links }
-    ensures none { (e : ℕ) → slice_index result e ≡ 0 }
-{
-    [0; MOST]
-}
-
-/// The share of a pair with these paths on each link, in millionths.
-pub fn link_shares(paths: &[PathShare]) -> [u128; MOST]
-    requires paths { All IsSimplePath paths.now }
-    requires whole { sum_by (λ s. s.weight) paths.now ≤ SHARE_UNIT }
-    ensures count { length result ≡ FORMAT_2.links }
-    ensures loads { (e : ℕ) → slice_index result e ≡ weight_on paths.now e }
-{
-    let mut loads = no_loads();
-    add_demand(&mut loads, paths, 1);
     loads
 }

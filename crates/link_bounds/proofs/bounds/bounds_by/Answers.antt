@@ -1,7 +1,7 @@
 use Rattle.std.proofs.Common.{◌∙◌, sym}
 use Rattle.link_bounds.specs.Feasible.{first_infeasibility}
 use Rattle.link_bounds.proofs.FeasibleBlocks.{feasible_or_fails}
-use Rattle.link_bounds.proofs.FirstInfeasible.{none_from_yes, some_from_no}
+use Rattle.ratio_checker.proofs.Verdicts.{none_from_yes, failure_from_no}
 use Rattle.link_bounds.proofs.bounds.bounds_by.Goals as goal
 
 pub bounds_text-requires-clause-feasible : goal.bounds_text-requires-clause-feasible
@@ -17,4 +17,4 @@ returns-in_ok-text-in-Yes c =
 pub returns-in-No : goal.returns-in-No
 returns-in-No c =
     let cert = c.args.certificate.now in
-    some_from_no (first_infeasibility cert) c.in-No.link c.in-No.rule c.in-No.place (sym c.first_infeasibility.ensures ∙ c.in-No.is)
+    failure_from_no (first_infeasibility cert) c.in-No.link c.in-No.rule c.in-No.place (sym c.first_infeasibility.ensures ∙ c.in-No.is)

@@ -7,7 +7,7 @@ use Rattle.link_bounds.specs.Needs.{block_needs}
 use Rattle.te_model.proofs.ValidParts.{valid_parts}
 use Rattle.link_bounds.specs.declared.needs.LinkNeed.{LinkNeed}
 use Rattle.link_bounds.specs.Table.{bounds_text, table_text}
-use Rattle.link_bounds.proofs.FormedHeads.{head_formed, head_links}
+use Rattle.ratio_checker.proofs.FormedHeads.{head_formed, head_links}
 use Rattle.link_bounds.proofs.SharedLinks.{needs_by_link, needs_inside}
 use Rattle.link_bounds.proofs.bounds.bounds_text.Goals as goal
 

@@ -2,31 +2,20 @@
 use Rattle.std.proofs.Common.{◌≡◌, ◌≤◌, true, ◌&&◌, [], length, arith, nat_le, ◌==◌}
 use Rattle.std.specs.List.{list_all}
 use Rattle.std.proofs.lemmas.Bool.{and_parts, leb-true}
-use Rattle.std.proofs.lemmas.List.Elements.{All-nil}
 use Rattle.te_model.specs.declared.certificate.Certificate.{Certificate}
 use Rattle.te_model.specs.declared.certificate.Head.{Head}
 use Rattle.te_model.specs.Formats.{limits_of}
 use Rattle.te_model.specs.Laws.{LinksJoinNodes}
 use Rattle.te_model.specs.Network.{is_name, is_new_name, is_well_formed, link_count, node_count}
 use Rattle.te_model.specs.Shape.{is_count, is_shaped_head, is_shaped_link, is_shaped_network, is_shaped_pair, is_shaped_set, is_word}
-use Rattle.te_model.specs.Validity.{IsValid, IsValidBlock, IsValidHead, fault_at, faults_from, rules}
+use Rattle.te_model.specs.Validity.{IsValidHead, fault_at, faults_from, rules}
 use Rattle.te_model.proofs.Tests.{first_failing_none_at, first_some_none_at}
 use Rattle.te_model.proofs.Valid.{limits_small, rules_hold}
-use Rattle.te_model.proofs.ValidParts.{valid_parts}
 use Rattle.te_model.proofs.WellFormed.{links_join, well_formed_from}
-
--- a valid head without blocks
-pub valid_alone : (h : Head) → IsValidHead h → IsValid (record { head = h; blocks = [] })
-valid_alone h valid =
-    (valid_parts (record { head = h; blocks = [] })).1 (record {
-      head = valid;
-      count = omega arith;
-      blocks = All-nil (IsValidBlock h);
-      ascending = λ k below. absurd (omega (arith, below));
-    })
+use Rattle.ratio_checker.proofs.MoreBlocks.{valid_without_blocks}
 
 -- the network of a head that can be written
-pub shaped_network : (h : Head) → is_shaped_head (limits_of h.format) h ≡ true → is_shaped_network (limits_of h.format) h.network ≡ true
+shaped_network : (h : Head) → is_shaped_head (limits_of h.format) h ≡ true → is_shaped_network (limits_of h.format) h.network ≡ true
 shaped_network h shaped =
     let limits = limits_of h.format in
     let a = h.format == limits.format in
@@ -47,7 +36,7 @@ head_formed h valid =
     let n = node_count net in
     let m = link_count net in
     let cert : Certificate = record { head = h; blocks = [] } in
-    let is = valid_alone h valid in
+    let is = valid_without_blocks h valid in
     let kept = rules_hold cert is.1 in
     let wide = limits_small h.format in
     let shaped = shaped_network h valid.shaped in
