@@ -21,7 +21,7 @@ pub struct Offer {
 }
 
 /// The weights on the link, and what they need there.
-fn weigh(
+fn weighting_from(
     alloc: Global,
     problem: &Problem,
     shared: &SharedLink,
@@ -66,7 +66,7 @@ fn take_offer(
     if offer.link != shared.link {
         return Ok(());
     }
-    let found = weigh(alloc, problem, shared, offer.weights.as_slice())?;
+    let found = weighting_from(alloc, problem, shared, offer.weights.as_slice())?;
     keep_lesser(best, found);
     Ok(())
 }
