@@ -15,7 +15,7 @@ use Rattle.plan.specs.declared.reader.Choices.{Choices}
 use Rattle.plan.specs.declared.reader.Counts.{Counts}
 use Rattle.plan.specs.Words.{key_word, is_oblivious}
 use Rattle.plan.specs.Values.{text_value, number_within, margin_of, envelope_value, recovery_of, publish_of, schemes_of}
-use Rattle.plan.specs.Plan.{with_value, json_of, knows_all, required_value, optional, some_of, failures_name, files_of, default_schemes, choices_of, count_of_key, numbers_of, envelope_at, experiment_of, plan_of_object, plan_of_known_keys, plan_of_value, plan_of, InRange}
+use Rattle.plan.specs.Plan.{with_value, json_of, knows_all, required_value, optional, some_of, optional_name, files_of, default_schemes, choices_of, count_of_key, numbers_of, envelope_at, experiment_of, plan_of_object, plan_of_known_keys, plan_of_value, plan_of, InRange}
 use Rattle.plan.specs.Laws.{PlansAreInRange}
 use Rattle.plan.proofs.ValueRanges.{given, text-range, IsBetween, number-range, IsMargin, margin-range, envelope-range, publish-range, AreFew, schemes-range}
 
@@ -48,19 +48,21 @@ record AreFiles (f : Files) : Type 0 where
   topology : IsFilled f.topology
   matrices : IsFilled f.matrices
   failures : IfSome f.failures IsFilled
+  predictions : IfSome f.predictions IsFilled
 
-failures-range : (d : Data) → IfOk (failures_name d) (λ o. IfSome o IsFilled)
-failures-range d =
-    either None (λ v. some_of (text_value key.Failures v)) (get (key_word key.Failures) d) (λ o. IfSome o IsFilled) tt
-    (λ v. some-range (text_value key.Failures v) IsFilled (text-range key.Failures v))
+name-range : (k : Key) (d : Data) → IfOk (optional_name k d) (λ o. IfSome o IsFilled)
+name-range k d =
+    either None (λ v. some_of (text_value k v)) (get (key_word k) d) (λ o. IfSome o IsFilled) tt
+    (λ v. some-range (text_value k v) IsFilled (text-range k v))
 
 files-range : (topology matrices d : Data) → IfOk (files_of topology matrices d) AreFiles
 unfolding files_of
 files-range topology matrices d =
     after (text_value key.Topology topology) _ IsFilled AreFiles (text-range key.Topology topology)
     (λ t filled. after (text_value key.Matrices matrices) _ IsFilled AreFiles (text-range key.Matrices matrices)
-    (λ m named. after (failures_name d) _ (λ o. IfSome o IsFilled) AreFiles (failures-range d)
-    (λ f some. record { topology = filled; matrices = named; failures = some })))
+    (λ m named. after (optional_name key.Failures d) _ (λ o. IfSome o IsFilled) AreFiles (name-range key.Failures d)
+    (λ f some. after (optional_name key.Predictions d) _ (λ o. IfSome o IsFilled) AreFiles (name-range key.Predictions d)
+    (λ p also. record { topology = filled; matrices = named; failures = some; predictions = also }))))
 
 record AreChoices (c : Choices) : Type 0 where
   schemes : AreFew c.schemes
@@ -117,6 +119,7 @@ parts-range f c n e files choices counts alone = record {
   topology = files.topology;
   matrices = files.matrices;
   failures = files.failures;
+  predictions = files.predictions;
   some_scheme = choices.schemes.0;
   few_schemes = choices.schemes.1;
   publish = choices.publish;

@@ -43,15 +43,17 @@ abbrev pub some_of : {A : Type 0} → Result A PlanFault → Result (Option A) P
 some_of (Ok x) = Ok (Some x)
 some_of (Err e) = Err e
 
-abbrev pub failures_name : Data → Result (Option (List ℕ)) PlanFault
-failures_name d = optional None (λ v. some_of (text_value key.Failures v)) (get (key_word key.Failures) d)
+-- the name of a file that may be left out
+abbrev pub optional_name : Key → Data → Result (Option (List ℕ)) PlanFault
+optional_name k d = optional None (λ v. some_of (text_value k v)) (get (key_word k) d)
 
 unfoldable pub files_of : Data → Data → Data → Result Files PlanFault
 files_of topology matrices d =
     with_value (text_value key.Topology topology) (λ t.
     with_value (text_value key.Matrices matrices) (λ m.
-    with_value (failures_name d) (λ f.
-    Ok (record { topology = t; matrices = m; failures = f }))))
+    with_value (optional_name key.Failures d) (λ f.
+    with_value (optional_name key.Predictions d) (λ p.
+    Ok (record { topology = t; matrices = m; failures = f; predictions = p })))))
 
 -- what a plan without a list of schemes compares
 abbrev pub default_schemes : List SchemeName
@@ -87,6 +89,7 @@ experiment_of f c n e = record {
   topology = f.topology;
   matrices = f.matrices;
   failures = f.failures;
+  predictions = f.predictions;
   schemes = c.schemes;
   recovery = c.recovery;
   publish = c.publish;
@@ -126,6 +129,7 @@ pub record InRange (x : Experiment) : Type 0 where
   pub topology : x.topology ≢ []
   pub matrices : x.matrices ≢ []
   pub failures : IfSome x.failures (λ name. name ≢ [])
+  pub predictions : IfSome x.predictions (λ name. name ≢ [])
   pub some_scheme : 1 ≤ length x.schemes
   pub few_schemes : length x.schemes ≤ 16
   pub publish : is_oblivious x.publish ≡ true

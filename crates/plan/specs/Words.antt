@@ -17,6 +17,7 @@ scheme_word scheme.Mcf = codes "mcf"
 scheme_word scheme.Racke = codes "racke"
 scheme_word scheme.Smore = codes "smore"
 scheme_word scheme.Valiant = codes "valiant"
+scheme_word scheme.Robust = codes "robust"
 
 -- the scheme that is named so
 abbrev pub scheme_named : List ℕ → Option SchemeName
@@ -28,6 +29,7 @@ scheme_named text =
     else if bytes_eq text (scheme_word scheme.Racke) then Some scheme.Racke
     else if bytes_eq text (scheme_word scheme.Smore) then Some scheme.Smore
     else if bytes_eq text (scheme_word scheme.Valiant) then Some scheme.Valiant
+    else if bytes_eq text (scheme_word scheme.Robust) then Some scheme.Robust
     else None
 
 -- the schemes that draw from the seed
@@ -39,6 +41,7 @@ draws scheme.Mcf = false
 draws scheme.Racke = true
 draws scheme.Smore = true
 draws scheme.Valiant = false
+draws scheme.Robust = false
 
 -- the schemes whose routing is the same for every matrix
 abbrev pub is_oblivious : SchemeName → Bool
@@ -49,6 +52,7 @@ is_oblivious scheme.Mcf = false
 is_oblivious scheme.Racke = true
 is_oblivious scheme.Smore = false
 is_oblivious scheme.Valiant = true
+is_oblivious scheme.Robust = true
 
 -- the recovery of a word
 abbrev pub recovery_named : List ℕ → Option Recovery
@@ -65,6 +69,7 @@ key_word key.Plan = codes "plan"
 key_word key.Topology = codes "topology"
 key_word key.Matrices = codes "matrices"
 key_word key.Failures = codes "failures"
+key_word key.Predictions = codes "predictions"
 key_word key.Schemes = codes "schemes"
 key_word key.Recovery = codes "recovery"
 key_word key.Publish = codes "publish"
@@ -80,6 +85,7 @@ key_word key.Envelope = codes "envelope"
 abbrev pub is_name_key : List ℕ → Bool
 is_name_key text =
     bytes_eq text (codes "topology") || bytes_eq text (codes "matrices") || bytes_eq text (codes "failures")
+    || bytes_eq text (codes "predictions")
     || bytes_eq text (codes "schemes") || bytes_eq text (codes "recovery") || bytes_eq text (codes "publish")
 
 -- a key of a count, or of the set of matrices that is certified

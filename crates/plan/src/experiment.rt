@@ -13,6 +13,8 @@ pub struct Experiment {
     pub matrices: Name,
     /// The name of the failure file, if there is one.
     pub failures: Option<Name>,
+    /// The name of the file of predicted matrices, if there is one.
+    pub predictions: Option<Name>,
     /// The schemes that are compared, 1 to 16, in order.
     pub schemes: Items<SchemeName>,
     /// What is done when links fail.

@@ -5,7 +5,7 @@ ghost use Rattle.serde_json.specs.View.{view, members_view};
 ghost use Rattle.serde_json.specs.Find.{get};
 ghost use Rattle.plan.specs.declared.fault.PlanFault.TheVariants as fault;
 ghost use Rattle.plan.specs.Words.{key_word, is_key, is_name_key, is_count_or_set_key, is_oblivious};
-ghost use Rattle.plan.specs.Plan.{plan_of, plan_of_object, json_of, knows_all, required_value, count_of_key, files_of, choices_of, numbers_of, envelope_at, InRange};
+ghost use Rattle.plan.specs.Plan.{plan_of, plan_of_object, json_of, knows_all, required_value, count_of_key, files_of, optional_name, choices_of, numbers_of, envelope_at, InRange};
 
 use crate::experiment::Experiment;
 use crate::fault::PlanFault;
@@ -66,6 +66,7 @@ fn is_name_key(text: &str) -> bool
     text == "topology"
         || text == "matrices"
         || text == "failures"
+        || text == "predictions"
         || text == "schemes"
         || text == "recovery"
         || text == "publish"
@@ -113,6 +114,7 @@ fn read_object(alloc: Global, value: &Value) -> Result<Experiment, PlanFault>
         topology: files.topology,
         matrices: files.matrices,
         failures: files.failures,
+        predictions: files.predictions,
         schemes: choices.schemes,
         recovery: choices.recovery,
         publish: choices.publish,
@@ -143,6 +145,19 @@ struct Files {
     topology: Name,
     matrices: Name,
     failures: Option<Name>,
+    predictions: Option<Name>,
+}
+
+// The text of a key that may be left out.
+fn read_optional_text(alloc: Global, key: Key, value: &Value) -> Result<Option<Name>, PlanFault>
+    ensures name { IfOk result (λ n. optional_name key (view value.now) ≡ Ok n) }
+    ensures some { IfOk result (λ n. IfSome n (λ name. name ≢ [])) }
+    ensures refused { IfErr result (λ e. e ≢ fault.Memory → optional_name key (view value.now) ≡ Err e) }
+{
+    match value.get(key.word()) {
+        Some(name) => Ok(Some(read_text(alloc, key, name)?)),
+        None => Ok(None),
+    }
 }
 
 #[tactic(auto, unfolding(crate::specs::Plan::files_of))]
@@ -156,18 +171,18 @@ fn read_files(
     ensures topology { IfOk result (λ f. f.topology ≢ []) }
     ensures matrices { IfOk result (λ f. f.matrices ≢ []) }
     ensures failures { IfOk result (λ f. IfSome f.failures (λ name. name ≢ [])) }
+    ensures predictions { IfOk result (λ f. IfSome f.predictions (λ name. name ≢ [])) }
     ensures refused { IfErr result (λ e. e ≢ fault.Memory → files_of (view topology.now) (view matrices.now) (view value.now) ≡ Err e) }
 {
     let topology = read_text(alloc, Key::Topology, topology)?;
     let matrices = read_text(alloc, Key::Matrices, matrices)?;
-    let failures = match value.get(Key::Failures.word()) {
-        Some(name) => Some(read_text(alloc, Key::Failures, name)?),
-        None => None,
-    };
+    let failures = read_optional_text(alloc, Key::Failures, value)?;
+    let predictions = read_optional_text(alloc, Key::Predictions, value)?;
     Ok(Files {
         topology,
         matrices,
         failures,
+        predictions,
     })
 }
 

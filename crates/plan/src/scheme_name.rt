@@ -20,6 +20,8 @@ pub enum SchemeName {
     Smore,
     /// `valiant`: even parts by way of every node.
     Valiant,
+    /// `robust`: one routing of a small oblivious ratio, found by sweeps.
+    Robust,
 }
 
 impl SchemeName {
@@ -46,6 +48,7 @@ impl SchemeName {
             SchemeName::Racke => "racke",
             SchemeName::Smore => "smore",
             SchemeName::Valiant => "valiant",
+            SchemeName::Robust => "robust",
         }
     }
 
@@ -67,6 +70,8 @@ impl SchemeName {
             Some(SchemeName::Smore)
         } else if text == "valiant" {
             Some(SchemeName::Valiant)
+        } else if text == "robust" {
+            Some(SchemeName::Robust)
         } else {
             None
         }
@@ -82,7 +87,8 @@ impl SchemeName {
             | SchemeName::Ecmp
             | SchemeName::Ksp
             | SchemeName::Mcf
-            | SchemeName::Valiant => false,
+            | SchemeName::Valiant
+            | SchemeName::Robust => false,
         }
     }
 
@@ -95,7 +101,8 @@ impl SchemeName {
             | SchemeName::Ecmp
             | SchemeName::Ksp
             | SchemeName::Racke
-            | SchemeName::Valiant => true,
+            | SchemeName::Valiant
+            | SchemeName::Robust => true,
             SchemeName::Mcf | SchemeName::Smore => false,
         }
     }

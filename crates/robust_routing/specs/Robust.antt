@@ -2,8 +2,9 @@
 use Rattle.std.specs.Prelude.{ℕ, List, max, min}
 use Rattle.te_model.specs.declared.network.Network.{Network}
 use Rattle.te_model.specs.declared.route.Pair.{Pair}
-use Rattle.te_model.specs.declared.route.PairRoutes.{PairRoutes}
 use Rattle.routing.specs.Routes.{IsRoutingOf, HasFewPaths}
+use Rattle.robust_routing.specs.declared.robust.RobustPlan.{RobustPlan}
+use Rattle.robust_routing.specs.Weights.{AreWeightsOfLinks}
 
 -- the most paths of a pair that may be asked for
 abbrev pub most_ways : ℕ
@@ -13,7 +14,8 @@ most_ways = 32
 abbrev pub ways_of : ℕ → ℕ
 ways_of asked = min (max asked 1) most_ways
 
--- a routing of the network and the pairs, with at most so many paths a pair
-pub record IsRoutingWithin (limit : ℕ) (net : Network) (pairs : List Pair) (routes : List PairRoutes) : Type 0 where
-  pub routing : IsRoutingOf net pairs routes
-  pub few : HasFewPaths limit routes
+-- a routing of the network and the pairs, with at most so many paths a pair, and weights of the links for each link
+pub record IsRobustPlan (limit : ℕ) (net : Network) (pairs : List Pair) (plan : RobustPlan) : Type 0 where
+  pub routing : IsRoutingOf net pairs plan.routing.routes
+  pub few : HasFewPaths limit plan.routing.routes
+  pub weights : AreWeightsOfLinks net plan.weights

@@ -4,6 +4,7 @@ ghost use Rattle.te_model.specs.Network.{is_well_formed};
 ghost use Rattle.routing.specs.Routes.{HasFewPaths, IsRoutingOf};
 ghost use Rattle.scheme.specs.Reach.{IsPairOf};
 ghost use Rattle.robust_routing.specs.Joint.{IsJoint, IsRound};
+ghost use Rattle.robust_routing.specs.Weights.{AreWeightsOfLinks};
 
 use crate::links::sweep_links;
 use crate::pairs::sweep_pairs;
@@ -137,25 +138,27 @@ fn take_sweeps(
     Ok(())
 }
 
-/// The routing of the sweep that proves the least ratio, where the sweeps begin with a routing that gives each pair one path.
+/// The routing of the sweep that proves the least ratio, where the sweeps begin with a routing that gives each pair one path, and
+/// the weights of the links for each link after the last sweep.
 ///
 /// No pair has more paths than the limit, which is from 1 to 32. `Memory` comes where memory is wanting.
-pub fn best_routing(
+pub fn best_sweep(
     alloc: Global,
     net: &Network,
     pairs: &[Pair],
     limit: usize,
     start: Routing,
-) -> Result<Routing, Memory>
+) -> Result<(Routing, Items<Items<u64>>), Memory>
     requires network { IsTrue (is_well_formed net.now) }
     requires pairs { All (IsPairOf net.now) pairs.now }
     requires limit { (1 ≤ limit) × (limit ≤ 32) }
     requires routing { IsRoutingOf net.now pairs.now start.routes }
     requires few { HasFewPaths 1 start.routes }
-    ensures routing { IfOk result (λ r. IsRoutingOf net.now pairs.now r.routes) }
-    ensures few { IfOk result (λ r. HasFewPaths limit r.routes) }
+    ensures routing { IfOk result (λ f. IsRoutingOf net.now pairs.now f.0.routes) }
+    ensures few { IfOk result (λ f. HasFewPaths limit f.0.routes) }
+    ensures weights { IfOk result (λ f. AreWeightsOfLinks net.now f.1) }
 {
     let mut joint = begin(alloc, net, pairs, start)?;
     take_sweeps(alloc, net, pairs, limit, &mut joint)?;
-    Ok(joint.best)
+    Ok((joint.best, Items::new(joint.weights)))
 }

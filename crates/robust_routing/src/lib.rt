@@ -26,5 +26,5 @@ mod table;
 mod tables;
 mod weights;
 
-pub use law::robust_routings_exist;
+pub use law::robust_plans_exist;
 pub use robust::{Robust, RobustPlan};

@@ -3,13 +3,13 @@ ghost use Rattle.std.specs.Prelude.{◌≡◌, ◌≤◌, IfErr, IfOk, IsTrue, O
 ghost use Rattle.te_model.specs.Network.{is_well_formed};
 ghost use Rattle.scheme.specs.Fault.{IsFault};
 ghost use Rattle.scheme.specs.Reach.{AllReached, ArePairsOf};
-ghost use Rattle.robust_routing.specs.Robust.{IsRoutingWithin, most_ways, ways_of};
+ghost use Rattle.robust_routing.specs.Robust.{IsRobustPlan, most_ways, ways_of};
 
-use crate::joint::best_routing;
+use crate::joint::best_sweep;
 use routing::Routing;
 use scheme::{Oblivious, Scheme, SchemeFault, Spf, fixed_routing};
 use std::alloc::Global;
-use te_model::{Matrix, Memory, Network, Pairs};
+use te_model::{Items, Matrix, Memory, Network, Pairs};
 
 /// The most paths of a pair that the scheme gives.
 const MOST_WAYS: u32 = 32;
@@ -23,10 +23,12 @@ pub struct Robust {
     pub ways: u32,
 }
 
-/// The routing of `Robust` for a network and its pairs.
+/// The routing of `Robust` for a network and its pairs, and the weights by which its sweeps end.
 #[derive(Drop)]
 pub struct RobustPlan {
     pub routing: Routing,
+    /// For each link one weight of each link: a certificate of the routing may begin with them.
+    pub weights: Items<Items<u64>>,
 }
 
 /// How many paths a pair has at most.
@@ -36,23 +38,23 @@ fn limit_of(robust: Robust) -> usize
     robust.ways.max(1).min(MOST_WAYS) as usize
 }
 
-/// The routing of the pairs that sweeps find from the least paths by cost on.
-fn robust_routing(
+/// The plan that sweeps find from the least paths by cost on.
+fn robust_plan(
     alloc: Global,
     net: &Network,
     pairs: &Pairs,
     limit: usize,
-) -> Result<Routing, SchemeFault>
+) -> Result<RobustPlan, SchemeFault>
     requires network { IsTrue (is_well_formed net.now) }
     requires pairs { ArePairsOf net.now pairs.now.list }
     requires limit { (1 ≤ limit) × (limit ≤ 32) }
-    ensures routing { IfOk result (λ r. IsRoutingWithin limit net.now pairs.now.list r.routes) }
+    ensures plan { IfOk result (IsRobustPlan limit net.now pairs.now.list) }
     ensures reached { OnOk result (AllReached net.now pairs.now.list) }
     ensures fault { IfErr result (IsFault net.now pairs.now.list) }
 {
     let start = fixed_routing(alloc, &Spf, net, pairs)?;
-    let best = best_routing(alloc, net, pairs.list.as_slice(), limit, start)?;
-    Ok(best)
+    let (routing, weights) = best_sweep(alloc, net, pairs.list.as_slice(), limit, start)?;
+    Ok(RobustPlan { routing, weights })
 }
 
 impl Scheme for Robust {
@@ -62,7 +64,7 @@ impl Scheme for Robust {
 
     ghost PATHS = { most_ways };
 
-    ghost is_plan = { λ s net pairs plan. IsRoutingWithin (ways_of s.ways) net pairs plan.routing.routes };
+    ghost is_plan = { λ s net pairs plan. IsRobustPlan (ways_of s.ways) net pairs plan };
 
     ghost relates = { λ _ _ _ plan _ routes _. routes ≡ plan.routing.routes };
 
@@ -74,8 +76,7 @@ impl Scheme for Robust {
         net: &Network,
         pairs: &Pairs,
     ) -> Result<RobustPlan, SchemeFault> {
-        let routing = robust_routing(alloc, net, pairs, limit_of(*self))?;
-        Ok(RobustPlan { routing })
+        robust_plan(alloc, net, pairs, limit_of(*self))
     }
 
     fn route(

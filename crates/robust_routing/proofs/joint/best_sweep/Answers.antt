@@ -1,5 +1,5 @@
 use Rattle.robust_routing.proofs.Joining.{joint_of_more}
-use Rattle.robust_routing.proofs.joint.best_routing.Goals as goal
+use Rattle.robust_routing.proofs.joint.best_sweep.Goals as goal
 
 pub take_sweeps-requires-clause-joint : goal.take_sweeps-requires-clause-joint
 take_sweeps-requires-clause-joint c =
