@@ -9,6 +9,7 @@ use Rattle.te_model.specs.declared.demand.DemandSet.{DemandSet}
 use Rattle.path_budget.specs.Budget.{trimmed_routes}
 use Rattle.failure.specs.declared.outage.Failures.{Failures}
 use Rattle.traffic_matrix.specs.declared.series.Series.{Series}
+use Rattle.traffic_matrix.specs.declared.traffic.Traffic.{Traffic}
 use Rattle.plan.specs.declared.experiment.Experiment.{Experiment}
 use Rattle.plan.specs.declared.scheme_name.SchemeName.{SchemeName}
 use Rattle.plan.specs.Words.{scheme_word}
@@ -41,12 +42,12 @@ made_by_name name plan net series set kept fixed named same r =
     })
 
 -- the lines of a scheme are those of its name
-pub lines_by_word : {F E : Type 0} (name scheme : SchemeName) (plan : Experiment) (net : Network) (series : Series) (failures : Failures)
+pub lines_by_word : {F E : Type 0} (name scheme : SchemeName) (plan : Experiment) (net : Network) (traffic : Traffic) (failures : Failures)
     (word : List ℕ) → name ≡ scheme → word ≡ scheme_word name → (items : F → List ℕ) (r : Result F E) →
-    IfOk r (λ text. (rows : List StepRow) × AreSchemeRows scheme plan net series failures rows × (items text ≡ scheme_lines word rows)) →
-    IfOk r (λ text. (rows : List StepRow) × AreSchemeRows name plan net series failures rows × (items text ≡ scheme_lines (scheme_word name) rows))
-lines_by_word name scheme plan net series failures word named spelled items r are =
+    IfOk r (λ text. (rows : List StepRow) × AreSchemeRows scheme plan net traffic failures rows × (items text ≡ scheme_lines word rows)) →
+    IfOk r (λ text. (rows : List StepRow) × AreSchemeRows name plan net traffic failures rows × (items text ≡ scheme_lines (scheme_word name) rows))
+lines_by_word name scheme plan net traffic failures word named spelled items r are =
     subst (λ (n : SchemeName).
-    IfOk r (λ text. (rows : List StepRow) × AreSchemeRows n plan net series failures rows × (items text ≡ scheme_lines (scheme_word name) rows))) (sym named)
+    IfOk r (λ text. (rows : List StepRow) × AreSchemeRows n plan net traffic failures rows × (items text ≡ scheme_lines (scheme_word name) rows))) (sym named)
     (subst (λ (w : List ℕ).
-    IfOk r (λ text. (rows : List StepRow) × AreSchemeRows scheme plan net series failures rows × (items text ≡ scheme_lines w rows))) spelled are)
+    IfOk r (λ text. (rows : List StepRow) × AreSchemeRows scheme plan net traffic failures rows × (items text ≡ scheme_lines w rows))) spelled are)

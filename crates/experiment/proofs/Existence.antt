@@ -20,10 +20,12 @@ use Rattle.best_blocks.specs.Conditions.{IsSetWithin}
 use Rattle.ratio_certificate.proofs.OffersOfAll.{made_certificates_exist}
 use Rattle.failure.specs.declared.outage.Failures.{Failures}
 use Rattle.traffic_matrix.specs.declared.series.Series.{Series}
+use Rattle.traffic_matrix.specs.declared.traffic.Traffic.{Traffic}
 use Rattle.traffic_matrix.specs.Limits.{IsSeries}
+use Rattle.traffic_matrix.specs.Traffic.{IsTraffic}
 use Rattle.plan.specs.declared.experiment.Experiment.{Experiment}
 use Rattle.plan.specs.declared.scheme_name.SchemeName.{SchemeName}
-use Rattle.plan.specs.declared.scheme_name.SchemeName.TheVariants.{Spf, Ecmp, Ksp, Mcf, Racke, Smore, Valiant}
+use Rattle.plan.specs.declared.scheme_name.SchemeName.TheVariants.{Spf, Ecmp, Ksp, Mcf, Racke, Smore, Valiant, Robust}
 use Rattle.plan.specs.Plan.{InRange}
 use Rattle.plan.specs.Words.{is_oblivious}
 use Rattle.series_simulation.specs.declared.step_row.StepRow.{StepRow}
@@ -50,6 +52,7 @@ kept_routing plan Mcf oblivious net pairs p is = absurd (false≢true oblivious)
 kept_routing plan Racke oblivious net pairs p is = (p.routing.routes, refl, is.routing.routing)
 kept_routing plan Smore oblivious net pairs p is = absurd (false≢true oblivious)
 kept_routing plan Valiant oblivious net pairs p is = (p.routing.routes, refl, is.routing)
+kept_routing plan Robust oblivious net pairs p is = (p.routing.routes, refl, is.routing)
 
 -- a certificate of the heaviest paths of a routing
 made_certificate_exists : (net : Network) (pairs : List Pair) (budget : ℕ) (routes : List PairRoutes) (set : DemandSet) →
@@ -103,20 +106,20 @@ publications_exist plan net series range formed some is reached =
     (text best, record { certificate = best; best = record { certificates = list; made = made; best = first }; text_is = refl })
 
 -- the rows of each scheme
-rows_of : (plan : Experiment) (net : Network) (series : Series) (failures : Failures) → InRange plan → is_well_formed net ≡ true →
-    IsSeries (node_count net) series → (names : List SchemeName) →
-    (rows : List (List StepRow)) × AllZip (λ name part. AreSchemeRows name plan net series failures part) names rows
-rows_of plan net series failures range formed is [] = ([], tt)
-rows_of plan net series failures range formed is (name ∷ names) =
+rows_of : (plan : Experiment) (net : Network) (traffic : Traffic) (failures : Failures) → InRange plan → is_well_formed net ≡ true →
+    IsTraffic (node_count net) traffic → (names : List SchemeName) →
+    (rows : List (List StepRow)) × AllZip (λ name part. AreSchemeRows name plan net traffic failures part) names rows
+rows_of plan net traffic failures range formed is [] = ([], tt)
+rows_of plan net traffic failures range formed is (name ∷ names) =
     let scheme = meaning_of name plan in
     let can = name_routings plan range name in
     let (first, are) =
-    step_rows_exist scheme.limit scheme.is_plan scheme.relates scheme.low can.plans can.routings can.few net formed series is failures plan.recovery
+    step_rows_exist scheme.limit scheme.is_plan scheme.relates scheme.low can.plans can.routings can.few net formed traffic is failures plan.recovery
     in
-    let (rest, all) = rows_of plan net series failures range formed is names in
+    let (rest, all) = rows_of plan net traffic failures range formed is names in
     (first ∷ rest, (are, all))
 
 pub reports_exist : ReportsExist
-reports_exist plan net series failures range formed is =
-    let (rows, are) = rows_of plan net series failures range formed is plan.schemes in
+reports_exist plan net traffic failures range formed is =
+    let (rows, are) = rows_of plan net traffic failures range formed is plan.schemes in
     (header ++ lines_of_schemes plan.schemes rows, record { rows = rows; are_rows = are; text_is = refl })

@@ -9,3 +9,4 @@ mod Seeds
 pub mod Accepted
 pub mod SchemePlans
 pub mod Existence
+mod Predictions

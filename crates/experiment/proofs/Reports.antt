@@ -3,7 +3,7 @@ use Rattle.std.proofs.Common.{ℕ, ◌≡◌, ◌∙◌, sym, ap, List, [], ◌�
 use Rattle.std.specs.List.{AllZip}
 use Rattle.te_model.specs.declared.network.Network.{Network}
 use Rattle.failure.specs.declared.outage.Failures.{Failures}
-use Rattle.traffic_matrix.specs.declared.series.Series.{Series}
+use Rattle.traffic_matrix.specs.declared.traffic.Traffic.{Traffic}
 use Rattle.plan.specs.declared.experiment.Experiment.{Experiment}
 use Rattle.plan.specs.declared.scheme_name.SchemeName.{SchemeName}
 use Rattle.plan.specs.Words.{scheme_word}
@@ -31,12 +31,12 @@ module _ (R : SchemeName → List StepRow → Type 0) (name : SchemeName) (part 
       ∙ sym (append_assoc first (lines_of_schemes names rows) (scheme_lines (scheme_word name) part))
 
 -- one scheme more
-pub report_more : (plan : Experiment) (net : Network) (series : Series) (failures : Failures) (names : List SchemeName) (name : SchemeName)
-    (bytes more : List ℕ) (part : List StepRow) → IsReportOfSchemes names plan net series failures bytes →
-    AreSchemeRows name plan net series failures part → more ≡ bytes ++ scheme_lines (scheme_word name) part →
-    IsReportOfSchemes (names ++ name ∷ []) plan net series failures more
-report_more plan net series failures names name bytes more part so_far are grown =
-    let R : SchemeName → List StepRow → Type 0 = λ n p. AreSchemeRows n plan net series failures p in
+pub report_more : (plan : Experiment) (net : Network) (traffic : Traffic) (failures : Failures) (names : List SchemeName) (name : SchemeName)
+    (bytes more : List ℕ) (part : List StepRow) → IsReportOfSchemes names plan net traffic failures bytes →
+    AreSchemeRows name plan net traffic failures part → more ≡ bytes ++ scheme_lines (scheme_word name) part →
+    IsReportOfSchemes (names ++ name ∷ []) plan net traffic failures more
+report_more plan net traffic failures names name bytes more part so_far are grown =
+    let R : SchemeName → List StepRow → Type 0 = λ n p. AreSchemeRows n plan net traffic failures p in
     record {
       rows = so_far.rows ++ part ∷ [];
       are_rows = zip_more R name part are names so_far.rows so_far.are_rows;

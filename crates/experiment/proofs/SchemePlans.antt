@@ -26,12 +26,14 @@ use Rattle.semi_oblivious.proofs.AdaptedRoutings.{adapted_routings_exist, fixed_
 use Rattle.valiant_mix.specs.Valiant.{IsValiantSplit}
 use Rattle.valiant_mix.specs.declared.valiant.ValiantPlan.{ValiantPlan}
 use Rattle.valiant_mix.proofs.Splits.{valiant_splits_exist, within_format}
+use Rattle.robust_routing.proofs.Existence.{robust_plans_exist}
+use Rattle.robust_routing.proofs.Ways.{few_of_most}
 use Rattle.plan.specs.declared.experiment.Experiment.{Experiment}
 use Rattle.plan.specs.declared.scheme_name.SchemeName.{SchemeName}
-use Rattle.plan.specs.declared.scheme_name.SchemeName.TheVariants.{Spf, Ecmp, Ksp, Mcf, Racke, Smore, Valiant}
+use Rattle.plan.specs.declared.scheme_name.SchemeName.TheVariants.{Spf, Ecmp, Ksp, Mcf, Racke, Smore, Valiant, Robust}
 use Rattle.plan.specs.Plan.{InRange}
 use Rattle.series_simulation.specs.Laws.{HasPlans, HasRoutings}
-use Rattle.experiment.specs.Schemes.{SchemeMeaning, ecmp_paths, flow_scheme, ksp_paths, meaning_of, racke_scheme, rule_scheme, semi_scheme, spf_paths, valiant_paths}
+use Rattle.experiment.specs.Schemes.{SchemeMeaning, ecmp_paths, flow_scheme, ksp_paths, meaning_of, racke_scheme, robust_scheme, rule_scheme, semi_scheme, spf_paths, valiant_paths}
 
 -- a scheme has plans, and a routing of each matrix by each plan
 pub record CanRoute (scheme : SchemeMeaning) : Type 0 where
@@ -100,6 +102,13 @@ semi_routings trees seed budget some few some_kept few_kept = record {
       (routes, note, routing, have_few, so);
 }
 
+robust_routings : (ways : ℕ) → CanRoute (robust_scheme ways)
+robust_routings ways = record {
+  few = omega arith;
+  plans = λ net formed pairs are reached. robust_plans_exist net formed pairs are reached ways;
+  routings = λ net formed pairs plan is are demand of. (plan.routing.routes, tt, is.routing, few_of_most ways plan.routing.routes is.few, refl);
+}
+
 -- the scheme of each name, with the numbers of a plan
 pub name_routings : (plan : Experiment) → InRange plan → (name : SchemeName) → CanRoute (meaning_of name plan)
 name_routings plan range Spf = least_routings
@@ -117,3 +126,4 @@ name_routings plan range Valiant =
     rule_routings (λ (p : ValiantPlan). p.routing.routes) (λ r. (record { routing = r }, refl)) valiant_paths IsValiantSplit (omega arith)
     (λ net formed. routings_by_rules_exist IsValiantSplit valiant_paths net (λ pair is has.
     let (paths, by) = valiant_splits_exist net formed pair is has in (paths, within_format net pair paths formed by)))
+name_routings plan range Robust = robust_routings plan.budget

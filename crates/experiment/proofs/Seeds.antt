@@ -96,6 +96,7 @@ range_with_seed plan seed range = record {
   topology = range.topology;
   matrices = range.matrices;
   failures = range.failures;
+  predictions = range.predictions;
   some_scheme = range.some_scheme;
   few_schemes = range.few_schemes;
   publish = range.publish;

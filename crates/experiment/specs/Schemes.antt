@@ -22,11 +22,13 @@ use Rattle.semi_oblivious.specs.Semi.{AreFixed, IsAdapted}
 use Rattle.semi_oblivious.specs.declared.semi.SemiPlan.{SemiPlan}
 use Rattle.valiant_mix.specs.Valiant.{IsValiantSplit}
 use Rattle.valiant_mix.specs.declared.valiant.ValiantPlan.{ValiantPlan}
+use Rattle.robust_routing.specs.Robust.{IsRobustPlan, most_ways, ways_of}
+use Rattle.robust_routing.specs.declared.robust.RobustPlan.{RobustPlan}
 use Rattle.failure.specs.declared.outage.Failures.{Failures}
-use Rattle.traffic_matrix.specs.declared.series.Series.{Series}
+use Rattle.traffic_matrix.specs.declared.traffic.Traffic.{Traffic}
 use Rattle.plan.specs.declared.experiment.Experiment.{Experiment}
 use Rattle.plan.specs.declared.scheme_name.SchemeName.{SchemeName}
-use Rattle.plan.specs.declared.scheme_name.SchemeName.TheVariants.{Spf, Ecmp, Ksp, Mcf, Racke, Smore, Valiant}
+use Rattle.plan.specs.declared.scheme_name.SchemeName.TheVariants.{Spf, Ecmp, Ksp, Mcf, Racke, Smore, Valiant, Robust}
 use Rattle.series_simulation.specs.declared.step_row.StepRow.{StepRow}
 use Rattle.series_simulation.specs.Rows.{AreStepRows}
 
@@ -115,6 +117,18 @@ semi_scheme trees seed budget = record {
   fixed = λ plan. None;
 }
 
+-- a routing over at most so many paths a pair, found by sweeps and the same for every matrix: how small its ratio is, its certificate says
+abbrev pub robust_scheme : ℕ → SchemeMeaning
+robust_scheme ways = record {
+  Plan = RobustPlan;
+  Note = ⊤;
+  limit = most_ways;
+  is_plan = IsRobustPlan (ways_of ways);
+  relates = λ net pairs plan demand routes note. routes ≡ plan.routing.routes;
+  low = λ note. None;
+  fixed = λ plan. Some plan.routing.routes;
+}
+
 -- what the scheme of a name promises, with the plan's numbers
 abbrev pub meaning_of : SchemeName → Experiment → SchemeMeaning
 meaning_of Spf plan = rule_scheme (λ (p : SpfPlan). p.routing.routes) spf_paths IsLeastSplit
@@ -124,6 +138,7 @@ meaning_of Mcf plan = flow_scheme
 meaning_of Racke plan = racke_scheme plan.trees plan.seed
 meaning_of Smore plan = semi_scheme plan.trees plan.seed plan.budget
 meaning_of Valiant plan = rule_scheme (λ (p : ValiantPlan). p.routing.routes) valiant_paths IsValiantSplit
+meaning_of Robust plan = robust_scheme plan.budget
 
 -- the routes that a plan of the network and the pairs keeps for every matrix, which a scheme that adapts to the matrix does not
 pub record IsKeptRouting (scheme : SchemeMeaning) (net : Network) (pairs : List Pair) (routes : List PairRoutes) : Type 0 where
@@ -135,11 +150,11 @@ pub record IsKeptRouting (scheme : SchemeMeaning) (net : Network) (pairs : List 
 abbrev pub IsSchemeRouting : SchemeName → Experiment → Network → List Pair → List PairRoutes → Type 0
 IsSchemeRouting name plan net pairs routes = IsKeptRouting (meaning_of name plan) net pairs routes
 
--- the rows of a scheme over a series
-abbrev pub AreRowsBy : SchemeMeaning → Network → Series → Failures → Experiment → List StepRow → Type 0
-AreRowsBy scheme net series failures plan rows =
-    AreStepRows scheme.limit scheme.is_plan scheme.relates scheme.low net series failures plan.recovery rows
+-- the rows of a scheme over traffic
+abbrev pub AreRowsBy : SchemeMeaning → Network → Traffic → Failures → Experiment → List StepRow → Type 0
+AreRowsBy scheme net traffic failures plan rows =
+    AreStepRows scheme.limit scheme.is_plan scheme.relates scheme.low net traffic failures plan.recovery rows
 
 -- the rows of the scheme of this name, with the plan's numbers and recovery
-abbrev pub AreSchemeRows : SchemeName → Experiment → Network → Series → Failures → List StepRow → Type 0
-AreSchemeRows name plan net series failures rows = AreRowsBy (meaning_of name plan) net series failures plan rows
+abbrev pub AreSchemeRows : SchemeName → Experiment → Network → Traffic → Failures → List StepRow → Type 0
+AreSchemeRows name plan net traffic failures rows = AreRowsBy (meaning_of name plan) net traffic failures plan rows

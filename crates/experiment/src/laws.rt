@@ -3,7 +3,7 @@ ghost use Rattle.std.specs.Prelude.{ℕ, List};
 ghost use Rattle.te_model.specs.declared.network.Network.{Network};
 ghost use Rattle.traffic_matrix.specs.declared.series.Series.{Series};
 ghost use Rattle.plan.specs.declared.experiment.Experiment.{Experiment};
-ghost use Rattle.experiment.specs.Laws.{PublicationsExist, ReportsExist};
+ghost use Rattle.experiment.specs.Laws.{PredictionsChangeNoOblivious, PublicationsExist, ReportsExist};
 ghost use Rattle.experiment.specs.Published.{IsAccepted, IsPublished};
 
 /// Every published file spells a valid certificate of which no inequality fails, so a check of it answers yes.
@@ -20,4 +20,9 @@ pub fn publications_exist()
 /// There is a report of the schemes of a plan in range.
 pub fn reports_exist()
     ensures { ReportsExist }
+{}
+
+/// An oblivious scheme has just the rows that it has without predictions.
+pub fn predictions_change_no_oblivious()
+    ensures { PredictionsChangeNoOblivious }
 {}

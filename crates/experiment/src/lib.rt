@@ -4,10 +4,11 @@
 //! - `drive`: a scheme over a series of matrices, one `StepRow` for each step (crate `series_simulation`).
 //! - `publish`: a certificate of an oblivious scheme's routing.
 //! - `certificate_file`: the file of the certificate that a plan publishes.
-//! - `report`: the report of a plan's schemes over a series.
+//! - `report`: the report of a plan's schemes over the traffic.
 //! - `fields`: the fields of a line of a report.
 //! - `published_files_are_accepted`: what every published file is.
 //! - `publications_exist`, `reports_exist`: what a plan asks for exists.
+//! - `predictions_change_no_oblivious`: the rows of an oblivious scheme are those without predictions.
 #![tactic(auto)]
 
 mod demand_set;
@@ -19,8 +20,12 @@ mod lines;
 mod published_file;
 mod publishing;
 mod reporting;
+mod robust_publishing;
 
-pub use laws::{publications_exist, published_files_are_accepted, reports_exist};
+pub use laws::{
+    predictions_change_no_oblivious, publications_exist, published_files_are_accepted,
+    reports_exist,
+};
 pub use plan::{Experiment, Key, PlanFault, Recovery, SchemeName, read_plan};
 pub use published_file::certificate_file;
 pub use publishing::publish;

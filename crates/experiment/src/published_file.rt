@@ -11,6 +11,7 @@ ghost use Rattle.experiment.specs.Published.{IsBestBySeeds, IsMadeByPlan, IsPubl
 
 use crate::demand_set::published_set;
 use crate::publishing::publish;
+use crate::robust_publishing::publish_robust;
 use cert_text::print;
 use ecmp_split::Ecmp;
 use k_paths::Ksp;
@@ -69,6 +70,7 @@ fn certificate_by_seed(
             publish(alloc, &scheme, network, pairs, set, plan.budget)
         }
         SchemeName::Valiant => publish(alloc, &Valiant, network, pairs, set, plan.budget),
+        SchemeName::Robust => publish_robust(alloc, network, pairs, set, plan.budget),
         // A plan publishes an oblivious scheme.
         SchemeName::Mcf | SchemeName::Smore => unreachable!(),
     }

@@ -1,7 +1,7 @@
 //! The report of a plan's schemes, each driven through the series.
 ghost use Rattle.std.specs.Prelude.{◌≡◌, ◌≤◌, ◌+◌, ◌^◌, ◌++◌, ℕ, List, IfOk, IsTrue, OnOk, filter};
 ghost use Rattle.te_model.specs.Network.{is_well_formed, node_count};
-ghost use Rattle.traffic_matrix.specs.Limits.{IsSeries};
+ghost use Rattle.traffic_matrix.specs.Traffic.{IsTraffic};
 ghost use Rattle.plan.specs.Plan.{InRange};
 ghost use Rattle.plan.specs.Words.{scheme_word};
 ghost use Rattle.series_simulation.specs.declared.step_row.StepRow.{StepRow};
@@ -19,12 +19,13 @@ use k_paths::Ksp;
 use mcf_lengths::Mcf;
 use plan::{Experiment, Recovery, SchemeName};
 use racke_mix::Racke;
+use robust_routing::Robust;
 use scheme::{Scheme, Spf};
 use semi_oblivious::Semi;
 use series_simulation::{Preparation, StepRow, prepare_connected, row_of};
 use std::alloc::Global;
 use te_model::{Memory, Network};
-use traffic_matrix::Series;
+use traffic_matrix::Traffic;
 use valiant_mix::Valiant;
 
 /// Writes the line of a step, and takes the step into the total.
@@ -46,20 +47,20 @@ fn lines_with<S: Scheme>(
     word: &str,
     network: &Network,
     prepared: &Preparation<S::Plan>,
-    series: &Series,
+    traffic: &Traffic,
     failures: &Failures,
     recovery: Recovery,
 ) -> Result<Vec<u8>, Memory>
     requires network { IsTrue (is_well_formed network.now) }
-    requires series { IsSeries (node_count network.now) series.now }
+    requires traffic { IsTraffic (node_count network.now) traffic.now }
     requires paths { S.PATHS ≤ 4096 }
     requires tells { TellsPaths network.now (connects prepared.now.reach) }
-    requires planned { S.is_plan scheme.now network.now (filter (connects prepared.now.reach) series.now.pairs.list) prepared.now.plan }
+    requires planned { S.is_plan scheme.now network.now (filter (connects prepared.now.reach) traffic.now.sent.pairs.list) prepared.now.plan }
     ensures { IfOk result (λ text. (rows : List StepRow)
-        × AreStepRows S.PATHS (S.is_plan scheme.now) (S.relates scheme.now) S.Note.low network.now series.now failures.now recovery rows
+        × AreStepRows S.PATHS (S.is_plan scheme.now) (S.relates scheme.now) S.Note.low network.now traffic.now failures.now recovery rows
         × (text.items ≡ scheme_lines word.now rows)) }
 {
-    let steps = series.steps.as_slice().len();
+    let steps = traffic.sent.steps.as_slice().len();
     let marks = failures.series(alloc, network, steps)?;
     let mut text = Vec::new(alloc);
     let mut total = Figures::none();
@@ -70,7 +71,7 @@ fn lines_with<S: Scheme>(
             scheme,
             network,
             prepared,
-            series,
+            traffic,
             failed,
             recovery,
             step as u32,
@@ -87,20 +88,20 @@ fn lines_of<S: Scheme>(
     scheme: &S,
     word: &str,
     network: &Network,
-    series: &Series,
+    traffic: &Traffic,
     failures: &Failures,
     recovery: Recovery,
 ) -> Result<Vec<u8>, Memory>
     requires network { IsTrue (is_well_formed network.now) }
-    requires series { IsSeries (node_count network.now) series.now }
+    requires traffic { IsTraffic (node_count network.now) traffic.now }
     requires paths { S.PATHS ≤ 4096 }
     ensures { IfOk result (λ text. (rows : List StepRow)
-        × AreStepRows S.PATHS (S.is_plan scheme.now) (S.relates scheme.now) S.Note.low network.now series.now failures.now recovery rows
+        × AreStepRows S.PATHS (S.is_plan scheme.now) (S.relates scheme.now) S.Note.low network.now traffic.now failures.now recovery rows
         × (text.items ≡ scheme_lines word.now rows)) }
 {
-    let prepared = prepare_connected(alloc, scheme, network, &series.pairs)?;
+    let prepared = prepare_connected(alloc, scheme, network, &traffic.sent.pairs)?;
     lines_with(
-        alloc, scheme, word, network, &prepared, series, failures, recovery,
+        alloc, scheme, word, network, &prepared, traffic, failures, recovery,
     )
 }
 
@@ -110,14 +111,14 @@ fn lines_by_name(
     name: SchemeName,
     plan: &Experiment,
     network: &Network,
-    series: &Series,
+    traffic: &Traffic,
     failures: &Failures,
 ) -> Result<Vec<u8>, Memory>
     requires plan { InRange plan.now }
     requires network { IsTrue (is_well_formed network.now) }
-    requires series { IsSeries (node_count network.now) series.now }
+    requires traffic { IsTraffic (node_count network.now) traffic.now }
     ensures { IfOk result (λ text. (rows : List StepRow)
-        × AreSchemeRows name plan.now network.now series.now failures.now rows
+        × AreSchemeRows name plan.now network.now traffic.now failures.now rows
         × (text.items ≡ scheme_lines (scheme_word name) rows)) }
 {
     let word = name.word();
@@ -127,20 +128,26 @@ fn lines_by_name(
         seed: plan.seed,
     };
     match name {
-        SchemeName::Spf => lines_of(alloc, &Spf, word, network, series, failures, recovery),
-        SchemeName::Ecmp => lines_of(alloc, &Ecmp, word, network, series, failures, recovery),
+        SchemeName::Spf => lines_of(alloc, &Spf, word, network, traffic, failures, recovery),
+        SchemeName::Ecmp => lines_of(alloc, &Ecmp, word, network, traffic, failures, recovery),
         SchemeName::Ksp => {
             let scheme = Ksp { k: plan.k };
-            lines_of(alloc, &scheme, word, network, series, failures, recovery)
+            lines_of(alloc, &scheme, word, network, traffic, failures, recovery)
         }
-        SchemeName::Mcf => lines_of(alloc, &Mcf, word, network, series, failures, recovery),
-        SchemeName::Racke => lines_of(alloc, &base, word, network, series, failures, recovery),
+        SchemeName::Mcf => lines_of(alloc, &Mcf, word, network, traffic, failures, recovery),
+        SchemeName::Racke => lines_of(alloc, &base, word, network, traffic, failures, recovery),
         SchemeName::Smore => {
             let budget = plan.budget;
             let scheme = Semi { base, budget };
-            lines_of(alloc, &scheme, word, network, series, failures, recovery)
+            lines_of(alloc, &scheme, word, network, traffic, failures, recovery)
         }
-        SchemeName::Valiant => lines_of(alloc, &Valiant, word, network, series, failures, recovery),
+        SchemeName::Valiant => lines_of(
+            alloc, &Valiant, word, network, traffic, failures, recovery,
+        ),
+        SchemeName::Robust => {
+            let scheme = Robust { ways: plan.budget };
+            lines_of(alloc, &scheme, word, network, traffic, failures, recovery)
+        }
     }
 }
 
@@ -152,19 +159,19 @@ pub fn report(
     alloc: Global,
     plan: &Experiment,
     network: &Network,
-    series: &Series,
+    traffic: &Traffic,
     failures: &Failures,
 ) -> Result<Vec<u8>, Memory>
     requires plan { InRange plan.now }
     requires network { IsTrue (is_well_formed network.now) }
-    requires series { IsSeries (node_count network.now) series.now }
-    ensures { IfOk result (λ text. IsReport plan.now network.now series.now failures.now text.items) }
+    requires traffic { IsTraffic (node_count network.now) traffic.now }
+    ensures { IfOk result (λ text. IsReport plan.now network.now traffic.now failures.now text.items) }
 {
     let header =
         b"scheme,step,offered,delivered,lost_full,lost_failed,lost_no_path,peak,parts,low\n";
     let mut text = Vec::from_slice(alloc, header)?;
     for name in plan.schemes.as_slice() {
-        let lines = lines_by_name(alloc, *name, plan, network, series, failures)?;
+        let lines = lines_by_name(alloc, *name, plan, network, traffic, failures)?;
         text.extend_from_slice(lines.as_slice())?;
     }
     Ok(text)

@@ -14,6 +14,7 @@ use Rattle.failure.specs.Series.{no_failures}
 use Rattle.traffic_matrix.specs.declared.series.Series.{Series}
 use Rattle.traffic_matrix.specs.Gravity.{every_pair, gravity_of}
 use Rattle.traffic_matrix.specs.Limits.{IsSeries}
+use Rattle.traffic_matrix.specs.Traffic.{known_traffic}
 use Rattle.traffic_matrix.proofs.GravityLemmas.{gravity-in-range}
 use Rattle.plan.specs.declared.recovery.Recovery.TheVariants.{Keep}
 use Rattle.scheme.specs.Reach.{AllReached}
@@ -53,6 +54,6 @@ summaries_exist n seed some few =
     in
     let (rows, driven_rows) =
     step_rows_exist least_paths.limit least_paths.is_plan least_paths.relates least_paths.low least_routings.plans least_routings.routings least_routings.few
-    net formed series is no_failures Keep
+    net formed (known_traffic series) (record { sent = is; predicted = tt }) no_failures Keep
     in
     summary_from n seed file (record { rounds = rounds; routes = routes; mix = mix; made = made }) rows driven_rows

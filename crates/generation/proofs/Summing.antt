@@ -10,7 +10,8 @@ use Rattle.te_model.specs.Validity.{IsValid}
 use Rattle.te_model.proofs.Failures.{none_from_holds}
 use Rattle.random_network.specs.Drawn.{network_of}
 use Rattle.random_network.proofs.Formed.{nodes_are}
-use Rattle.traffic_matrix.specs.declared.series.Series.{Series}
+use Rattle.traffic_matrix.specs.declared.traffic.Traffic.{Traffic}
+use Rattle.traffic_matrix.specs.Traffic.{known_traffic}
 use Rattle.traffic_matrix.specs.Gravity.{every_pair, gravity_of}
 use Rattle.ratio_checker.specs.declared.finding.Finding.{Finding}
 use Rattle.ratio_checker.specs.declared.finding.Finding.TheVariants.{Yes}
@@ -51,30 +52,31 @@ same_lines : (s : Summary) (net : Network) (pairs ratio : ℕ) (rows : List Step
     s.delivered ≡ sum_by (λ (row : StepRow). row.result.delivered) rows → summary_lines s ≡ summary_text net pairs ratio rows
 same_lines s net pairs ratio rows nodes links of_pairs of_ratio found offered delivered = rw (nodes, links, of_pairs, of_ratio, found, offered, delivered) refl
 
--- the network and the series of a run
-module _ (n seed : ℕ) (net : Network) (series : Series) (drawn : net ≡ network_of n seed) (gravity : series ≡ gravity_of (node_count net) seed 3) where
+-- the network and the traffic of a run
+module _ (n seed : ℕ) (net : Network) (traffic : Traffic) (drawn : net ≡ network_of n seed)
+    (gravity : traffic ≡ known_traffic (gravity_of (node_count net) seed 3)) where
   nodes : node_count net ≡ n
   nodes = ap node_count drawn ∙ nodes_are n seed
 
-  series_is : series ≡ gravity_of n seed 3
-  series_is = gravity ∙ ap (λ (m : ℕ). gravity_of m seed 3) nodes
+  traffic_is : traffic ≡ known_traffic (gravity_of n seed 3)
+  traffic_is = gravity ∙ ap (λ (m : ℕ). known_traffic (gravity_of m seed 3)) nodes
 
-  pairs_are : series.pairs.list ≡ every_pair n
-  pairs_are = ap (λ (s : Series). s.pairs.list) series_is
+  pairs_are : traffic.sent.pairs.list ≡ every_pair n
+  pairs_are = ap (λ (t : Traffic). t.sent.pairs.list) traffic_is
 
-  judged : (ratio : ℕ) (finding : Finding) → IsJudgedDraw seed net series.pairs.list ratio finding → IsJudgedDraw seed (network_of n seed) (every_pair n) ratio finding
+  judged : (ratio : ℕ) (finding : Finding) → IsJudgedDraw seed net traffic.sent.pairs.list ratio finding → IsJudgedDraw seed (network_of n seed) (every_pair n) ratio finding
   judged ratio finding is =
       subst (λ (pairs : List Pair). IsJudgedDraw seed (network_of n seed) pairs ratio finding) pairs_are
-      (subst (λ (w : Network). IsJudgedDraw seed w series.pairs.list ratio finding) drawn is)
+      (subst (λ (w : Network). IsJudgedDraw seed w traffic.sent.pairs.list ratio finding) drawn is)
 
-  driven : (rows : List StepRow) → AreLeastRows net series rows → AreDrawnRows n seed rows
+  driven : (rows : List StepRow) → AreLeastRows net traffic rows → AreDrawnRows n seed rows
   driven rows are =
-      subst (λ (s : Series). AreLeastRows (network_of n seed) s rows) series_is
-      (subst (λ (w : Network). AreLeastRows w series rows) drawn are)
+      subst (λ (t : Traffic). AreLeastRows (network_of n seed) t rows) traffic_is
+      (subst (λ (w : Network). AreLeastRows w traffic rows) drawn are)
 
   -- the lines of what was counted, judged and added up
-  pub summed : (s : Summary) (text : List ℕ) → IsJudgedDraw seed net series.pairs.list s.ratio s.finding → IsTotal net series s.offered s.delivered →
-      s.nodes ≡ node_count net → s.links ≡ link_count net → s.pairs ≡ length series.pairs.list → text ≡ summary_lines s → IsSummary n seed text
+  pub summed : (s : Summary) (text : List ℕ) → IsJudgedDraw seed net traffic.sent.pairs.list s.ratio s.finding → IsTotal net traffic s.offered s.delivered →
+      s.nodes ≡ node_count net → s.links ≡ link_count net → s.pairs ≡ length traffic.sent.pairs.list → text ≡ summary_lines s → IsSummary n seed text
   summed s text of_draw total nodes_of links_of pairs_of lines =
       let at = judged s.ratio s.finding of_draw in
       let count : s.nodes ≡ node_count (network_of n seed) = nodes_of ∙ ap node_count drawn in

@@ -8,7 +8,8 @@ use Rattle.te_model.specs.Network.{link_count, node_count}
 use Rattle.te_model.specs.Ratio.{IsObliviousRatio}
 use Rattle.random_network.specs.Drawn.{network_of}
 use Rattle.failure.specs.Series.{no_failures}
-use Rattle.traffic_matrix.specs.declared.series.Series.{Series}
+use Rattle.traffic_matrix.specs.declared.traffic.Traffic.{Traffic}
+use Rattle.traffic_matrix.specs.Traffic.{known_traffic}
 use Rattle.traffic_matrix.specs.Gravity.{every_pair, gravity_of}
 use Rattle.plan.specs.declared.recovery.Recovery.TheVariants.{Keep}
 use Rattle.path_budget.specs.Budget.{trimmed_routes}
@@ -37,13 +38,13 @@ abbrev pub least_paths : SchemeMeaning
 least_paths = rule_scheme (λ (p : SpfPlan). p.routing.routes) spf_paths IsLeastSplit
 
 -- the rows of least paths over the matrices, in which no link fails
-abbrev pub AreLeastRows : Network → Series → List StepRow → Type 0
-AreLeastRows net series rows =
-    AreStepRows least_paths.limit least_paths.is_plan least_paths.relates least_paths.low net series no_failures Keep rows
+abbrev pub AreLeastRows : Network → Traffic → List StepRow → Type 0
+AreLeastRows net traffic rows =
+    AreStepRows least_paths.limit least_paths.is_plan least_paths.relates least_paths.low net traffic no_failures Keep rows
 
 -- the rows of least paths over three drawn matrices
 abbrev pub AreDrawnRows : ℕ → ℕ → List StepRow → Type 0
-AreDrawnRows n seed rows = AreLeastRows (network_of n seed) (gravity_of n seed 3) rows
+AreDrawnRows n seed rows = AreLeastRows (network_of n seed) (known_traffic (gravity_of n seed 3)) rows
 
 -- the ratio of the certificate in a drawn file, to which the verdict is yes
 pub record IsJudgedDraw (seed : ℕ) (net : Network) (pairs : List Pair) (ratio : ℕ) (finding : Finding) : Type 0 where
@@ -53,9 +54,9 @@ pub record IsJudgedDraw (seed : ℕ) (net : Network) (pairs : List Pair) (ratio 
   pub yes : finding ≡ Yes
 
 -- the sums over the rows of least paths
-pub record IsTotal (net : Network) (series : Series) (offered delivered : ℕ) : Type 0 where
+pub record IsTotal (net : Network) (traffic : Traffic) (offered delivered : ℕ) : Type 0 where
   pub rows : List StepRow
-  pub driven : AreLeastRows net series rows
+  pub driven : AreLeastRows net traffic rows
   pub offered_is : offered ≡ sum_by (λ (row : StepRow). row.result.offered) rows
   pub delivered_is : delivered ≡ sum_by (λ (row : StepRow). row.result.delivered) rows
 

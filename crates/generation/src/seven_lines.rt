@@ -5,7 +5,7 @@ ghost use Rattle.te_model.specs.Pairs.{AscendPairs};
 ghost use Rattle.scheme.specs.Reach.{AllReached, ArePairsOf};
 ghost use Rattle.random_network.specs.Drawn.{IsConnected, network_of};
 ghost use Rattle.traffic_matrix.specs.Gravity.{gravity_of};
-ghost use Rattle.traffic_matrix.specs.Limits.{IsSeries};
+ghost use Rattle.traffic_matrix.specs.Traffic.{IsTraffic, known_traffic};
 ghost use Rattle.generation.specs.Summary.{IsJudgedDraw, IsSummary, IsTotal};
 
 use crate::drawn_file::{drawn_file, read_back};
@@ -19,7 +19,7 @@ use scheme::Spf;
 use series_simulation::drive;
 use std::alloc::Global;
 use te_model::{Items, Memory, Network, Pairs};
-use traffic_matrix::{Series, gravity};
+use traffic_matrix::{Traffic, gravity};
 
 /// The ratio of the certificate that is published for the pairs, and the finding on its file, which is read back.
 fn ratio_and_finding(
@@ -44,16 +44,16 @@ fn ratio_and_finding(
 fn offered_and_delivered(
     alloc: Global,
     network: &Network,
-    series: &Series,
+    traffic: &Traffic,
 ) -> Result<(u128, u128), Memory>
     requires network { IsTrue (is_well_formed network.now) }
-    requires series { IsSeries (node_count network.now) series.now }
-    ensures { IfOk result (λ t. IsTotal network.now series.now t.0 t.1) }
+    requires traffic { IsTraffic (node_count network.now) traffic.now }
+    ensures { IfOk result (λ t. IsTotal network.now traffic.now t.0 t.1) }
 {
     let none = Failures {
         list: Items::new(Vec::new(alloc)),
     };
-    let rows = drive(alloc, &Spf, network, series, &none, Recovery::Keep)?;
+    let rows = drive(alloc, &Spf, network, traffic, &none, Recovery::Keep)?;
     Ok((offered_in(rows.as_slice()), delivered_in(rows.as_slice())))
 }
 
@@ -61,22 +61,22 @@ fn offered_and_delivered(
 fn summary_over(
     alloc: Global,
     network: &Network,
-    series: &Series,
+    traffic: &Traffic,
     seed: u64,
 ) -> Result<Vec<u8>, Memory>
     requires network { IsTrue (is_well_formed network.now) }
     requires links { 1 ≤ link_count network.now }
     requires connected { IsConnected network.now }
-    requires series { IsSeries (node_count network.now) series.now }
-    ensures { IfOk result (λ text. (n : ℕ) → network.now ≡ network_of n seed → series.now ≡ gravity_of (node_count network.now) seed 3 →
+    requires traffic { IsTraffic (node_count network.now) traffic.now }
+    ensures { IfOk result (λ text. (n : ℕ) → network.now ≡ network_of n seed → traffic.now ≡ known_traffic (gravity_of (node_count network.now) seed 3) →
         IsSummary n seed text.items) }
 {
-    let (ratio, finding) = ratio_and_finding(alloc, network, &series.pairs, seed)?;
-    let (offered, delivered) = offered_and_delivered(alloc, network, series)?;
+    let (ratio, finding) = ratio_and_finding(alloc, network, &traffic.sent.pairs, seed)?;
+    let (offered, delivered) = offered_and_delivered(alloc, network, traffic)?;
     let summary = Summary {
         nodes: network.names.as_slice().len(),
         links: network.links.as_slice().len(),
-        pairs: series.pairs.list.as_slice().len(),
+        pairs: traffic.sent.pairs.list.as_slice().len(),
         ratio,
         finding,
         offered,
@@ -93,7 +93,8 @@ fn summary_of(alloc: Global, network: &Network, seed: u64) -> Result<Vec<u8>, Me
     ensures { IfOk result (λ text. (n : ℕ) → network.now ≡ network_of n seed → IsSummary n seed text.items) }
 {
     let series = gravity(alloc, network, seed, 3)?;
-    summary_over(alloc, network, &series, seed)
+    let traffic = Traffic::known(series);
+    summary_over(alloc, network, &traffic, seed)
 }
 
 /// Draws a network of 2 to 64 nodes and three matrices by the gravity model from the seed, publishes a routing over four trees of the

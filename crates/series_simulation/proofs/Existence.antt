@@ -31,15 +31,16 @@ use Rattle.series_simulation.specs.declared.step_row.StepRow.{StepRow}
 use Rattle.series_simulation.specs.Connected.{TellsPaths, demands_of}
 use Rattle.series_simulation.specs.Laws.{HasPlans, HasRoutings, StepRowsExist, StepsExist}
 use Rattle.traffic_matrix.specs.declared.series.Series.{Series}
+use Rattle.traffic_matrix.specs.declared.traffic.Traffic.{Traffic}
 use Rattle.traffic_matrix.specs.Limits.{IsSeries}
-use Rattle.traffic_matrix.specs.Text.{no_matrix}
+use Rattle.traffic_matrix.specs.Traffic.{IsTraffic, predicted_in, sent_in}
 use Rattle.series_simulation.specs.OriginalLinks.{original_routes}
-use Rattle.series_simulation.specs.Rows.{IsReroutedOn, IsRouted, IsStep, IsStepRow, demands_in, is_rerouted, mode_of, no_row}
+use Rattle.series_simulation.specs.Rows.{IsReroutedOn, IsRouted, IsStep, IsStepRow, bound_of_sent, given_demands, is_rerouted, mode_of, no_row}
 use Rattle.series_simulation.specs.Simulation.{IsSimulated, peak_of}
 use Rattle.series_simulation.proofs.Demands.{demands_are}
 use Rattle.series_simulation.proofs.Mapping.{few-back, pairs-back, routing-back}
 use Rattle.series_simulation.proofs.Marking.{marks_count}
-use Rattle.series_simulation.proofs.SeriesLemmas.{passing_pairs, passing_reached, series_pairs, surviving_pairs}
+use Rattle.series_simulation.proofs.SeriesLemmas.{given_are, passing_pairs, passing_reached, predicted_are, sent_are, series_pairs, surviving_pairs}
 use Rattle.series_simulation.proofs.Surviving.{survivor_part}
 
 is_first : (net : Network) (pairs : List Pair) → AllReached net pairs ⊎ ((p : ℕ) × IsFirstWithout net pairs p) → Bool
@@ -101,16 +102,16 @@ simulated_exists mode net failed pairs demand routes formed splits few some =
 
 module _ {Plan Note : Type 0} (limit : ℕ) (is_plan : Network → List Pair → Plan → Type 0)
     (relates : Network → List Pair → Plan → List ℕ → List PairRoutes → Note → Type 0) (low : Note → Option ℕ) where
-  routed_exists : HasRoutings limit is_plan relates → (net : Network) (pairs : List Pair) (demand : List ℕ) (has_path : Pair → Bool) (plan : Plan) →
-      is_well_formed net ≡ true → ArePairsOf net pairs → AreDemands (length pairs) demand → TellsPaths net has_path →
+  routed_exists : HasRoutings limit is_plan relates → (net : Network) (pairs : List Pair) (predicted : Option (List ℕ)) (demand : List ℕ) (has_path : Pair → Bool) (plan : Plan) →
+      is_well_formed net ≡ true → ArePairsOf net pairs → AreDemands (length pairs) (given_demands predicted demand) → TellsPaths net has_path →
       is_plan net (filter has_path pairs) plan →
-      (routes : List PairRoutes) × (most : ℕ) × (bound : Option ℕ) × IsRouted limit is_plan relates low net pairs demand plan routes most bound
-  routed_exists routings net pairs demand has_path plan formed are demands tell planned =
+      (routes : List PairRoutes) × (most : ℕ) × (bound : Option ℕ) × IsRouted limit is_plan relates low net pairs predicted demand plan routes most bound
+  routed_exists routings net pairs predicted demand has_path plan formed are demands tell planned =
       let (routes, note, routing, few, related) = routings net formed (filter has_path pairs) plan planned (passing_pairs net has_path pairs are)
-      (demands_of has_path pairs demand) (demands_are has_path pairs demand demands) in (
+      (demands_of has_path pairs (given_demands predicted demand)) (demands_are has_path pairs (given_demands predicted demand) demands) in (
         routes,
         parts net routes (demands_of has_path pairs demand),
-        low note,
+        bound_of_sent predicted (low note),
         record {
           has_path = has_path;
           tells = tell;
@@ -125,27 +126,27 @@ module _ {Plan Note : Type 0} (limit : ℕ) (is_plan : Network → List Pair →
       )
 
   -- a routing of a step, and what its simulation wants of it
-  record StepRouting (net : Network) (failed : List Bool) (pairs : List Pair) (demand : List ℕ) (plan : Plan) (rerouted : Bool) : Type 0 where
+  record StepRouting (net : Network) (failed : List Bool) (pairs : List Pair) (predicted : Option (List ℕ)) (demand : List ℕ) (plan : Plan) (rerouted : Bool) : Type 0 where
     routes : List PairRoutes
     most : ℕ
     bound : Option ℕ
-    routed : MatchBool rerouted (IsReroutedOn limit is_plan relates low net failed pairs demand routes most bound)
-        (IsRouted limit is_plan relates low net pairs demand plan routes most bound)
+    routed : MatchBool rerouted (IsReroutedOn limit is_plan relates low net failed pairs predicted demand routes most bound)
+        (IsRouted limit is_plan relates low net pairs predicted demand plan routes most bound)
     splits : IsPathRouting net routes
     some : IsSublist (pairs_of routes) pairs
     few : HasFewPaths limit routes
 
-  step_routing_exists : HasPlans is_plan → HasRoutings limit is_plan relates → (net : Network) (failed : List Bool) (pairs : List Pair) (demand : List ℕ)
-      (plan : Plan) → is_well_formed net ≡ true → length failed ≡ link_count net → ArePairsOf net pairs → AreDemands (length pairs) demand →
-      is_plan net (filter (has_path_in net) pairs) plan → (rerouted : Bool) → StepRouting net failed pairs demand plan rerouted
-  step_routing_exists plans routings net failed pairs demand plan formed marks are demands planned true =
+  step_routing_exists : HasPlans is_plan → HasRoutings limit is_plan relates → (net : Network) (failed : List Bool) (pairs : List Pair)
+      (predicted : Option (List ℕ)) (demand : List ℕ) (plan : Plan) → is_well_formed net ≡ true → length failed ≡ link_count net → ArePairsOf net pairs → AreDemands (length pairs) (given_demands predicted demand) →
+      is_plan net (filter (has_path_in net) pairs) plan → (rerouted : Bool) → StepRouting net failed pairs predicted demand plan rerouted
+  step_routing_exists plans routings net failed pairs predicted demand plan formed marks are demands planned true =
       let left = survivor_of net failed in
       let formed_left = well-formed net failed marks formed in
       let are_left = surviving_pairs net failed pairs are in
       let test = has_path_in left.network in
       let (plan_left, planned_left) = plans left.network formed_left (filter test pairs) (passing_pairs left.network test pairs are_left)
       (passing_reached left.network test pairs are_left (tells left.network)) in
-      let (own, most, bound, routed) = routed_exists routings left.network pairs demand test plan_left formed_left are_left demands (tells left.network) planned_left in
+      let (own, most, bound, routed) = routed_exists routings left.network pairs predicted demand test plan_left formed_left are_left demands (tells left.network) planned_left in
       record {
         routes = original_routes left.origin own;
         most = most;
@@ -155,8 +156,8 @@ module _ {Plan Note : Type 0} (limit : ℕ) (is_plan : Network → List Pair →
         some = (routed.has_path, pairs-back left.origin own ∙ routed.routing.in_order);
         few = few-back left.origin limit own routed.few;
       }
-  step_routing_exists plans routings net failed pairs demand plan formed marks are demands planned false =
-      let (routes, most, bound, routed) = routed_exists routings net pairs demand (has_path_in net) plan formed are demands (tells net) planned in
+  step_routing_exists plans routings net failed pairs predicted demand plan formed marks are demands planned false =
+      let (routes, most, bound, routed) = routed_exists routings net pairs predicted demand (has_path_in net) plan formed are demands (tells net) planned in
       record {
         routes = routes;
         most = most;
@@ -168,11 +169,12 @@ module _ {Plan Note : Type 0} (limit : ℕ) (is_plan : Network → List Pair →
       }
 
   step_exists : HasPlans is_plan → HasRoutings limit is_plan relates → limit ≤ 4096 → (net : Network) (failed : List Bool) (pairs : List Pair)
-      (demand : List ℕ) (recovery : Recovery) (plan : Plan) → is_well_formed net ≡ true → length failed ≡ link_count net → ArePairsOf net pairs →
-      AreDemands (length pairs) demand → is_plan net (filter (has_path_in net) pairs) plan → (step : ℕ) →
-      (s : SimulatedStep) × ((s.row.step ≡ step) × IsStep limit is_plan relates low net failed pairs demand recovery plan s.rates.routes s.row)
-  step_exists plans routings small net failed pairs demand recovery plan formed marks are demands planned step =
-      let routed = step_routing_exists plans routings net failed pairs demand plan formed marks are demands planned (is_rerouted recovery failed) in
+      (predicted : Option (List ℕ)) (demand : List ℕ) (recovery : Recovery) (plan : Plan) → is_well_formed net ≡ true →
+      length failed ≡ link_count net → ArePairsOf net pairs →
+      AreDemands (length pairs) (given_demands predicted demand) → is_plan net (filter (has_path_in net) pairs) plan → (step : ℕ) →
+      (s : SimulatedStep) × ((s.row.step ≡ step) × IsStep limit is_plan relates low net failed pairs predicted demand recovery plan s.rates.routes s.row)
+  step_exists plans routings small net failed pairs predicted demand recovery plan formed marks are demands planned step =
+      let routed = step_routing_exists plans routings net failed pairs predicted demand plan formed marks are demands planned (is_rerouted recovery failed) in
       let few = All-weaker (λ (r : PairRoutes). length r.paths ≤ limit) (λ (r : PairRoutes). length r.paths ≤ 4096) (λ r is. omega (arith, is, small)) routed.routes routed.few in
       let (rates, result, whole, simulated) = simulated_exists (mode_of recovery) net failed pairs demand routed.routes formed routed.splits few routed.some in (
         record {
@@ -192,29 +194,33 @@ module _ {Plan Note : Type 0} (limit : ℕ) (is_plan : Network → List Pair →
       plans net formed (filter test pairs) (passing_pairs net test pairs are) (passing_reached net test pairs are (tells net))
 
   -- step k by a plan of these pairs
-  pub step_by : HasPlans is_plan → HasRoutings limit is_plan relates → limit ≤ 4096 → (net : Network) → is_well_formed net ≡ true → (series : Series) →
-      IsSeries (node_count net) series → (failures : Failures) (recovery : Recovery) (plan : Plan) →
-      is_plan net (filter (has_path_in net) series.pairs.list) plan → (k : ℕ) → k < length series.steps →
+  pub step_by : HasPlans is_plan → HasRoutings limit is_plan relates → limit ≤ 4096 → (net : Network) → is_well_formed net ≡ true → (traffic : Traffic) →
+      IsTraffic (node_count net) traffic → (failures : Failures) (recovery : Recovery) (plan : Plan) →
+      is_plan net (filter (has_path_in net) traffic.sent.pairs.list) plan → (k : ℕ) → k < length traffic.sent.steps →
       (s : SimulatedStep)
-      × ((s.row.step ≡ k) × IsStep limit is_plan relates low net (marks_of net failures k) series.pairs.list (demands_in series k) recovery plan s.rates.routes s.row)
-  step_by plans routings small net formed series is failures recovery plan planned k below =
-      step_exists plans routings small net (marks_of net failures k) series.pairs.list (demands_in series k) recovery plan formed (marks_count net failures k)
-      (series_pairs net series formed is) (is.matrices k no_matrix below) planned k
+      × ((s.row.step ≡ k) × IsStep limit is_plan relates low net (marks_of net failures k) traffic.sent.pairs.list (predicted_in traffic k) (sent_in traffic k)
+      recovery plan s.rates.routes s.row)
+  step_by plans routings small net formed traffic is failures recovery plan planned k below =
+      let given = given_are (length traffic.sent.pairs.list) (predicted_in traffic k) (sent_in traffic k)
+      (predicted_are (node_count net) traffic k is below) (sent_are (node_count net) traffic k is below) in
+      step_exists plans routings small net (marks_of net failures k) traffic.sent.pairs.list (predicted_in traffic k) (sent_in traffic k) recovery plan formed
+      (marks_count net failures k) (series_pairs net traffic.sent formed is.sent) given planned k
 
   pub steps_exist : StepsExist limit is_plan relates low
-  steps_exist plans routings small net formed series is failures recovery k below =
-      let (plan, planned) = plan_exists plans net series formed is in
-      let (step, (number, is_step)) = step_by plans routings small net formed series is failures recovery plan planned k below in
+  steps_exist plans routings small net formed traffic is failures recovery k below =
+      let (plan, planned) = plan_exists plans net traffic.sent formed is.sent in
+      let (step, (number, is_step)) = step_by plans routings small net formed traffic is failures recovery plan planned k below in
       (step, record { plan = plan; number = number; is_step = is_step })
 
   pub step_rows_exist : StepRowsExist limit is_plan relates low
-  step_rows_exist plans routings small net formed series is failures recovery =
-      let pairs = series.pairs.list in
-      let (plan, planned) = plan_exists plans net series formed is in
+  step_rows_exist plans routings small net formed traffic is failures recovery =
+      let pairs = traffic.sent.pairs.list in
+      let (plan, planned) = plan_exists plans net traffic.sent formed is.sent in
       let (rows, count, each) = list_exists
-      (λ k (row : StepRow). (row.step ≡ k) × IsStepRow limit is_plan relates low net (marks_of net failures k) pairs (demands_in series k) recovery plan row)
-      no_row (length series.steps) (λ k below.
-      let (step, (number, is_step)) = step_by plans routings small net formed series is failures recovery plan planned k below in
+      (λ k (row : StepRow).
+      (row.step ≡ k) × IsStepRow limit is_plan relates low net (marks_of net failures k) pairs (predicted_in traffic k) (sent_in traffic k) recovery plan row)
+      no_row (length traffic.sent.steps) (λ k below.
+      let (step, (number, is_step)) = step_by plans routings small net formed traffic is failures recovery plan planned k below in
       (step.row, (number, (step.rates.routes, is_step)))) in (
         rows,
         record {

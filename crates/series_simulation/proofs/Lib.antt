@@ -9,3 +9,4 @@ pub mod Rowing
 pub mod Marking
 pub mod Existence
 pub mod Standing
+pub mod Predictions

@@ -7,10 +7,11 @@ use Rattle.te_model.specs.declared.route.Pair.{Pair}
 use Rattle.te_model.specs.declared.route.PairRoutes.{PairRoutes}
 use Rattle.failure.specs.declared.outage.Failures.{Failures}
 use Rattle.failure.specs.Series.{marks_of}
-use Rattle.traffic_matrix.specs.declared.series.Series.{Series}
+use Rattle.traffic_matrix.specs.declared.traffic.Traffic.{Traffic}
+use Rattle.traffic_matrix.specs.Traffic.{predicted_in, sent_in}
 use Rattle.plan.specs.declared.recovery.Recovery.{Recovery}
 use Rattle.series_simulation.specs.declared.step_row.StepRow.{StepRow}
-use Rattle.series_simulation.specs.Rows.{AreStepRows, IsStepRow, demands_in, no_row, step_row_at}
+use Rattle.series_simulation.specs.Rows.{AreStepRows, IsStepRow, no_row, step_row_at}
 use Rattle.series_simulation.specs.Simulation.{IsConservedStep}
 
 -- what holds of each row so far and of the next holds of each
@@ -26,12 +27,12 @@ rows_more P rows row n count before here k below = elim (cases_lt k n) [
 
 module _ {Plan Note : Type 0} (limit : ℕ) (is_plan : Network → List Pair → Plan → Type 0)
     (relates : Network → List Pair → Plan → List ℕ → List PairRoutes → Note → Type 0) (low : Note → Option ℕ)
-    (net : Network) (series : Series) (failures : Failures) (recovery : Recovery) (plan : Plan) where
+    (net : Network) (traffic : Traffic) (failures : Failures) (recovery : Recovery) (plan : Plan) where
   -- the row of step k, by the plan
   pub record IsRowOf (k : ℕ) (r : StepRow) : Type 0 where
     pub step : r.step ≡ k
-    pub row : IsStepRow limit is_plan relates low net (marks_of net failures k) series.pairs.list (demands_in series k) recovery plan r
-    pub conserved : IsConservedStep (demands_in series k) r.result
+    pub row : IsStepRow limit is_plan relates low net (marks_of net failures k) traffic.sent.pairs.list (predicted_in traffic k) (sent_in traffic k) recovery plan r
+    pub conserved : IsConservedStep (sent_in traffic k) r.result
 
   -- the rows of the first n steps
   pub record AreRowsBefore (n : ℕ) (rows : List StepRow) : Type 0 where
@@ -47,8 +48,8 @@ module _ {Plan Note : Type 0} (limit : ℕ) (is_plan : Network → List Pair →
     each = rows_more IsRowOf rows row n before.count before.each here;
   }
 
-  pub rows_end : (n : ℕ) (rows : List StepRow) → n ≡ length series.steps → AreRowsBefore n rows →
-      AreStepRows limit is_plan relates low net series failures recovery rows
+  pub rows_end : (n : ℕ) (rows : List StepRow) → n ≡ length traffic.sent.steps → AreRowsBefore n rows →
+      AreStepRows limit is_plan relates low net traffic failures recovery rows
   rows_end n rows all before = record {
     plan = plan;
     count = before.count ∙ all;

@@ -1,18 +1,24 @@
 -- What the pairs of a series promise, and those of them that pass a test.
-use Rattle.std.proofs.Common.{◌≡◌, Bool, true, not, List, filter, get_or, arith, refl}
+use Rattle.std.proofs.Common.{◌≡◌, ℕ, ◌<◌, Bool, true, not, List, length, filter, get_or, Option, Some, None, arith, refl, subst}
+use Rattle.std.specs.Prelude.{MatchOption}
+use Rattle.std.specs.Option.{option_map}
 use Rattle.std.proofs.lemmas.List.Elements.{All-filter, All-get_or, All-weaker, filter_passes}
 use Rattle.std.proofs.lemmas.List.Filters.{length-filter_both}
 use Rattle.te_model.specs.declared.network.Network.{Network}
 use Rattle.te_model.specs.declared.route.Pair.{Pair}
 use Rattle.te_model.specs.Network.{is_well_formed, node_count}
-use Rattle.te_model.specs.Pairs.{no_pair}
+use Rattle.te_model.specs.Pairs.{AreDemands, no_pair}
 use Rattle.te_model.proofs.FewPairs.{network_pairs_few}
 use Rattle.failure.specs.Survivor.{survivor_of}
 use Rattle.scheme.specs.Reach.{AllReached, ArePairsOf, IsPairOf}
 use Rattle.local_recovery.specs.Rates.{ArePairs}
 use Rattle.traffic_matrix.specs.declared.series.Series.{Series}
+use Rattle.traffic_matrix.specs.declared.traffic.Traffic.{Traffic}
 use Rattle.traffic_matrix.specs.Limits.{IsSeries}
+use Rattle.traffic_matrix.specs.Text.{no_matrix}
+use Rattle.traffic_matrix.specs.Traffic.{ArePredictionsFor, IsTraffic, demands_in, predicted_in, sent_in}
 use Rattle.series_simulation.specs.Connected.{TellsPaths}
+use Rattle.series_simulation.specs.Rows.{AreDemandsIfSome, given_demands}
 
 -- pairs as schemes want them
 pub series_pairs : (net : Network) (series : Series) → is_well_formed net ≡ true → IsSeries (node_count net) series → ArePairsOf net series.pairs.list
@@ -49,3 +55,24 @@ surviving_pairs net failed pairs are = record {
       (λ p of. record { src_inside = of.src_inside; dst_inside = of.dst_inside; apart = of.apart }) pairs are.each;
   few = are.few;
 }
+
+-- one demand for each pair, of what is sent and of what is predicted
+pub sent_are : (n : ℕ) (traffic : Traffic) (k : ℕ) → IsTraffic n traffic → k < length traffic.sent.steps → AreDemands (length traffic.sent.pairs.list) (sent_in traffic k)
+sent_are n traffic k is below = is.sent.matrices k no_matrix below
+
+pub predicted_are : (n : ℕ) (traffic : Traffic) (k : ℕ) → IsTraffic n traffic → k < length traffic.sent.steps →
+    AreDemandsIfSome (length traffic.sent.pairs.list) (predicted_in traffic k)
+predicted_are n traffic k is below = go traffic.predicted is.predicted
+  where
+    go : (o : Option Series) → MatchOption o (Unit {0}) (ArePredictionsFor n traffic.sent) →
+        AreDemandsIfSome (length traffic.sent.pairs.list) (option_map (λ s. demands_in s k) o)
+    go None none = tt
+    go (Some predictions) are =
+        subst (λ (pairs : List Pair). AreDemands (length pairs) (demands_in predictions k)) are.pairs
+        (are.series.matrices k no_matrix (omega (arith, below, are.count)))
+
+-- so of what a scheme is given
+pub given_are : (count : ℕ) (predicted : Option (List ℕ)) (demand : List ℕ) → AreDemandsIfSome count predicted → AreDemands count demand →
+    AreDemands count (given_demands predicted demand)
+given_are count None demand predictions are = are
+given_are count (Some other) demand predictions are = predictions

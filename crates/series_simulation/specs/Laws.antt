@@ -1,5 +1,5 @@
 -- The rows of a scheme over a series and its steps exist where its plans and routings do, as statements.
-use Rattle.std.specs.Prelude.{◌≡◌, ℕ, ◌<◌, ◌≤◌, IsTrue, List, Option, length}
+use Rattle.std.specs.Prelude.{◌≡◌, ◌↔◌, ℕ, ◌<◌, ◌≤◌, IsTrue, List, Option, None, length}
 use Rattle.te_model.specs.declared.network.Network.{Network}
 use Rattle.te_model.specs.declared.route.Pair.{Pair}
 use Rattle.te_model.specs.declared.route.PairRoutes.{PairRoutes}
@@ -7,8 +7,8 @@ use Rattle.te_model.specs.Network.{is_well_formed, node_count}
 use Rattle.routing.specs.Routes.{AreDemands, IsRoutingOf, HasFewPaths}
 use Rattle.scheme.specs.Reach.{AllReached, ArePairsOf}
 use Rattle.failure.specs.declared.outage.Failures.{Failures}
-use Rattle.traffic_matrix.specs.declared.series.Series.{Series}
-use Rattle.traffic_matrix.specs.Limits.{IsSeries}
+use Rattle.traffic_matrix.specs.declared.traffic.Traffic.{Traffic}
+use Rattle.traffic_matrix.specs.Traffic.{IsTraffic, known_traffic}
 use Rattle.plan.specs.declared.recovery.Recovery.{Recovery}
 use Rattle.series_simulation.specs.declared.step_row.SimulatedStep.{SimulatedStep}
 use Rattle.series_simulation.specs.declared.step_row.StepRow.{StepRow}
@@ -33,22 +33,32 @@ abbrev pub StepRowsExist : {Plan Note : Type 0} → ℕ → (Network → List Pa
     (Network → List Pair → Plan → List ℕ → List PairRoutes → Note → Type 0) → (Note → Option ℕ) → Type 0
 StepRowsExist limit is_plan relates low =
     HasPlans is_plan → HasRoutings limit is_plan relates → limit ≤ 4096 → (net : Network) → IsTrue (is_well_formed net) →
-    (series : Series) → IsSeries (node_count net) series → (failures : Failures) (recovery : Recovery) →
-    (rows : List StepRow) × AreStepRows limit is_plan relates low net series failures recovery rows
+    (traffic : Traffic) → IsTraffic (node_count net) traffic → (failures : Failures) (recovery : Recovery) →
+    (rows : List StepRow) × AreStepRows limit is_plan relates low net traffic failures recovery rows
 
 -- each step of a series exists, whatever fails and however traffic goes on
 abbrev pub StepsExist : {Plan Note : Type 0} → ℕ → (Network → List Pair → Plan → Type 0) →
     (Network → List Pair → Plan → List ℕ → List PairRoutes → Note → Type 0) → (Note → Option ℕ) → Type 0
 StepsExist limit is_plan relates low =
     HasPlans is_plan → HasRoutings limit is_plan relates → limit ≤ 4096 → (net : Network) → IsTrue (is_well_formed net) →
-    (series : Series) → IsSeries (node_count net) series → (failures : Failures) (recovery : Recovery) (k : ℕ) → k < length series.steps →
-    (step : SimulatedStep) × IsStepAt limit is_plan relates low net series failures recovery k step
+    (traffic : Traffic) → IsTraffic (node_count net) traffic → (failures : Failures) (recovery : Recovery) (k : ℕ) → k < length traffic.sent.steps →
+    (step : SimulatedStep) × IsStepAt limit is_plan relates low net traffic failures recovery k step
 
 -- the row of each step of a series stands in rows of the series
 abbrev pub StepsStandInRows : {Plan Note : Type 0} → ℕ → (Network → List Pair → Plan → Type 0) →
     (Network → List Pair → Plan → List ℕ → List PairRoutes → Note → Type 0) → (Note → Option ℕ) → Type 0
 StepsStandInRows limit is_plan relates low =
     HasPlans is_plan → HasRoutings limit is_plan relates → limit ≤ 4096 → (net : Network) → IsTrue (is_well_formed net) →
-    (series : Series) → IsSeries (node_count net) series → (failures : Failures) (recovery : Recovery) (k : ℕ) → k < length series.steps →
-    (step : SimulatedStep) → IsStepAt limit is_plan relates low net series failures recovery k step →
-    (rows : List StepRow) × AreStepRows limit is_plan relates low net series failures recovery rows × (step_row_at rows k ≡ step.row)
+    (traffic : Traffic) → IsTraffic (node_count net) traffic → (failures : Failures) (recovery : Recovery) (k : ℕ) → k < length traffic.sent.steps →
+    (step : SimulatedStep) → IsStepAt limit is_plan relates low net traffic failures recovery k step →
+    (rows : List StepRow) × AreStepRows limit is_plan relates low net traffic failures recovery rows × (step_row_at rows k ≡ step.row)
+
+-- a scheme that keeps one routing for every matrix, and states no bound, has just the rows that it has without predictions
+abbrev pub PredictionsChangeNothing : {Plan Note : Type 0} → ℕ → (Network → List Pair → Plan → Type 0) →
+    (Network → List Pair → Plan → List ℕ → List PairRoutes → Note → Type 0) → (Note → Option ℕ) → Type 0
+PredictionsChangeNothing {Plan} {Note} limit is_plan relates low =
+    ((net : Network) (pairs : List Pair) (plan : Plan) (one other : List ℕ) (routes : List PairRoutes) (note : Note) →
+    relates net pairs plan one routes note → relates net pairs plan other routes note) →
+    ((note : Note) → low note ≡ None) → (net : Network) (traffic : Traffic) (failures : Failures) (recovery : Recovery) (rows : List StepRow) →
+    AreStepRows limit is_plan relates low net traffic failures recovery rows ↔
+    AreStepRows limit is_plan relates low net (known_traffic traffic.sent) failures recovery rows

@@ -1,18 +1,18 @@
 -- The rows of a report: a scheme routes the matrix of each step, and the step is simulated (after YATES; Kumar et al., 2018).
-use Rattle.std.specs.Prelude.{ℕ, ◌≡◌, ◌<◌, Bool, false, List, [], length, filter, Option, None, MatchBool, slice_index_or}
+use Rattle.std.specs.Prelude.{ℕ, ◌≡◌, ◌<◌, Bool, false, List, [], length, filter, Option, Some, None, MatchBool, slice_index_or}
 use Rattle.std.specs.List.{list_any}
 use Rattle.te_model.specs.declared.network.Network.{Network}
 use Rattle.te_model.specs.declared.route.Pair.{Pair}
 use Rattle.te_model.specs.declared.route.PairRoutes.{PairRoutes}
-use Rattle.routing.specs.Routes.{IsRoutingOf, HasFewPaths}
+use Rattle.routing.specs.Routes.{AreDemands, IsRoutingOf, HasFewPaths}
 use Rattle.routing.specs.Utilisation.{parts}
 use Rattle.failure.specs.declared.outage.Failures.{Failures}
 use Rattle.failure.specs.Series.{marks_of}
 use Rattle.failure.specs.Survivor.{survivor_of}
 use Rattle.local_recovery.specs.declared.mode.Mode.{Mode}
 use Rattle.local_recovery.specs.declared.mode.Mode.TheVariants as mode
-use Rattle.traffic_matrix.specs.declared.series.Series.{Series}
-use Rattle.traffic_matrix.specs.Text.{no_matrix}
+use Rattle.traffic_matrix.specs.declared.traffic.Traffic.{Traffic}
+use Rattle.traffic_matrix.specs.Traffic.{predicted_in, sent_in}
 use Rattle.plan.specs.declared.recovery.Recovery.{Recovery}
 use Rattle.plan.specs.declared.recovery.Recovery.TheVariants.{Keep, Scale, Bypass, Reroute}
 use Rattle.series_simulation.specs.declared.step_row.SimulatedStep.{SimulatedStep}
@@ -21,9 +21,20 @@ use Rattle.series_simulation.specs.Connected.{TellsPaths, demands_of}
 use Rattle.series_simulation.specs.OriginalLinks.{original_routes}
 use Rattle.series_simulation.specs.Simulation.{IsSimulated, peak_of}
 
--- the demands of a step
-abbrev pub demands_in : Series → ℕ → List ℕ
-demands_in series k = (slice_index_or series.steps k no_matrix).demand
+-- the demands that a scheme is given in a step: those that are predicted for it, or those that are sent
+abbrev pub given_demands : Option (List ℕ) → List ℕ → List ℕ
+given_demands None sent = sent
+given_demands (Some predicted) sent = predicted
+
+-- the demands that are predicted, if any are, are one for each pair
+abbrev pub AreDemandsIfSome : ℕ → Option (List ℕ) → Type 0
+AreDemandsIfSome pairs None = Unit {0}
+AreDemandsIfSome pairs (Some demand) = AreDemands pairs demand
+
+-- the bound of what is sent: a bound for predicted demands is none for it
+abbrev pub bound_of_sent : Option (List ℕ) → Option ℕ → Option ℕ
+bound_of_sent None bound = bound
+bound_of_sent (Some predicted) bound = None
 
 -- how traffic goes on where links of its paths have failed; a routing that is made anew is kept
 abbrev pub mode_of : Recovery → Mode
@@ -56,52 +67,52 @@ step_row_at rows k = slice_index_or rows k no_row
 -- stand to one another, and the lower bound that a note states.
 module _ {Plan Note : Type 0} (limit : ℕ) (is_plan : Network → List Pair → Plan → Type 0)
     (relates : Network → List Pair → Plan → List ℕ → List PairRoutes → Note → Type 0) (low : Note → Option ℕ) where
-  -- the scheme's routing of the pairs that have a path in the network and of the matrix of these pairs, by a plan for them, within its
-  -- number of paths, with its greatest utilisation and the bound of the scheme's note
-  pub record IsRouted (net : Network) (pairs : List Pair) (demand : List ℕ) (plan : Plan) (routes : List PairRoutes) (most : ℕ) (bound : Option ℕ) : Type 0 where
+  -- the scheme's routing of the pairs that have a path in the network and of the matrix of these pairs that it is given, by a plan for
+  -- them, within its number of paths, with its greatest utilisation by what is sent and the bound of that
+  pub record IsRouted (net : Network) (pairs : List Pair) (predicted : Option (List ℕ)) (demand : List ℕ) (plan : Plan) (routes : List PairRoutes) (most : ℕ) (bound : Option ℕ) : Type 0 where
     pub has_path : Pair → Bool
     pub tells : TellsPaths net has_path
     pub planned : is_plan net (filter has_path pairs) plan
     pub routing : IsRoutingOf net (filter has_path pairs) routes
     pub few : HasFewPaths limit routes
     pub note : Note
-    pub related : relates net (filter has_path pairs) plan (demands_of has_path pairs demand) routes note
+    pub related : relates net (filter has_path pairs) plan (demands_of has_path pairs (given_demands predicted demand)) routes note
     pub most_is : most ≡ parts net routes (demands_of has_path pairs demand)
-    pub bound_is : bound ≡ low note
+    pub bound_is : bound ≡ bound_of_sent predicted (low note)
 
   -- the same for the network that is left of failed links, by a plan of its own, and then by the numbers that its links had before
-  pub record IsReroutedOn (net : Network) (failed : List Bool) (pairs : List Pair) (demand : List ℕ) (routes : List PairRoutes) (most : ℕ) (bound : Option ℕ) : Type 0 where
+  pub record IsReroutedOn (net : Network) (failed : List Bool) (pairs : List Pair) (predicted : Option (List ℕ)) (demand : List ℕ) (routes : List PairRoutes) (most : ℕ) (bound : Option ℕ) : Type 0 where
     pub plan : Plan
     pub own : List PairRoutes
-    pub routed : IsRouted (survivor_of net failed).network pairs demand plan own most bound
+    pub routed : IsRouted (survivor_of net failed).network pairs predicted demand plan own most bound
     pub mapped : routes ≡ original_routes (survivor_of net failed).origin own
 
   -- the routing of a step
-  abbrev pub IsStepRouting : Network → List Bool → List Pair → List ℕ → Recovery → Plan → List PairRoutes → ℕ → Option ℕ → Type 0
-  IsStepRouting net failed pairs demand recovery plan routes most bound =
-      MatchBool (is_rerouted recovery failed) (IsReroutedOn net failed pairs demand routes most bound) (IsRouted net pairs demand plan routes most bound)
+  abbrev pub IsStepRouting : Network → List Bool → List Pair → Option (List ℕ) → List ℕ → Recovery → Plan → List PairRoutes → ℕ → Option ℕ → Type 0
+  IsStepRouting net failed pairs predicted demand recovery plan routes most bound =
+      MatchBool (is_rerouted recovery failed) (IsReroutedOn net failed pairs predicted demand routes most bound) (IsRouted net pairs predicted demand plan routes most bound)
 
   -- a step, by a plan for the whole network: the rates that its demands take, after any recovery, and its row
-  pub record IsStep (net : Network) (failed : List Bool) (pairs : List Pair) (demand : List ℕ) (recovery : Recovery) (plan : Plan) (rates : List PairRoutes) (row : StepRow) : Type 0 where
+  pub record IsStep (net : Network) (failed : List Bool) (pairs : List Pair) (predicted : Option (List ℕ)) (demand : List ℕ) (recovery : Recovery) (plan : Plan) (rates : List PairRoutes) (row : StepRow) : Type 0 where
     pub routes : List PairRoutes
-    pub routed : IsStepRouting net failed pairs demand recovery plan routes row.parts row.low
+    pub routed : IsStepRouting net failed pairs predicted demand recovery plan routes row.parts row.low
     pub simulated : IsSimulated (mode_of recovery) net failed pairs demand routes rates row.result
     pub peak_is : row.peak ≡ peak_of net row.result.carried
 
   -- the row of a step
-  abbrev pub IsStepRow : Network → List Bool → List Pair → List ℕ → Recovery → Plan → StepRow → Type 0
-  IsStepRow net failed pairs demand recovery plan row = (rates : List PairRoutes) × IsStep net failed pairs demand recovery plan rates row
+  abbrev pub IsStepRow : Network → List Bool → List Pair → Option (List ℕ) → List ℕ → Recovery → Plan → StepRow → Type 0
+  IsStepRow net failed pairs predicted demand recovery plan row = (rates : List PairRoutes) × IsStep net failed pairs predicted demand recovery plan rates row
 
-  -- one row for each step of the series, in order; one plan serves all steps for which the scheme is not prepared anew
-  pub record AreStepRows (net : Network) (series : Series) (failures : Failures) (recovery : Recovery) (rows : List StepRow) : Type 0 where
+  -- one row for each step of the traffic, in order; one plan serves all steps for which the scheme is not prepared anew
+  pub record AreStepRows (net : Network) (traffic : Traffic) (failures : Failures) (recovery : Recovery) (rows : List StepRow) : Type 0 where
     pub plan : Plan
-    pub count : length rows ≡ length series.steps
+    pub count : length rows ≡ length traffic.sent.steps
     pub steps : (k : ℕ) → k < length rows → (step_row_at rows k).step ≡ k
     pub each : (k : ℕ) → k < length rows →
-        IsStepRow net (marks_of net failures k) series.pairs.list (demands_in series k) recovery plan (step_row_at rows k)
+        IsStepRow net (marks_of net failures k) traffic.sent.pairs.list (predicted_in traffic k) (sent_in traffic k) recovery plan (step_row_at rows k)
 
-  -- step k of the series, by some plan
-  pub record IsStepAt (net : Network) (series : Series) (failures : Failures) (recovery : Recovery) (k : ℕ) (step : SimulatedStep) : Type 0 where
+  -- step k of the traffic, by some plan
+  pub record IsStepAt (net : Network) (traffic : Traffic) (failures : Failures) (recovery : Recovery) (k : ℕ) (step : SimulatedStep) : Type 0 where
     pub plan : Plan
     pub number : step.row.step ≡ k
-    pub is_step : IsStep net (marks_of net failures k) series.pairs.list (demands_in series k) recovery plan step.rates.routes step.row
+    pub is_step : IsStep net (marks_of net failures k) traffic.sent.pairs.list (predicted_in traffic k) (sent_in traffic k) recovery plan step.rates.routes step.row

@@ -1,5 +1,5 @@
 //! The rows of a scheme over a series and its steps exist where its plans and routings do.
-ghost use Rattle.series_simulation.specs.Laws.{StepRowsExist, StepsExist, StepsStandInRows};
+ghost use Rattle.series_simulation.specs.Laws.{StepRowsExist, PredictionsChangeNothing, StepsExist, StepsStandInRows};
 
 use scheme::Scheme;
 
@@ -17,4 +17,9 @@ pub fn steps_exist<S: Scheme>(_scheme: &S)
 /// And the row of each step stands in rows of the series: what is said of a step in detail is said of a row of a report.
 pub fn steps_stand_in_rows<S: Scheme>(_scheme: &S)
     ensures { StepsStandInRows S.PATHS (S.is_plan _scheme.now) (S.relates _scheme.now) S.Note.low }
+{}
+
+/// A scheme whose routing is one for every matrix, and that states no bound, has just the rows that it has without predictions.
+pub fn predictions_change_nothing<S: Scheme>(_scheme: &S)
+    ensures { PredictionsChangeNothing S.PATHS (S.is_plan _scheme.now) (S.relates _scheme.now) S.Note.low }
 {}

@@ -4,7 +4,8 @@
 //! - `prepare_connected`, `row_of`: what serves all steps, a `Preparation`, and the row of one of them.
 //! - `step_of`: the same step, with the paths that its demands took.
 //! - `step_rows_exist`, `steps_exist`, `steps_stand_in_rows`: every series has rows, each of its steps exists, and the row of each step
-//!   is one of such rows, where the scheme has plans and routings.
+//!   is one of such rows, where the scheme has plans and routings. `predictions_change_nothing`: where it keeps one routing for all
+//!   matrices and states no bound, its rows are those that it has without predictions.
 //! - `matrix_of`: the matrix of a step. `utilisation`: how far a link is used.
 //! - `StepRow`: what became of the traffic of a step, and how far the links were used. `SimulatedStep`: the same with the paths.
 #![tactic(auto)]
@@ -22,7 +23,7 @@ mod step_routing;
 mod step_row;
 mod step_simulation;
 
-pub use law::{step_rows_exist, steps_exist, steps_stand_in_rows};
+pub use law::{predictions_change_nothing, step_rows_exist, steps_exist, steps_stand_in_rows};
 pub use peak::utilisation;
 pub use preparation::{Preparation, prepare_connected};
 pub use series_rows::{drive, matrix_of, row_of, step_of};

@@ -1,11 +1,12 @@
 //! The rows of a scheme over a series of matrices, one for each step.
 ghost use Rattle.std.specs.Prelude.{◌≡◌, ◌<◌, ◌≤◌, ℕ, All, IfOk, IsTrue, filter, length};
+ghost use Rattle.std.specs.Option.{option_map};
 ghost use Rattle.te_model.specs.Network.{is_well_formed, link_count, node_count};
 ghost use Rattle.te_model.specs.Pairs.{AreDemands};
 ghost use Rattle.local_recovery.specs.Rates.{IsRates};
-ghost use Rattle.traffic_matrix.specs.Limits.{IsSeries};
+ghost use Rattle.traffic_matrix.specs.Traffic.{IsTraffic, demands_in, predicted_in, sent_in};
 ghost use Rattle.series_simulation.specs.Connected.{TellsPaths, connects};
-ghost use Rattle.series_simulation.specs.Rows.{AreStepRows, IsStep, IsStepRow, demands_in, step_row_at};
+ghost use Rattle.series_simulation.specs.Rows.{AreDemandsIfSome, AreStepRows, IsStep, IsStepRow, step_row_at};
 ghost use Rattle.series_simulation.specs.Simulation.{IsConservedStep};
 
 use crate::peak::peak;
@@ -19,7 +20,7 @@ use plan::Recovery;
 use scheme::Scheme;
 use std::alloc::Global;
 use te_model::{Items, Matrix, Memory, Network};
-use traffic_matrix::Series;
+use traffic_matrix::{Series, Traffic};
 
 /// The matrix of the step.
 pub fn matrix_of(series: &Series, step: u32) -> &Matrix
@@ -31,38 +32,53 @@ pub fn matrix_of(series: &Series, step: u32) -> &Matrix
     &series.steps.as_slice()[step as usize]
 }
 
+/// The predicted matrix of the step, if matrices are predicted.
+fn predicted_of(traffic: &Traffic, step: u32) -> Option<&Matrix>
+    requires traffic { (n : ℕ) × IsTraffic n traffic.now }
+    requires step { step < length traffic.now.sent.steps }
+    ensures predicted { option_map (λ m. m.now.demand) result ≡ predicted_in traffic.now step }
+    ensures demands { AreDemandsIfSome (length traffic.now.sent.pairs.list) (option_map (λ m. m.now.demand) result) }
+{
+    match &traffic.predicted {
+        Some(predicted) => Some(matrix_of(predicted, step)),
+        None => None,
+    }
+}
+
 /// A step in which the marked links have failed, by what was prepared for the network.
 ///
-/// The scheme routes the matrix of the pairs that have a path, and what is left of its routing takes the demands of the step; the other
-/// pairs lose theirs for want of a path. Under `Reroute`, where a link has failed, the scheme is prepared anew on the network without
-/// its failed links, for the pairs that have a path there. `failed` has one mark for each link. `Memory` comes where memory is wanting.
+/// The scheme routes the matrix of the pairs that have a path, the predicted one where matrices are predicted, and what is left of its
+/// routing takes the demands that are sent; the other pairs lose theirs for want of a path. Under `Reroute`, where a link has failed, the
+/// scheme is prepared anew on the network without its failed links, for the pairs that have a path there. `failed` has one mark for each
+/// link. `Memory` comes where memory is wanting.
 pub fn step_of<S: Scheme>(
     alloc: Global,
     scheme: &S,
     net: &Network,
     prepared: &Preparation<S::Plan>,
-    series: &Series,
+    traffic: &Traffic,
     failed: &[bool],
     recovery: Recovery,
     step: u32,
 ) -> Result<SimulatedStep, Memory>
     requires network { IsTrue (is_well_formed net.now) }
-    requires series { IsSeries (node_count net.now) series.now }
+    requires traffic { IsTraffic (node_count net.now) traffic.now }
     requires marks { length failed.now ≡ link_count net.now }
     requires paths { S.PATHS ≤ 4096 }
     requires tells { TellsPaths net.now (connects prepared.now.reach) }
-    requires planned { S.is_plan scheme.now net.now (filter (connects prepared.now.reach) series.now.pairs.list) prepared.now.plan }
-    requires step { step < length series.now.steps }
+    requires planned { S.is_plan scheme.now net.now (filter (connects prepared.now.reach) traffic.now.sent.pairs.list) prepared.now.plan }
+    requires step { step < length traffic.now.sent.steps }
     ensures number { IfOk result (λ s. s.row.step ≡ step) }
     ensures step { IfOk result (λ s. IsStep S.PATHS (S.is_plan scheme.now) (S.relates scheme.now) S.Note.low net.now failed.now
-        series.now.pairs.list (demands_in series.now step) recovery prepared.now.plan s.rates.routes s.row) }
+        traffic.now.sent.pairs.list (predicted_in traffic.now step) (sent_in traffic.now step) recovery prepared.now.plan s.rates.routes s.row) }
     ensures rates { IfOk result (λ s. IsRates net.now s.rates.routes) }
-    ensures conserved { IfOk result (λ s. IsConservedStep (demands_in series.now step) s.row.result) }
+    ensures conserved { IfOk result (λ s. IsConservedStep (sent_in traffic.now step) s.row.result) }
 {
-    let pairs = &series.pairs;
-    let matrix = matrix_of(series, step);
+    let pairs = &traffic.sent.pairs;
+    let predicted = predicted_of(traffic, step);
+    let matrix = matrix_of(&traffic.sent, step);
     let routed = step_routing(
-        alloc, scheme, net, prepared, failed, pairs, matrix, recovery,
+        alloc, scheme, net, prepared, failed, pairs, predicted, matrix, recovery,
     )?;
     let mode = mode_of(recovery);
     let simulation = simulate(alloc, mode, net, failed, pairs, matrix, &routed.routing)?;
@@ -88,24 +104,26 @@ pub fn row_of<S: Scheme>(
     scheme: &S,
     net: &Network,
     prepared: &Preparation<S::Plan>,
-    series: &Series,
+    traffic: &Traffic,
     failed: &[bool],
     recovery: Recovery,
     step: u32,
 ) -> Result<StepRow, Memory>
     requires network { IsTrue (is_well_formed net.now) }
-    requires series { IsSeries (node_count net.now) series.now }
+    requires traffic { IsTraffic (node_count net.now) traffic.now }
     requires marks { length failed.now ≡ link_count net.now }
     requires paths { S.PATHS ≤ 4096 }
     requires tells { TellsPaths net.now (connects prepared.now.reach) }
-    requires planned { S.is_plan scheme.now net.now (filter (connects prepared.now.reach) series.now.pairs.list) prepared.now.plan }
-    requires step { step < length series.now.steps }
+    requires planned { S.is_plan scheme.now net.now (filter (connects prepared.now.reach) traffic.now.sent.pairs.list) prepared.now.plan }
+    requires step { step < length traffic.now.sent.steps }
     ensures step { IfOk result (λ row. row.step ≡ step) }
     ensures row { IfOk result (IsStepRow S.PATHS (S.is_plan scheme.now) (S.relates scheme.now) S.Note.low net.now failed.now
-        series.now.pairs.list (demands_in series.now step) recovery prepared.now.plan) }
-    ensures conserved { IfOk result (λ row. IsConservedStep (demands_in series.now step) row.result) }
+        traffic.now.sent.pairs.list (predicted_in traffic.now step) (sent_in traffic.now step) recovery prepared.now.plan) }
+    ensures conserved { IfOk result (λ row. IsConservedStep (sent_in traffic.now step) row.result) }
 {
-    let simulated = step_of(alloc, scheme, net, prepared, series, failed, recovery, step)?;
+    let simulated = step_of(
+        alloc, scheme, net, prepared, traffic, failed, recovery, step,
+    )?;
     Ok(simulated.row)
 }
 
@@ -118,18 +136,18 @@ pub fn drive<S: Scheme>(
     alloc: Global,
     scheme: &S,
     net: &Network,
-    series: &Series,
+    traffic: &Traffic,
     failures: &Failures,
     recovery: Recovery,
 ) -> Result<Items<StepRow>, Memory>
     requires network { IsTrue (is_well_formed net.now) }
-    requires series { IsSeries (node_count net.now) series.now }
+    requires traffic { IsTraffic (node_count net.now) traffic.now }
     requires paths { S.PATHS ≤ 4096 }
-    ensures rows { IfOk result (AreStepRows S.PATHS (S.is_plan scheme.now) (S.relates scheme.now) S.Note.low net.now series.now failures.now recovery) }
-    ensures conserved { IfOk result (λ rows. (k : ℕ) → k < length rows → IsConservedStep (demands_in series.now k) (step_row_at rows k).result) }
+    ensures rows { IfOk result (AreStepRows S.PATHS (S.is_plan scheme.now) (S.relates scheme.now) S.Note.low net.now traffic.now failures.now recovery) }
+    ensures conserved { IfOk result (λ rows. (k : ℕ) → k < length rows → IsConservedStep (sent_in traffic.now k) (step_row_at rows k).result) }
 {
-    let prepared = prepare_connected(alloc, scheme, net, &series.pairs)?;
-    let steps = series.steps.as_slice().len();
+    let prepared = prepare_connected(alloc, scheme, net, &traffic.sent.pairs)?;
+    let steps = traffic.sent.steps.as_slice().len();
     let marks = failures.series(alloc, net, steps)?;
     let mut rows = Vec::new(alloc);
     for step in 0..steps {
@@ -138,7 +156,7 @@ pub fn drive<S: Scheme>(
             scheme,
             net,
             &prepared,
-            series,
+            traffic,
             marks[step].as_slice(),
             recovery,
             step as u32,

@@ -1,5 +1,6 @@
 //! The routing of a step: as it was prepared, or made anew on the network that is left of failed links.
 ghost use Rattle.std.specs.Prelude.{◌≡◌, ◌<◌, ◌≤◌, All, AllPairs, IfOk, IsTrue, filter, length};
+ghost use Rattle.std.specs.Option.{option_map};
 ghost use Rattle.te_model.specs.Network.{is_well_formed, link_count};
 ghost use Rattle.te_model.specs.PathRouting.{IsPathRouting};
 ghost use Rattle.routing.specs.Routes.{AreDemands, HasFewPaths};
@@ -8,7 +9,7 @@ ghost use Rattle.local_recovery.specs.Rates.{pairs_of};
 ghost use Rattle.local_recovery.specs.Spread.{IsSublist};
 ghost use Rattle.series_simulation.specs.Connected.{TellsPaths, connects};
 ghost use Rattle.series_simulation.specs.OriginalLinks.{HavePathsBelow, original_routes};
-ghost use Rattle.series_simulation.specs.Rows.{IsRouted, IsReroutedOn, IsStepRouting};
+ghost use Rattle.series_simulation.specs.Rows.{AreDemandsIfSome, IsRouted, IsReroutedOn, IsStepRouting};
 
 use crate::original_links::original_routes;
 use crate::preparation::{Preparation, prepare_connected};
@@ -26,17 +27,19 @@ fn route_anew<S: Scheme>(
     scheme: &S,
     net: &Network,
     pairs: &Pairs,
+    predicted: Option<&Matrix>,
     matrix: &Matrix,
 ) -> Result<SchemeRouting, Memory>
     requires network { IsTrue (is_well_formed net.now) }
     requires pairs { ArePairsOf net.now pairs.now.list }
+    requires predicted { AreDemandsIfSome (length pairs.now.list) (option_map (λ m. m.now.demand) predicted) }
     requires demands { AreDemands (length pairs.now.list) matrix.now.demand }
     ensures routed { IfOk result (λ r. (plan : S.Plan) × IsRouted S.PATHS (S.is_plan scheme.now) (S.relates scheme.now) S.Note.low net.now
-        pairs.now.list matrix.now.demand plan r.routing.routes r.parts r.low) }
+        pairs.now.list (option_map (λ m. m.now.demand) predicted.entry) matrix.now.demand plan r.routing.routes r.parts r.low) }
     ensures few { IfOk result (λ r. HasFewPaths S.PATHS r.routing.routes) }
 {
     let prepared = prepare_connected(alloc, scheme, net, pairs)?;
-    route_connected(alloc, scheme, net, &prepared, pairs, matrix)
+    route_connected(alloc, scheme, net, &prepared, pairs, predicted, matrix)
 }
 
 /// The same routing by the numbers that the links have in the whole network.
@@ -67,20 +70,22 @@ fn reroute<S: Scheme>(
     net: &Network,
     failed: &[bool],
     pairs: &Pairs,
+    predicted: Option<&Matrix>,
     matrix: &Matrix,
 ) -> Result<SchemeRouting, Memory>
     requires network { IsTrue (is_well_formed net.now) }
     requires marks { length failed.now ≡ link_count net.now }
     requires pairs { ArePairsOf net.now pairs.now.list }
+    requires predicted { AreDemandsIfSome (length pairs.now.list) (option_map (λ m. m.now.demand) predicted) }
     requires demands { AreDemands (length pairs.now.list) matrix.now.demand }
     ensures rerouted { IfOk result (λ r. IsReroutedOn S.PATHS (S.is_plan scheme.now) (S.relates scheme.now) S.Note.low net.now failed.now
-        pairs.now.list matrix.now.demand r.routing.routes r.parts r.low) }
+        pairs.now.list (option_map (λ m. m.now.demand) predicted.entry) matrix.now.demand r.routing.routes r.parts r.low) }
     ensures routing { IfOk result (λ r. IsPathRouting net.now r.routing.routes) }
     ensures pairs { IfOk result (λ r. IsSublist (pairs_of r.routing.routes) pairs.now.list) }
     ensures few { IfOk result (λ r. HasFewPaths S.PATHS r.routing.routes) }
 {
     let survivor = surviving(alloc, net, failed)?;
-    let own = route_anew(alloc, scheme, &survivor.network, pairs, matrix)?;
+    let own = route_anew(alloc, scheme, &survivor.network, pairs, predicted, matrix)?;
     original_routing(alloc, survivor.origin.as_slice(), &own)
 }
 
@@ -94,6 +99,7 @@ pub fn step_routing<S: Scheme>(
     prepared: &Preparation<S::Plan>,
     failed: &[bool],
     pairs: &Pairs,
+    predicted: Option<&Matrix>,
     matrix: &Matrix,
     recovery: Recovery,
 ) -> Result<SchemeRouting, Memory>
@@ -102,18 +108,19 @@ pub fn step_routing<S: Scheme>(
     requires pairs { ArePairsOf net.now pairs.now.list }
     requires tells { TellsPaths net.now (connects prepared.now.reach) }
     requires planned { S.is_plan scheme.now net.now (filter (connects prepared.now.reach) pairs.now.list) prepared.now.plan }
+    requires predicted { AreDemandsIfSome (length pairs.now.list) (option_map (λ m. m.now.demand) predicted) }
     requires demands { AreDemands (length pairs.now.list) matrix.now.demand }
     ensures routed { IfOk result (λ r. IsStepRouting S.PATHS (S.is_plan scheme.now) (S.relates scheme.now) S.Note.low net.now failed.now
-        pairs.now.list matrix.now.demand recovery prepared.now.plan r.routing.routes r.parts r.low) }
+        pairs.now.list (option_map (λ m. m.now.demand) predicted.entry) matrix.now.demand recovery prepared.now.plan r.routing.routes r.parts r.low) }
     ensures routing { IfOk result (λ r. IsPathRouting net.now r.routing.routes) }
     ensures pairs { IfOk result (λ r. IsSublist (pairs_of r.routing.routes) pairs.now.list) }
     ensures few { IfOk result (λ r. HasFewPaths S.PATHS r.routing.routes) }
 {
     if is_rerouted(recovery, failed) {
-        let anew = reroute(alloc, scheme, net, failed, pairs, matrix)?;
+        let anew = reroute(alloc, scheme, net, failed, pairs, predicted, matrix)?;
         Ok(anew)
     } else {
-        let routed = route_connected(alloc, scheme, net, prepared, pairs, matrix)?;
+        let routed = route_connected(alloc, scheme, net, prepared, pairs, predicted, matrix)?;
         Ok(routed)
     }
 }

@@ -4,17 +4,17 @@ use Rattle.std.proofs.lemmas.List.FromFn.{length-map-range_with_len}
 use Rattle.failure.specs.Series.{marks_of}
 use Rattle.flow_sim.specs.Result.{pair_result}
 use Rattle.flow_sim.proofs.AskedLaws.{asked_near_load}
-use Rattle.series_simulation.specs.Rows.{demands_in}
+use Rattle.traffic_matrix.specs.Traffic.{sent_in}
 use Rattle.series_simulation.proofs.Standing.{steps_stand_in_rows}
 use Rattle.experiment.specs.Schemes.{meaning_of}
 use Rattle.experiment.proofs.SchemePlans.{name_routings}
 use Rattle.step_detail.specs.Laws.{StepsAgreeWithRows, StepsStandInReports}
 
 pub agree : StepsAgreeWithRows
-agree name plan net series failures k range formed is below step at =
+agree name plan net traffic failures k range formed is below step at =
     let of = at.is_step.simulated in
     let failed = marks_of net failures k in
-    let demand = demands_in series k in
+    let demand = sent_in traffic k in
     record {
       pairs = of.spread.pairs_are;
       results = ap length of.per_pair ∙ length-map-range_with_len (pair_result net failed step.rates.routes demand) 0 (length step.rates.routes);
@@ -28,8 +28,8 @@ agree name plan net series failures k range formed is below step at =
     }
 
 pub stand : StepsStandInReports
-stand name plan net series failures k range formed is below step at =
+stand name plan net traffic failures k range formed is below step at =
     let scheme = meaning_of name plan in
     let can = name_routings plan range name in
-    steps_stand_in_rows scheme.limit scheme.is_plan scheme.relates scheme.low can.plans can.routings can.few net formed series is failures plan.recovery k below
+    steps_stand_in_rows scheme.limit scheme.is_plan scheme.relates scheme.low can.plans can.routings can.few net formed traffic is failures plan.recovery k below
     step at

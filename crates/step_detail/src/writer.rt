@@ -3,7 +3,7 @@ ghost use Rattle.std.specs.Prelude.{◌≡◌, ◌++◌, ◌<◌, All, IfOk, IsT
 ghost use Rattle.te_model.specs.Network.{is_well_formed, link_count, node_count};
 ghost use Rattle.te_model.specs.Pairs.{AreDemands, IsPairAmong};
 ghost use Rattle.local_recovery.specs.Rates.{IsRates};
-ghost use Rattle.traffic_matrix.specs.Limits.{IsSeries};
+ghost use Rattle.traffic_matrix.specs.Traffic.{IsTraffic};
 ghost use Rattle.plan.specs.Plan.{InRange};
 ghost use Rattle.step_detail.specs.Breakdown.{IsBreakdown, lines_of};
 ghost use Rattle.step_detail.specs.Pairs.{AreLeastCosts};
@@ -20,7 +20,7 @@ use failure::Failures;
 use series_simulation::{SimulatedStep, matrix_of};
 use std::alloc::Global;
 use te_model::{Matrix, Memory, Network, Pair};
-use traffic_matrix::Series;
+use traffic_matrix::Traffic;
 
 /// The least costs of the pairs where the breakdown has them.
 fn least_costs_of(
@@ -77,26 +77,26 @@ pub fn breakdown_text(
     breakdown: Breakdown,
     plan: &Experiment,
     network: &Network,
-    series: &Series,
+    traffic: &Traffic,
     failures: &Failures,
     step: u32,
 ) -> Result<Vec<u8>, Memory>
     requires plan { InRange plan.now }
     requires network { IsTrue (is_well_formed network.now) }
-    requires series { IsSeries (node_count network.now) series.now }
-    requires step { step < length series.now.steps }
-    ensures { IfOk result (λ text. IsBreakdown breakdown plan.now network.now series.now failures.now step text.items) }
+    requires traffic { IsTraffic (node_count network.now) traffic.now }
+    requires step { step < length traffic.now.sent.steps }
+    ensures { IfOk result (λ text. IsBreakdown breakdown plan.now network.now traffic.now failures.now step text.items) }
 {
     let failed = failures.marks(alloc, network, step)?;
     let marks = failed.as_slice();
-    let matrix = matrix_of(series, step);
-    let pairs = series.pairs.list.as_slice();
+    let matrix = matrix_of(&traffic.sent, step);
+    let pairs = traffic.sent.pairs.list.as_slice();
     let least = least_costs_of(alloc, breakdown, network, pairs)?;
     let costs = least.as_slice();
     let header = breakdown.header();
     let mut text = Vec::from_slice(alloc, header.as_bytes())?;
     for name in plan.schemes.as_slice() {
-        let simulated = scheme_step(alloc, *name, plan, network, series, failures, step)?;
+        let simulated = scheme_step(alloc, *name, plan, network, traffic, failures, step)?;
         let word = name.word();
         add_lines(
             alloc, &mut text, breakdown, word, network, marks, matrix, costs, &simulated,

@@ -18,7 +18,7 @@ use Rattle.traffic_matrix.specs.Limits.{IsSeries}
 use Rattle.traffic_matrix.proofs.DemandLemmas.{pair-within}
 use Rattle.traffic_matrix.proofs.LimitLemmas.{All-where, all-ascend}
 
-all-within : (n : ℕ) → All (IsNodePair n) (all_pairs n)
+pub all-within : (n : ℕ) → All (IsNodePair n) (all_pairs n)
 all-within n k d low =
     let inside : k < n * n = omega (arith, length-map-range_with_len (pair_of_place n) 0 (n * n)) in
     rw (get_or-map-range_with_len (pair_of_place n) 0 (n * n) k k d inside (omega arith)) (pair-within n k inside)

@@ -1,11 +1,15 @@
 mod RowLemmas
 mod NodeLemmas
 mod TableLemmas
+mod PairLists
 mod DemandLemmas
 mod Reading
 pub mod LimitLemmas
 pub mod GravityLemmas
 pub mod FirstMatrix
+mod PairDemands
+mod PairUnion
+pub mod TrafficLemmas
 mod TextLemmas
 mod FieldText
 mod RowText

@@ -25,6 +25,7 @@ use Rattle.traffic_matrix.proofs.NodeLemmas.{new-here}
 use Rattle.traffic_matrix.proofs.RowLemmas.{four-fields, good}
 use Rattle.traffic_matrix.proofs.DemandLemmas.{accepts}
 use Rattle.traffic_matrix.proofs.TableLemmas.{same-pair, pair-parts}
+use Rattle.traffic_matrix.proofs.PairLists.{below-differ}
 use Rattle.traffic_matrix.proofs.RowText.{entry_at, step_entries, entries_from, fields}
 
 -- a name stands at its place where no name before equals it
@@ -47,12 +48,6 @@ unequal p q f = go (same_pair p q) refl
     go : (b : Bool) → same_pair p q ≡ b → b ≡ false
     go true e = let (s, d) = pair-parts p q e in absurd (f s d)
     go false e = refl
-
-pub below-differ : (p q : Pair) → Below p q → p.src ≡ q.src → p.dst ≡ q.dst → ⊥
-below-differ p q b s d = elim b [
-  | inl less ↦ absurd (omega arith)
-  | inr same ↦ absurd (omega (arith, same.1))
-]
 
 -- a pair below another is not the same, either way round
 pub apart : (p q : Pair) → Below p q → (same_pair p q ≡ false) × (same_pair q p ≡ false)

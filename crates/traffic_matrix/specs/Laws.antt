@@ -1,6 +1,7 @@
 -- Which series are within the limits, as statements.
 use Rattle.std.specs.Prelude.{ℕ, ◌≡◌, ◌≤◌, List, length, IsTrue, Ok}
 use Rattle.te_model.specs.declared.network.Network.{Network}
+use Rattle.te_model.specs.declared.route.Pair.{Pair}
 use Rattle.te_model.specs.Network.{is_well_formed, node_count}
 use Rattle.te_model.specs.Pairs.{AreDemands}
 use Rattle.traffic_matrix.specs.declared.series.Series.{Series}
@@ -8,6 +9,7 @@ use Rattle.traffic_matrix.specs.First.{first_matrix}
 use Rattle.traffic_matrix.specs.Rows.{series_in}
 use Rattle.traffic_matrix.specs.Gravity.{gravity_of}
 use Rattle.traffic_matrix.specs.Limits.{IsSeries}
+use Rattle.traffic_matrix.specs.Traffic.{IsTraffic, has_pair, known_traffic, predicted_traffic}
 
 -- the series that the bytes of a file make for a network is within the limits
 abbrev pub SeriesAreInRange : Type 0
@@ -22,3 +24,16 @@ FirstMatricesAreInRange = (n : ℕ) (series : Series) → IsSeries n series → 
 -- a series that a seed draws is within the limits
 abbrev pub GravityIsInRange : Type 0
 GravityIsInRange = (n seed steps : ℕ) → steps ≤ 1024 → IsSeries n (gravity_of n seed steps)
+
+-- a series is traffic, and so is a series with any other one as its predictions
+abbrev pub TrafficIsInRange : Type 0
+TrafficIsInRange =
+    (n : ℕ) (sent predictions : Series) → IsSeries n sent → IsSeries n predictions →
+    IsTraffic n (known_traffic sent) × IsTraffic n (predicted_traffic n sent predictions)
+
+-- predictions of no further pair leave what is sent as it is
+abbrev pub SentStays : Type 0
+SentStays =
+    (n : ℕ) (sent predictions : Series) → IsSeries n sent →
+    ((pair : Pair) → IsTrue (has_pair predictions.pairs.list pair) → IsTrue (has_pair sent.pairs.list pair)) →
+    (predicted_traffic n sent predictions).sent ≡ sent

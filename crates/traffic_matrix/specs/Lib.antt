@@ -7,4 +7,5 @@ pub mod Shows
 pub mod Limits
 pub mod Gravity
 pub mod Text
+pub mod Traffic
 pub mod Laws

@@ -1,10 +1,15 @@
 -- Pairs of nodes and their places, which ascend by source, and then by destination.
-use Rattle.std.specs.Prelude.{ℕ, ◌+◌, ◌*◌, ◌/◌, ◌%◌, Bool, ◌&&◌, ◌==◌, List, map}
+use Rattle.std.specs.Prelude.{ℕ, ◌+◌, ◌*◌, ◌/◌, ◌%◌, Bool, false, ◌&&◌, ◌==◌, List, [], ◌∷◌, map}
 use Rattle.std.specs.List.{range_with_len}
 use Rattle.te_model.specs.declared.route.Pair.{Pair}
 
 abbrev pub same_pair : Pair → Pair → Bool
 same_pair p q = p.src == q.src && p.dst == q.dst
+
+-- the list begins with the pair
+abbrev pub begins_with : List Pair → Pair → Bool
+begins_with [] pair = false
+begins_with (p ∷ ps) pair = same_pair p pair
 
 -- the place of a pair among all pairs of n nodes
 abbrev pub place_of_pair : ℕ → Pair → ℕ

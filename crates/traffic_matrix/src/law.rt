@@ -1,5 +1,5 @@
 //! Which series are within the limits, by the definitions alone.
-ghost use Rattle.traffic_matrix.specs.Laws.{FirstMatricesAreInRange, GravityIsInRange, SeriesAreInRange};
+ghost use Rattle.traffic_matrix.specs.Laws.{FirstMatricesAreInRange, GravityIsInRange, SentStays, SeriesAreInRange, TrafficIsInRange};
 
 /// The series that the bytes of a file make for a network is within the limits.
 pub fn series_are_in_range()
@@ -14,4 +14,14 @@ pub fn first_matrices_are_in_range()
 /// A series that a seed draws is within the limits.
 pub fn gravity_is_in_range()
     ensures { GravityIsInRange }
+{}
+
+/// A series within the limits is traffic, and so it is with any other one as its predictions.
+pub fn traffic_is_in_range()
+    ensures { TrafficIsInRange }
+{}
+
+/// Predictions of no further pair leave what is sent as it is.
+pub fn sent_stays()
+    ensures { SentStays }
 {}

@@ -3,7 +3,9 @@
 //! - `read` and `print`: the series of a file, or `MatrixFault`, and the file of a series.
 //! - `first_matrix`: the matrix of the first step of a series.
 //! - `gravity`: a series that is drawn from a seed.
-//! - `series_are_in_range`, `first_matrices_are_in_range`, `gravity_is_in_range`: what their definitions give is within the limits.
+//! - `Traffic`: the matrices that a network is to carry, and those that schemes are given in their place, if any.
+//! - `series_are_in_range`, `first_matrices_are_in_range`, `gravity_is_in_range`, `traffic_is_in_range`: what their definitions give is
+//!   within the limits. `sent_stays`: predictions of no further pair leave what is sent as it is.
 #![tactic(auto)]
 
 mod demands;
@@ -13,16 +15,23 @@ mod first;
 mod generator;
 mod law;
 mod nodes;
+mod pair_union;
 mod reader;
 mod series;
+mod series_over;
 mod step_demands;
 mod table;
+mod traffic;
 mod writer;
 
 pub use fault::MatrixFault;
 pub use first::first_matrix;
 pub use generator::gravity;
-pub use law::{first_matrices_are_in_range, gravity_is_in_range, series_are_in_range};
+pub use law::{
+    first_matrices_are_in_range, gravity_is_in_range, sent_stays, series_are_in_range,
+    traffic_is_in_range,
+};
 pub use reader::read;
 pub use series::Series;
+pub use traffic::Traffic;
 pub use writer::print;

@@ -1,5 +1,5 @@
 use Rattle.std.proofs.Common.{refl}
-use Rattle.plan.specs.declared.scheme_name.SchemeName.TheVariants.{Spf, Ecmp, Ksp, Racke, Valiant}
+use Rattle.plan.specs.declared.scheme_name.SchemeName.TheVariants.{Spf, Ecmp, Ksp, Racke, Valiant, Robust}
 use Rattle.te_model.specs.Network.{node_count}
 use Rattle.series_simulation.proofs.SeriesLemmas.{series_pairs}
 use Rattle.experiment.specs.Published.{with_seed}
@@ -66,3 +66,15 @@ pub returns-in-Valiant-clause-made : goal.returns-in-Valiant-clause-made
 returns-in-Valiant-clause-made c =
     made_by_name Valiant (with_seed c.args.plan.now c.args.seed) c.args.network.now c.args.series.now c.in_ok-set.set (λ p. p.routing.routes) (λ p. refl)
     c.in-Valiant.is c.in_ok-set.ensures c.publish-in-Valiant.result c.publish-in-Valiant.ensures.made
+
+pub publish_robust-requires-clause-pairs : goal.publish_robust-requires-clause-pairs
+publish_robust-requires-clause-pairs c = series_pairs c.args.network.now c.args.series.now c.requires.network c.requires.series
+
+pub publish_robust-requires-clause-set : goal.publish_robust-requires-clause-set
+publish_robust-requires-clause-set c =
+    rw c.in_ok-set.ensures (set_within (node_count c.args.network.now) c.args.plan.now c.args.series.now c.requires.plan c.requires.series)
+
+pub returns-in-Robust-clause-made : goal.returns-in-Robust-clause-made
+returns-in-Robust-clause-made c =
+    made_by_name Robust (with_seed c.args.plan.now c.args.seed) c.args.network.now c.args.series.now c.in_ok-set.set (λ p. p.routing.routes) (λ p. refl)
+    c.in-Robust.is c.in_ok-set.ensures c.publish_robust.result c.publish_robust.ensures.made

@@ -1,6 +1,7 @@
 use Rattle.std.proofs.Common.{◌≡◌, ℕ, ◌≤◌, ◌*◌, ◌^◌, ◌∙◌, Bool, List, [], ◌∷◌, ◌++◌, length, ap, sym, subst, arith, refl}
 use Rattle.failure.specs.Series.{marks_of}
-use Rattle.series_simulation.specs.Rows.{IsStepRow, demands_in}
+use Rattle.series_simulation.specs.Rows.{IsStepRow}
+use Rattle.traffic_matrix.specs.Traffic.{predicted_in, sent_in}
 use Rattle.series_simulation.proofs.Marking.{marks_at, marks_count, series_count}
 use Rattle.series_simulation.proofs.Rowing.{rows_begin, rows_next, rows_end}
 use Rattle.experiment.specs.Text.{AmountsAtMost, figures_of}
@@ -12,7 +13,7 @@ loop-step-init g c = record {
   written = (
     [],
     rows_begin g.S.Scheme.PATHS (g.S.Scheme.is_plan c.args.scheme.now) (g.S.Scheme.relates c.args.scheme.now) g.S.Note.LowNote.low
-        c.args.network.now c.args.series.now c.args.failures.now c.args.recovery c.args.prepared.now.plan,
+        c.args.network.now c.args.traffic.now c.args.failures.now c.args.recovery c.args.prepared.now.plan,
     c.new-text.ensures.items,
     c.none-total.ensures,
   );
@@ -39,7 +40,7 @@ row_of-requires-clause-marks g c =
 
 pub add_row-requires : goal.add_row-requires
 add_row-requires g c =
-    let few : c.loop-step.step ≤ 1024 = omega (arith, c.loop-step-test.true, ap length c.as_slice-steps.ensures, c.requires.series.few) in
+    let few : c.loop-step.step ≤ 1024 = omega (arith, c.loop-step-test.true, ap length c.as_slice-steps.ensures, c.requires.traffic.sent.few) in
     let small = c.loop-step.invariant.small in
     record {
       room = record {
@@ -54,7 +55,7 @@ add_row-requires g c =
 pub loop-step-preserved : goal.loop-step-preserved
 loop-step-preserved g c =
     let net = c.args.network.now in
-    let series = c.args.series.now in
+    let traffic = c.args.traffic.now in
     let failures = c.args.failures.now in
     let plan = c.args.prepared.now.plan in
     let step = c.loop-step.step in
@@ -68,11 +69,11 @@ loop-step-preserved g c =
       written = (
         rows ++ row ∷ [],
         rows_next g.S.Scheme.PATHS (g.S.Scheme.is_plan c.args.scheme.now) (g.S.Scheme.relates c.args.scheme.now) g.S.Note.LowNote.low
-            net series failures c.args.recovery plan step rows row so_far.written.1
+            net traffic failures c.args.recovery plan step rows row so_far.written.1
             (record {
               step = c.in_ok-row.ensures.step;
               row = subst (λ (marks : List Bool). IsStepRow g.S.Scheme.PATHS (g.S.Scheme.is_plan c.args.scheme.now)
-                  (g.S.Scheme.relates c.args.scheme.now) g.S.Note.LowNote.low net marks series.pairs.list (demands_in series step)
+                  (g.S.Scheme.relates c.args.scheme.now) g.S.Note.LowNote.low net marks traffic.sent.pairs.list (predicted_in traffic step) (sent_in traffic step)
                   c.args.recovery plan row) failed c.in_ok-row.ensures.row;
               conserved = c.in_ok-row.ensures.conserved;
             }),
@@ -86,12 +87,12 @@ pub returns : goal.returns
 returns g c =
     let so_far = c.loop-step.invariant in
     let rows = so_far.written.0 in
-    let every : c.loop-step.step ≡ length c.args.series.now.steps =
+    let every : c.loop-step.step ≡ length c.args.traffic.now.sent.steps =
     omega (arith, c.loop-step-test.false, c.loop-step.auto.step-end, ap length c.as_slice-steps.ensures)
     in (
       rows,
       rows_end g.S.Scheme.PATHS (g.S.Scheme.is_plan c.args.scheme.now) (g.S.Scheme.relates c.args.scheme.now) g.S.Note.LowNote.low
-          c.args.network.now c.args.series.now c.args.failures.now c.args.recovery c.args.prepared.now.plan c.loop-step.step rows every
+          c.args.network.now c.args.traffic.now c.args.failures.now c.args.recovery c.args.prepared.now.plan c.loop-step.step rows every
           so_far.written.1,
       lines_end c.args.word.now c.loop-step.text.items c.print_total.new.text.items c.loop-step.total rows so_far.written.2 so_far.written.3
           c.in_ok-print_total.ensures,

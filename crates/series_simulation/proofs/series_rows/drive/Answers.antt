@@ -1,7 +1,8 @@
 use Rattle.std.proofs.Common.{◌≡◌, ℕ, ◌+◌, ◌<◌, Bool, List, length, arith, ap, sym, subst, ◌∙◌}
 use Rattle.failure.specs.Series.{marks_of}
+use Rattle.traffic_matrix.specs.Traffic.{predicted_in, sent_in}
 use Rattle.series_simulation.specs.declared.step_row.StepRow.{StepRow}
-use Rattle.series_simulation.specs.Rows.{AreStepRows, IsStepRow, demands_in, step_row_at}
+use Rattle.series_simulation.specs.Rows.{AreStepRows, IsStepRow, step_row_at}
 use Rattle.series_simulation.specs.Simulation.{IsConservedStep}
 use Rattle.series_simulation.proofs.Marking.{marks_at, marks_count, series_count}
 use Rattle.series_simulation.proofs.Rowing.{AreRowsBefore, rows_begin, rows_next, rows_end}
@@ -9,14 +10,14 @@ use Rattle.series_simulation.proofs.SeriesLemmas.{series_pairs}
 use Rattle.series_simulation.proofs.series_rows.drive.Goals as goal
 
 pub prepare_connected-requires-clause-pairs : goal.prepare_connected-requires-clause-pairs
-prepare_connected-requires-clause-pairs g c = series_pairs c.args.net.now c.args.series.now c.requires.network c.requires.series
+prepare_connected-requires-clause-pairs g c = series_pairs c.args.net.now c.args.traffic.now.sent c.requires.network c.requires.traffic.sent
 
 pub loop-step-init : goal.loop-step-init
 loop-step-init g c =
     subst (AreRowsBefore g.S.Scheme.PATHS (g.S.Scheme.is_plan c.args.scheme.now) (g.S.Scheme.relates c.args.scheme.now) g.S.Note.LowNote.low c.args.net.now
-    c.args.series.now c.args.failures.now c.args.recovery c.in_ok-prepared.prepared.plan 0) (sym c.new-rows.ensures.items)
+    c.args.traffic.now c.args.failures.now c.args.recovery c.in_ok-prepared.prepared.plan 0) (sym c.new-rows.ensures.items)
     (rows_begin g.S.Scheme.PATHS (g.S.Scheme.is_plan c.args.scheme.now) (g.S.Scheme.relates c.args.scheme.now) g.S.Note.LowNote.low c.args.net.now
-    c.args.series.now c.args.failures.now c.args.recovery c.in_ok-prepared.prepared.plan)
+    c.args.traffic.now c.args.failures.now c.args.recovery c.in_ok-prepared.prepared.plan)
 
 pub index-requires : goal.index-requires
 index-requires g c =
@@ -41,7 +42,7 @@ row_of-requires-clause-marks g c =
 pub loop-step-preserved : goal.loop-step-preserved
 loop-step-preserved g c =
     let net = c.args.net.now in
-    let series = c.args.series.now in
+    let traffic = c.args.traffic.now in
     let failures = c.args.failures.now in
     let step = c.loop-step.step in
     let rows = c.loop-step.rows.items in
@@ -50,29 +51,29 @@ loop-step-preserved g c =
     let failed : c.as_slice.result.now ≡ marks_of net failures step =
     c.as_slice.ensures ∙ marks_at net failures (length c.as_slice-steps.result.now) step c.in_ok-marks.marks.items
     c.index.result.now c.in_ok-marks.ensures c.loop-step-test.true c.index.ensures in
-    subst (AreRowsBefore g.S.Scheme.PATHS (g.S.Scheme.is_plan c.args.scheme.now) (g.S.Scheme.relates c.args.scheme.now) g.S.Note.LowNote.low net series
+    subst (AreRowsBefore g.S.Scheme.PATHS (g.S.Scheme.is_plan c.args.scheme.now) (g.S.Scheme.relates c.args.scheme.now) g.S.Note.LowNote.low net traffic
     failures c.args.recovery plan (step + 1)) (sym c.in_ok-push.ensures.items)
-    (rows_next g.S.Scheme.PATHS (g.S.Scheme.is_plan c.args.scheme.now) (g.S.Scheme.relates c.args.scheme.now) g.S.Note.LowNote.low net series
+    (rows_next g.S.Scheme.PATHS (g.S.Scheme.is_plan c.args.scheme.now) (g.S.Scheme.relates c.args.scheme.now) g.S.Note.LowNote.low net traffic
     failures c.args.recovery plan step rows row c.loop-step.invariant
     (record {
       step = c.in_ok-row.ensures.step;
       row = subst (λ (marks : List Bool). IsStepRow g.S.Scheme.PATHS (g.S.Scheme.is_plan c.args.scheme.now) (g.S.Scheme.relates c.args.scheme.now)
-          g.S.Note.LowNote.low net marks series.pairs.list (demands_in series step) c.args.recovery plan row) failed c.in_ok-row.ensures.row;
+          g.S.Note.LowNote.low net marks traffic.sent.pairs.list (predicted_in traffic step) (sent_in traffic step) c.args.recovery plan row) failed c.in_ok-row.ensures.row;
       conserved = c.in_ok-row.ensures.conserved;
     }))
 
 pub returns-clause-rows : goal.returns-clause-rows
 returns-clause-rows g c =
-    let every : c.loop-step.step ≡ length c.args.series.now.steps =
+    let every : c.loop-step.step ≡ length c.args.traffic.now.sent.steps =
     omega (arith, c.loop-step-test.false, c.loop-step.auto.step-end, ap length c.as_slice-steps.ensures)
     in
-    subst (AreStepRows g.S.Scheme.PATHS (g.S.Scheme.is_plan c.args.scheme.now) (g.S.Scheme.relates c.args.scheme.now) g.S.Note.LowNote.low c.args.net.now c.args.series.now
+    subst (AreStepRows g.S.Scheme.PATHS (g.S.Scheme.is_plan c.args.scheme.now) (g.S.Scheme.relates c.args.scheme.now) g.S.Note.LowNote.low c.args.net.now c.args.traffic.now
     c.args.failures.now c.args.recovery) (sym c.new.ensures)
-    (rows_end g.S.Scheme.PATHS (g.S.Scheme.is_plan c.args.scheme.now) (g.S.Scheme.relates c.args.scheme.now) g.S.Note.LowNote.low c.args.net.now c.args.series.now
+    (rows_end g.S.Scheme.PATHS (g.S.Scheme.is_plan c.args.scheme.now) (g.S.Scheme.relates c.args.scheme.now) g.S.Note.LowNote.low c.args.net.now c.args.traffic.now
     c.args.failures.now c.args.recovery c.in_ok-prepared.prepared.plan c.loop-step.step c.loop-step.rows.items every c.loop-step.invariant)
 
 pub returns-clause-conserved : goal.returns-clause-conserved
 returns-clause-conserved g c =
     let so_far = c.loop-step.invariant in
-    subst (λ (rs : List StepRow). (k : ℕ) → k < length rs → IsConservedStep (demands_in c.args.series.now k) (step_row_at rs k).result) (sym c.new.ensures)
+    subst (λ (rs : List StepRow). (k : ℕ) → k < length rs → IsConservedStep (sent_in c.args.traffic.now k) (step_row_at rs k).result) (sym c.new.ensures)
     (λ k below. (so_far.each k (omega (arith, below, so_far.count))).conserved)

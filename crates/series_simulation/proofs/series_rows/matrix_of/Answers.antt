@@ -5,7 +5,7 @@ use Rattle.te_model.specs.declared.demand.Matrix.{Matrix}
 use Rattle.te_model.specs.Pairs.{AreDemands}
 use Rattle.traffic_matrix.specs.declared.series.Series.{Series}
 use Rattle.traffic_matrix.specs.Text.{no_matrix}
-use Rattle.series_simulation.specs.Rows.{demands_in}
+use Rattle.traffic_matrix.specs.Traffic.{demands_in}
 use Rattle.series_simulation.proofs.series_rows.matrix_of.Goals as goal
 
 -- the demands of the matrix that was read are those of the step

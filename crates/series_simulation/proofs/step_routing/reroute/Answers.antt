@@ -1,4 +1,5 @@
 use Rattle.std.proofs.Common.{List, ℕ, All, length, ap, sym, subst, ◌∙◌}
+use Rattle.std.specs.Option.{option_map}
 use Rattle.std.proofs.lemmas.Result.{IfOk-weaker}
 use Rattle.te_model.specs.declared.route.PairRoutes.{PairRoutes}
 use Rattle.te_model.specs.PathRouting.{IsPathRouting}
@@ -49,14 +50,15 @@ returns-clause-rerouted g c =
     let says = g.S.Scheme.is_plan c.args.scheme.now in
     let relates = g.S.Scheme.relates c.args.scheme.now in
     let low = g.S.Note.LowNote.low in
+    let predicted = option_map (λ m. m.now.demand) c.args.predicted in
     let demand = c.args.matrix.now.demand in
     IfOk-weaker c.original_routing.result _
-    (λ r. IsReroutedOn g.S.Scheme.PATHS says relates low c.args.net.now c.args.failed.now c.args.pairs.now.list demand r.routing.routes r.parts r.low)
+    (λ r. IsReroutedOn g.S.Scheme.PATHS says relates low c.args.net.now c.args.failed.now c.args.pairs.now.list predicted demand r.routing.routes r.parts r.low)
     (λ r is. record {
       plan = routed.0;
       own = own.routing.routes;
       routed = rw (is.1, is.2)
-          (subst (λ (s : Survivor). IsRouted g.S.Scheme.PATHS says relates low s.network c.args.pairs.now.list demand routed.0 own.routing.routes own.parts own.low) same routed.1);
+          (subst (λ (s : Survivor). IsRouted g.S.Scheme.PATHS says relates low s.network c.args.pairs.now.list predicted demand routed.0 own.routing.routes own.parts own.low) same routed.1);
       mapped = is.0 ∙ ap (λ (o : List ℕ). original_routes o own.routing.routes) origin;
     }) c.original_routing.ensures
 

@@ -1,12 +1,13 @@
 use Rattle.std.proofs.Common.{◌≡◌, Bool, List, length, ap, subst, ◌∙◌}
 use Rattle.failure.specs.Series.{marks_of}
-use Rattle.series_simulation.specs.Rows.{IsStep, demands_in}
+use Rattle.series_simulation.specs.Rows.{IsStep}
+use Rattle.traffic_matrix.specs.Traffic.{predicted_in, sent_in}
 use Rattle.series_simulation.proofs.Marking.{marks_count}
 use Rattle.series_simulation.proofs.SeriesLemmas.{series_pairs}
 use Rattle.step_detail.proofs.scheme_step.step_by.Goals as goal
 
 pub prepare_connected-requires-clause-pairs : goal.prepare_connected-requires-clause-pairs
-prepare_connected-requires-clause-pairs g c = series_pairs c.args.network.now c.args.series.now c.requires.network c.requires.series
+prepare_connected-requires-clause-pairs g c = series_pairs c.args.network.now c.args.traffic.now.sent c.requires.network c.requires.traffic.sent
 
 pub step_of-requires-clause-marks : goal.step_of-requires-clause-marks
 step_of-requires-clause-marks g c =
@@ -23,7 +24,7 @@ step_of-requires-clause-planned g c = c.in_ok-prepared.ensures.planned
 pub returns-clause-step : goal.returns-clause-step
 returns-clause-step g c =
     let net = c.args.network.now in
-    let series = c.args.series.now in
+    let traffic = c.args.traffic.now in
     let plan = c.in_ok-prepared.prepared.plan in
     let step = c.in_ok-simulated.simulated in
     let failed : c.as_slice-marks.result.now ≡ marks_of net c.args.failures.now c.args.step = c.as_slice-marks.ensures.value ∙ c.in_ok-failed.ensures in
@@ -31,7 +32,7 @@ returns-clause-step g c =
       plan = plan;
       number = c.in_ok-simulated.ensures.number;
       is_step = subst (λ (marks : List Bool). IsStep g.S.Scheme.PATHS (g.S.Scheme.is_plan c.args.scheme.now) (g.S.Scheme.relates c.args.scheme.now)
-          g.S.Note.LowNote.low net marks series.pairs.list (demands_in series c.args.step) c.args.recovery plan step.rates.routes step.row) failed
+          g.S.Note.LowNote.low net marks traffic.sent.pairs.list (predicted_in traffic c.args.step) (sent_in traffic c.args.step) c.args.recovery plan step.rates.routes step.row) failed
           c.in_ok-simulated.ensures.step;
     }
 

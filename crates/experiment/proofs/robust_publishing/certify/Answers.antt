@@ -1,0 +1,23 @@
+use Rattle.std.proofs.Common.{Result, Ok, Err, IfOk, subst}
+use Rattle.std.proofs.lemmas.Result.{IfOk-weaker}
+use Rattle.te_model.specs.declared.certificate.Certificate.{Certificate}
+use Rattle.ratio_certificate.specs.Form.{HasBounds}
+use Rattle.ratio_certificate.specs.Made.{IsMade}
+use Rattle.ratio_certificate.specs.Offers.{IsMadeWithinAll}
+use Rattle.experiment.proofs.robust_publishing.certify.Goals as goal
+
+both : {T E : Type 0} (r : Result T E) (P Q S : T → Type 0) → ((x : T) → P x → Q x → S x) → IfOk r P → IfOk r Q → IfOk r S
+both (Ok x) P Q S join p q = join x p q
+both (Err e) P Q S join p q = tt
+
+pub returns-then-has_all_matrices : goal.returns-then-has_all_matrices
+returns-then-has_all_matrices c =
+    IfOk-weaker c.improve.result _ (IsMadeWithinAll c.args.net.now c.args.routing.now.routes c.args.set) (λ m made. record {
+      made = made;
+      all_matrices = λ bounded. absurd (subst HasBounds (c.has_all_matrices.ensures c.if-has_all_matrices.true) bounded);
+    }) c.improve.ensures.made
+
+pub returns-else-has_all_matrices : goal.returns-else-has_all_matrices
+returns-else-has_all_matrices c =
+    both c.make.result _ _ (IsMadeWithinAll c.args.net.now c.args.routing.now.routes c.args.set)
+    (λ m made all. record { made = made; all_matrices = all }) c.make.ensures.made c.make.ensures.all_matrices
