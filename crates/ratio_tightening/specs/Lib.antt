@@ -1,0 +1,3 @@
+pub mod Tightened
+pub mod Offering
+pub mod Laws

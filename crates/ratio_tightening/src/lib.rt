@@ -1,0 +1,13 @@
+//! A certificate of the same routing and set with a lower ratio (after Applegate and Cohen, 2003).
+//!
+//! - `tighten`: for each link with a share the block of the certificate, or a polished one that needs no more.
+//! - `laws`: what is known of such certificates beyond any one call.
+#![tactic(auto)]
+
+mod copying;
+pub mod laws;
+mod lesser;
+mod offering;
+mod tightening;
+
+pub use tightening::tighten;
