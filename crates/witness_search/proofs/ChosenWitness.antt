@@ -60,27 +60,33 @@ attempt_shows : (h : Head) (Routes : List ℕ → List PairRoutes → Type 0) (t
 attempt_shows h Routes t a is =
     is.ratio ∙ ap (λ (m : Matrix). performance_ratio h.network h.routes (slice_index m.demand) a.witness.rival) is.demand
 
+-- the witness of an attempt, with the ratio that it shows as its bound, is one of the head
+pub attempt_witness : (h : Head) (Routes : List ℕ → List PairRoutes → Type 0) (t : Tried) (a : Attempt) → IsAttempt h Routes t a → IsWitnessOf h (witness_by a)
+attempt_witness h Routes t a is =
+    let w = witness_by a in
+    let kept = rules_kept h a.witness is.witness.rules in
+    record {
+      shaped = bound_changed (length h.routes) (min a.ratio (10 ^ 19 - 1)) a.witness (omega arith) is.witness.shaped;
+      rules = keeps_rules h w (record {
+        bound = lt-ltb w.bound (10 ^ 19) (omega arith);
+        scale = kept.scale;
+        demands = kept.demands;
+        carried = kept.carried;
+        sound = kept.sound;
+        whole = kept.whole;
+      });
+    }
+
 pub best_chosen : (h : Head) (Routes : List ℕ → List PairRoutes → Type 0) (a : Attempt) → IsValidHead h → IsBestAttempt h Routes a → 0 < a.ratio →
     Chosen h Routes (witness_by a)
 best_chosen h Routes a valid is some =
     let t = is.tried in
     let w = witness_by a in
-    let kept = rules_kept h a.witness is.attempt.witness.rules in
     let shows = attempt_shows h Routes t a is.attempt in
     let of_set = All-contains (IsOfSet h) (tried_of h h.set) t (tried_of_set h valid) is.is_tried in
     let shown = is.attempt.ratio in
     record {
-      witness = record {
-        shaped = bound_changed (length h.routes) (min a.ratio (10 ^ 19 - 1)) a.witness (omega arith) is.attempt.witness.shaped;
-        rules = keeps_rules h w (record {
-          bound = lt-ltb w.bound (10 ^ 19) (omega arith);
-          scale = kept.scale;
-          demands = kept.demands;
-          carried = kept.carried;
-          sound = kept.sound;
-          whole = kept.whole;
-        });
-      };
+      witness = attempt_witness h Routes t a is.attempt;
       yes = no_faults h w (of_set w is.attempt.demand is.attempt.scale.0 is.attempt.scale.1)
           (le-leb (min a.ratio (10 ^ 19 - 1)) (ratio_shown h a.witness) (omega (arith, shown)));
       chosen = inl (record {

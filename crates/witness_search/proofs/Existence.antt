@@ -17,7 +17,7 @@ use Rattle.routing.specs.Routes.{HasFewPaths, IsRoutingOf}
 use Rattle.ratio_witness.specs.declared.witness.Witness.{Witness}
 use Rattle.ratio_witness.specs.Text.{witness_text}
 use Rattle.ratio_witness.specs.Verdict.{ratio_shown}
-use Rattle.ratio_witness.proofs.KeptRules.{valid_alone}
+use Rattle.ratio_checker.proofs.MoreBlocks.{valid_without_blocks}
 use Rattle.witness_search.specs.declared.attempt.Attempt.{Attempt}
 use Rattle.witness_search.specs.declared.attempt.Tried.{Tried}
 use Rattle.witness_search.specs.Attempts.{CanTry, GivesBest, IsAttempt, IsDone, RoutesBy, pairs_of}
@@ -26,9 +26,10 @@ use Rattle.witness_search.proofs.BestSoFar.{all_tried, attempt_no_better, done_l
 use Rattle.witness_search.proofs.Choosing.{before_up_to, not_before_up_to}
 use Rattle.witness_search.specs.Laws.{AttacksExist}
 use Rattle.witness_search.proofs.ChosenWitness.{chosen_by}
-use Rattle.witness_search.proofs.Heads.{head_formed, head_pairs_of, head_reached}
+use Rattle.witness_search.proofs.Heads.{head_pairs_of, head_reached}
 use Rattle.witness_search.proofs.MadeAttempts.{attempt_made, witness_tried}
 use Rattle.witness_search.proofs.TriedMatrices.{can_alone, can_base, can_direct, can_lower, can_upper}
+use Rattle.ratio_checker.proofs.FormedHeads.{head_formed}
 
 -- ---- each matrix that is tried can be attempted
 
@@ -141,7 +142,7 @@ some_witness h (Some a) = elim (cases_lt 0 a.ratio) [
 pub attacks_exist : {Plan Note : Type 0} (is_plan : Network → List Pair → Plan → Type 0)
     (relates : Network → List Pair → Plan → List ℕ → List PairRoutes → Note → Type 0) → AttacksExist is_plan relates
 attacks_exist is_plan relates plans h valid =
-    let limits = valid_limits (record { head = h; blocks = [] }) (valid_alone h valid) in
+    let limits = valid_limits (record { head = h; blocks = [] }) (valid_without_blocks h valid) in
     let can = plans h.network (pairs_of h) (head_formed h valid) (head_pairs_of h valid limits.pairs) (head_reached h valid) in
     let Routes : List ℕ → List PairRoutes → Type 0 = RoutesBy (relates h.network (pairs_of h) can.plan) in
     let count = length-map h.routes (λ r. r.pair) in

@@ -8,12 +8,14 @@ use Rattle.te_model.specs.Path.{destination_of, routes_at, source_of}
 use Rattle.te_model.specs.Validity.{IsValidHead}
 use Rattle.witness_search.specs.Attempts.{IsLimit}
 use Rattle.te_model.proofs.Valid.{rules_hold, valid_limits}
-use Rattle.ratio_witness.specs.Judged.{IsSimplePath}
+use Rattle.ratio_checker.specs.Checked.{IsSimplePath}
 use Rattle.witness_search.specs.RouteLimits.{IsRouteLimit}
-use Rattle.ratio_witness.proofs.KeptRules.{simple_paths, valid_alone}
-use Rattle.witness_search.proofs.Heads.{ends_carry, head_apart, head_links, head_pairs, head_path}
+use Rattle.ratio_checker.proofs.SimplePaths.{simple_paths}
+use Rattle.witness_search.proofs.Heads.{ends_carry, head_apart, head_pairs, head_path}
 use Rattle.witness_search.proofs.LinkSums.{head_links_small}
 use Rattle.witness_search.proofs.PairLimits.{limit_holds}
+use Rattle.ratio_checker.proofs.MoreBlocks.{valid_without_blocks}
+use Rattle.ratio_checker.proofs.FormedHeads.{head_links}
 
 pub limit_is : (h : Head) (p limit : ℕ) → IsValidHead h → p < length h.routes → IsRouteLimit h.network (routes_at h.routes p) limit → IsLimit h p limit
 limit_is h p limit valid below is =
@@ -33,6 +35,6 @@ pub head_simple : (h : Head) (p : ℕ) → IsValidHead h → p < length h.routes
     All IsSimplePath (routes_at h.routes p).paths × (sum_by (λ s. s.weight) (routes_at h.routes p).paths ≤ SHARE_UNIT)
 head_simple h p valid below =
     let c : Certificate = record { head = h; blocks = [] } in
-    let is = valid_alone h valid in
+    let is = valid_without_blocks h valid in
     let limits = valid_limits c is in
     (simple_paths h.network (source_of h.routes p) (destination_of h.routes p) (routes_at h.routes p).paths limits.links ((rules_hold c is.1).paths p below), limits.shares p)

@@ -2,50 +2,32 @@
 use Rattle.std.proofs.Common.{◌≡◌, ℕ, ◌<◌, ◌≤◌, true, not, ◌&&◌, List, [], ◌∷◌, length, get_or, arith, ap, sym, ◌∙◌, subst, nat_le, sum_by, ◌==◌}
 use Rattle.std.specs.List.{list_all}
 use Rattle.std.proofs.Math.ListN.{get_or-map}
-use Rattle.std.proofs.lemmas.Bool.{and_parts, eq-eqb, eqb-true, false≢true, leb-true}
+use Rattle.std.proofs.lemmas.Bool.{and_parts, eq-eqb, eqb-true, false≢true}
 use Rattle.std.proofs.lemmas.Bool.Decides.{nat_tests}
 use Rattle.std.proofs.lemmas.List.{length-map}
 use Rattle.std.proofs.lemmas.List.Elements.{All-from_get_or}
-use Rattle.te_model.specs.declared.certificate.Certificate.{Certificate}
 use Rattle.te_model.specs.declared.certificate.Head.{Head}
 use Rattle.te_model.specs.declared.limits.TheConstants.{FORMAT_2}
 use Rattle.te_model.specs.Formats.{limits_of}
-use Rattle.te_model.specs.Laws.{LinksJoinNodes, PairsJoinNodes}
+use Rattle.te_model.specs.Laws.{PairsJoinNodes}
 use Rattle.te_model.specs.declared.network.Network.{Network}
 use Rattle.te_model.specs.declared.route.Pair.{Pair}
 use Rattle.te_model.specs.declared.route.PathShare.{PathShare}
-use Rattle.te_model.specs.Network.{capacity_of, is_name, is_new_name, is_well_formed, link_count, node_count}
+use Rattle.te_model.specs.Network.{capacity_of, link_count, node_count}
 use Rattle.te_model.specs.Pairs.{IsPairAmong, no_pair}
 use Rattle.te_model.specs.Path.{chains, destination_of, is_path, no_routes, routes_at, source_of}
-use Rattle.te_model.specs.Shape.{is_count, is_shaped_head, is_shaped_link, is_shaped_network, is_shaped_pair, is_shaped_set, is_word}
-use Rattle.te_model.specs.Validity.{IsValidHead, fault_at, faults_from, rules}
-use Rattle.te_model.proofs.Tests.{first_failing_none_at, first_some_none_at}
+use Rattle.te_model.specs.Shape.{is_count, is_shaped_head, is_shaped_network, is_shaped_pair, is_shaped_set, is_word}
+use Rattle.te_model.specs.Validity.{IsValidHead}
 use Rattle.te_model.proofs.Chains.{chains_of_path}
-use Rattle.te_model.proofs.Valid.{limits_small, rules_hold}
-use Rattle.te_model.proofs.WellFormed.{links_join, well_formed_from}
+use Rattle.te_model.proofs.Valid.{rules_hold}
 use Rattle.scheme.specs.Reach.{AllReached, ArePairsOf}
 use Rattle.witness_search.specs.Attempts.{pairs_of}
 use Rattle.shortest_path.specs.Paths.{HasPath}
 use Rattle.ratio_witness.specs.Witness.{capacity_from, capacity_into}
-use Rattle.ratio_witness.proofs.KeptRules.{valid_alone}
+use Rattle.ratio_checker.proofs.MoreBlocks.{valid_without_blocks}
 use Rattle.witness_search.proofs.PairLimits.{some_from, some_into}
 
--- the network of a head that can be written
-shaped_network : (h : Head) → is_shaped_head (limits_of h.format) h ≡ true → is_shaped_network (limits_of h.format) h.network ≡ true
-shaped_network h shaped =
-    let limits = limits_of h.format in
-    let a = h.format == limits.format in
-    let b = is_shaped_network limits h.network in
-    let c = is_count 0 limits.pairs (length h.routes) in
-    let d = list_all (is_shaped_pair limits) h.routes in
-    let e = is_shaped_set limits (length h.routes) h.set in
-    let five = and_parts (a && b && c && d && e) (is_word h.ratio) shaped in
-    let four = and_parts (a && b && c && d) e five.0 in
-    let three = and_parts (a && b && c) d four.0 in
-    let two = and_parts (a && b) c three.0 in
-    (and_parts a b two.0).1
-
--- its set
+-- the set of a head that can be written
 pub shaped_set : (h : Head) → is_shaped_head (limits_of h.format) h ≡ true → is_shaped_set (limits_of h.format) (length h.routes) h.set ≡ true
 shaped_set h shaped =
     let limits = limits_of h.format in
@@ -57,47 +39,14 @@ shaped_set h shaped =
     let five = and_parts (a && b && c && d && e) (is_word h.ratio) shaped in
     (and_parts (a && b && c && d) e five.0).1
 
-pub head_formed : (h : Head) → IsValidHead h → is_well_formed h.network ≡ true
-head_formed h valid =
-    let limits = limits_of h.format in
-    let net = h.network in
-    let n = node_count net in
-    let m = link_count net in
-    let cert : Certificate = record { head = h; blocks = [] } in
-    let is = valid_alone h valid in
-    let kept = rules_hold cert is.1 in
-    let wide = limits_small h.format in
-    let shaped = shaped_network h valid.shaped in
-    let nodes = is_count 2 limits.nodes n in
-    let named = list_all is_name net.names in
-    let links = is_count 1 limits.links m in
-    let three = and_parts (nodes && named && links) (list_all is_shaped_link net.links) shaped in
-    let two = and_parts (nodes && named) links three.0 in
-    let one = and_parts nodes named two.0 in
-    let low = and_parts (nat_le 2 n) (nat_le n limits.nodes) one.0 in
-    let high = and_parts (nat_le 1 m) (nat_le m limits.links) two.1 in
-    let few_nodes : n ≤ limits.nodes = leb-true n limits.nodes low.1 in
-    let few_links : m ≤ limits.links = leb-true m limits.links high.1 in
-    well_formed_from net (record {
-      two_nodes = leb-true 2 n low.0;
-      nodes = omega (arith, few_nodes, wide.0);
-      links = omega (arith, few_links, wide.1);
-      names = one.1;
-      new_names = λ v below. first_failing_none_at n (is_new_name net) (fault_at 1) v (first_some_none_at (faults_from 1 (rules cert)) 0 is.1) below;
-      sound_links = kept.links;
-    })
-
-pub head_links : (h : Head) → IsValidHead h → LinksJoinNodes h.network
-head_links h valid = links_join h.network (head_formed h valid)
-
 pub head_pairs : (h : Head) → IsValidHead h → PairsJoinNodes h.network h.routes
 head_pairs h valid p below =
-    let sound = (rules_hold (record { head = h; blocks = [] }) (valid_alone h valid).1).pairs p below in
+    let sound = (rules_hold (record { head = h; blocks = [] }) (valid_without_blocks h valid).1).pairs p below in
     (grind (arith, nat_tests), grind (arith, nat_tests))
 
 pub head_apart : (h : Head) → IsValidHead h → (p : ℕ) → p < length h.routes → source_of h.routes p ≡ destination_of h.routes p → ⊥
 head_apart h valid p below same =
-    let sound = (rules_hold (record { head = h; blocks = [] }) (valid_alone h valid).1).pairs p below in
+    let sound = (rules_hold (record { head = h; blocks = [] }) (valid_without_blocks h valid).1).pairs p below in
     let differ : not (source_of h.routes p == destination_of h.routes p) ≡ true = grind (arith, nat_tests) in
     false≢true (sym (ap not (eq-eqb (source_of h.routes p) (destination_of h.routes p) same)) ∙ differ)
 
@@ -135,7 +84,7 @@ head_path h valid p below =
     let s = source_of h.routes p in
     let t = destination_of h.routes p in
     let paths = (routes_at h.routes p).paths in
-    let kept = rules_hold (record { head = h; blocks = [] }) (valid_alone h valid).1 in
+    let kept = rules_hold (record { head = h; blocks = [] }) (valid_without_blocks h valid).1 in
     let both = and_parts (list_all (λ q. nat_le 1 q.weight) paths) (sum_by (λ q. q.weight) paths == 1000000) (kept.weights p below) in
     let first = first_path net s t paths (kept.paths p below) (eqb-true (sum_by (λ q. q.weight) paths) 1000000 both.1) in
     let chain = chains_of_path net s t first.0 first.1 in

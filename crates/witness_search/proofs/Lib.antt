@@ -10,4 +10,6 @@ pub mod BestOfFew
 pub mod TriedYes
 pub mod TriedMatrices
 pub mod ChosenWitness
+pub mod Raising
+pub mod Certificates
 pub mod Existence

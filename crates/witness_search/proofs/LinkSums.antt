@@ -9,7 +9,7 @@ use Rattle.te_model.specs.Validity.{IsValidHead}
 use Rattle.te_model.proofs.Sums.{sum_below-bound}
 use Rattle.te_model.proofs.Valid.{valid_limits}
 use Rattle.witness_search.specs.RouteLimits.{HasSmallLinks}
-use Rattle.ratio_witness.proofs.KeptRules.{valid_alone}
+use Rattle.ratio_checker.proofs.MoreBlocks.{valid_without_blocks}
 
 -- what the first n of the links that pass carry together
 abbrev pub capacities_where : Network → (ℕ → Bool) → ℕ → ℕ
@@ -37,5 +37,5 @@ where_more net test n total part was is =
 -- the links of a valid head
 pub head_links_small : (h : Head) → IsValidHead h → HasSmallLinks h.network
 head_links_small h valid =
-    let limits = valid_limits (record { head = h; blocks = [] }) (valid_alone h valid) in
+    let limits = valid_limits (record { head = h; blocks = [] }) (valid_without_blocks h valid) in
     record { few = limits.links; capacities = limits.capacities; some = limits.capacity }

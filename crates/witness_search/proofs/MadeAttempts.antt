@@ -23,8 +23,9 @@ use Rattle.ratio_witness.specs.Rules.{KeepsRules}
 use Rattle.ratio_witness.specs.Text.{are_shaped_paths, is_shaped_witness}
 use Rattle.ratio_witness.specs.Verdict.{ratio_shown}
 use Rattle.witness_search.proofs.Attempted.{routed_kept, same_ends, same_length, shaped_split}
-use Rattle.witness_search.proofs.Heads.{head_apart, head_links, head_pairs}
-use Rattle.ratio_witness.proofs.KeptRules.{valid_alone}
+use Rattle.witness_search.proofs.Heads.{head_apart, head_pairs}
+use Rattle.ratio_checker.proofs.FormedHeads.{head_links}
+use Rattle.ratio_checker.proofs.MoreBlocks.{valid_without_blocks}
 
 -- the witness of bound 0
 abbrev pub witness_tried : Tried → List (List PathShare) → Witness
@@ -40,7 +41,7 @@ split_shaped : (h : Head) (routes : List PairRoutes) → IsValidHead h → IsRou
     (p : ℕ) → p < length routes → are_shaped_paths (routes_at routes p).paths ≡ true
 split_shaped h routes valid is few p below =
     let net = h.network in
-    let limits = valid_limits (record { head = h; blocks = [] }) (valid_alone h valid) in
+    let limits = valid_limits (record { head = h; blocks = [] }) (valid_without_blocks h valid) in
     let inside : p < length h.routes = let e = same_length h routes is.in_order in omega (arith, below, e) in
     let ends = same_ends h routes p is.in_order in
     let source = ap (λ r. r.src) ends in

@@ -24,7 +24,7 @@ use Rattle.witness_search.specs.Candidates.{alone, base_tried, bound_tried, boun
 use Rattle.ratio_witness.specs.Verdict.{is_in_set}
 use Rattle.witness_search.proofs.BestSoFar.{all_tried}
 use Rattle.witness_search.proofs.Heads.{shaped_set}
-use Rattle.ratio_witness.proofs.KeptRules.{valid_alone}
+use Rattle.ratio_checker.proofs.MoreBlocks.{valid_without_blocks}
 use Rattle.witness_search.proofs.TriedYes.{base_in_set, lower_in_set, upper_in_set}
 
 -- ---- what can be tried
@@ -59,10 +59,10 @@ demands_of n ds row small =
 
 -- the bounds and the base of a valid head's set
 has_bounds : (h : Head) → IsValidHead h → (p : ℕ) → p < length h.routes → has_pair_bounds h.set p ≡ true
-has_bounds h valid p below = (rules_hold (record { head = h; blocks = [] }) (valid_alone h valid).1).base p below
+has_bounds h valid p below = (rules_hold (record { head = h; blocks = [] }) (valid_without_blocks h valid).1).base p below
 
 has_numbers : (h : Head) → IsValidHead h → has_margin_numbers h.set ≡ true
-has_numbers h valid = (rules_hold (record { head = h; blocks = [] }) (valid_alone h valid).1).margin
+has_numbers h valid = (rules_hold (record { head = h; blocks = [] }) (valid_without_blocks h valid).1).margin
 
 pub den_small : (h : Head) (num den : ℕ) (base : Matrix) → IsValidHead h → h.set ≡ Margin num den base → den ≤ 1000
 den_small h num den base valid is =

@@ -17,7 +17,7 @@ use std::alloc::Global;
 use te_model::{DemandSet, Head, Items, Matrix, Memory, Network, Pairs, PathShare};
 
 /// The greatest bound of a witness.
-const GREATEST_BOUND: u128 = 9_999_999_999_999_999_999;
+pub const GREATEST_BOUND: u128 = 9_999_999_999_999_999_999;
 
 // The declared pairs.
 fn pairs_of(alloc: Global, head: &Head) -> Result<Pairs, Memory>
@@ -175,8 +175,8 @@ fn nothing_shown(alloc: Global, head: &Head) -> Result<Witness, Memory>
     })
 }
 
-// The witness of an attempt: its bound is the ratio that it shows.
-fn bounded(best: Attempt) -> Witness
+/// The witness of an attempt: its bound is the ratio that it shows.
+pub fn bounded(best: Attempt) -> Witness
     ensures { result ≡ witness_by best }
 {
     let mut witness = best.witness;
@@ -224,13 +224,31 @@ fn plan_with<S: Scheme>(
     }
 }
 
-// The scheme's plan for the declared pairs.
-fn plan_of<S: Scheme>(alloc: Global, head: &Head, rival: &S) -> Result<S::Plan, Memory>
+/// The scheme's plan for the declared pairs. `Memory` comes where memory is wanting.
+pub fn plan_of<S: Scheme>(alloc: Global, head: &Head, rival: &S) -> Result<S::Plan, Memory>
     requires { IsValidHead head.now }
     ensures { IfOk result (S.is_plan rival.now head.now.network (pairs_of head.now)) }
 {
     let pairs = pairs_of(alloc, head)?;
     plan_with(alloc, rival, &head.network, &pairs)
+}
+
+/// The witness of [`attack`] by this plan. `Memory` comes where memory is wanting.
+pub fn attack_by<S: Scheme>(
+    alloc: Global,
+    head: &Head,
+    rival: &S,
+    plan: &S::Plan,
+) -> Result<Witness, Memory>
+    requires head { IsValidHead head.now }
+    requires plan { S.is_plan rival.now head.now.network (pairs_of head.now) plan.now }
+    requires few { S.PATHS ≤ 32 }
+    ensures witness { IfOk result (IsWitnessOf head.now) }
+    ensures yes { IfOk result (λ w. verdict_fault head.now w ≡ None) }
+    ensures chosen { IfOk result (IsChosen head.now (RoutesBy (S.relates rival.now head.now.network (pairs_of head.now) plan.now))) }
+{
+    let best = best_of(alloc, head, rival, plan)?;
+    witness_if_some(alloc, head, best)
 }
 
 /// A witness against smaller ratios of the certificate's routing, by the routings of a scheme.
@@ -250,6 +268,5 @@ pub fn attack<S: Scheme>(alloc: Global, head: &Head, rival: &S) -> Result<Witnes
         × IsChosen head.now (RoutesBy (S.relates rival.now head.now.network (pairs_of head.now) plan)) w) }
 {
     let plan = plan_of(alloc, head, rival)?;
-    let best = best_of(alloc, head, rival, &plan)?;
-    witness_if_some(alloc, head, best)
+    attack_by(alloc, head, rival, &plan)
 }

@@ -60,8 +60,8 @@ pub fn direct_capacities(alloc: Global, head: &Head) -> Result<Tried, Memory>
     })
 }
 
-// The same matrix once more.
-fn copy_of(alloc: Global, matrix: &Matrix) -> Result<Matrix, Memory>
+/// The same matrix once more. `Memory` comes where memory is wanting.
+pub fn copy_of(alloc: Global, matrix: &Matrix) -> Result<Matrix, Memory>
     ensures { IfOk result (λ m. m ≡ matrix.now) }
 {
     let copy = Vec::from_slice(alloc, matrix.demand.as_slice())?;

@@ -4,12 +4,12 @@ ghost use Rattle.te_model.specs.declared.units.TheConstants.{RATIO_UNIT, SHARE_U
 ghost use Rattle.te_model.specs.Network.{capacity_of, link_count};
 ghost use Rattle.te_model.specs.Validity.{IsValidHead};
 ghost use Rattle.witness_search.specs.Attempts.{IsLimit};
-ghost use Rattle.ratio_witness.specs.Judged.{IsSimplePath};
+ghost use Rattle.ratio_checker.specs.Checked.{IsSimplePath};
 ghost use Rattle.witness_search.specs.RouteLimits.{HasSmallLinks, IsRouteLimit};
 ghost use Rattle.ratio_witness.specs.Witness.{capacity_from, capacity_into};
 
 use crate::capacities::{capacity_from, capacity_into};
-use ratio_witness::link_shares;
+use ratio_checker::shares_by_link;
 use te_model::{Head, Network, Pair, PairRoutes, RATIO_UNIT, SHARE_UNIT, ceil_div};
 
 fn capacity_of(net: &Network, link: usize) -> u128
@@ -20,7 +20,7 @@ fn capacity_of(net: &Network, link: usize) -> u128
 }
 
 // The share of the link over its capacity, times the room, in millionths, rounded up.
-fn room_over_capacity(net: &Network, shares: &[u128], room: u64, link: usize) -> u128
+fn room_over_capacity(net: &Network, shares: &[u64], room: u64, link: usize) -> u128
     requires links { HasSmallLinks net.now }
     requires link { link < link_count net.now }
     requires count { link_count net.now ≤ length shares.now }
@@ -28,7 +28,8 @@ fn room_over_capacity(net: &Network, shares: &[u128], room: u64, link: usize) ->
     requires shares { slice_index shares.now link ≤ SHARE_UNIT }
     ensures { RATIO_UNIT * (room * slice_index shares.now link) ≤ result * (SHARE_UNIT * capacity_of net.now link) }
 {
-    let part = u128::from(room) * shares[link];
+    let share = u128::from(shares[link]);
+    let part = u128::from(room) * share;
     let over = u128::from(RATIO_UNIT) * part;
     let under = u128::from(SHARE_UNIT) * capacity_of(net, link);
     ceil_div(over, under)
@@ -48,7 +49,7 @@ fn lesser(a: u64, b: u64) -> u64
 }
 
 // The greatest of these numbers.
-fn greatest_over_capacity(net: &Network, shares: &[u128], room: u64) -> u128
+fn greatest_over_capacity(net: &Network, shares: &[u64], room: u64) -> u128
     requires links { HasSmallLinks net.now }
     requires count { link_count net.now ≤ length shares.now }
     requires room { room ≤ 2 ^ 42 }
@@ -81,7 +82,7 @@ fn limit_of_route(net: &Network, route: &PairRoutes) -> u128
     ensures { IsRouteLimit net.now route.now result }
 {
     let room = room_of(net, route.pair);
-    let shares = link_shares(route.paths.as_slice());
+    let shares = shares_by_link(route.paths.as_slice());
     greatest_over_capacity(net, &shares, room)
 }
 

@@ -3,8 +3,9 @@ use Rattle.std.specs.Prelude.{IfOk}
 use Rattle.te_model.specs.declared.route.Pair.{Pair}
 use Rattle.te_model.proofs.Valid.{valid_limits}
 use Rattle.scheme.specs.Reach.{AllReached, ArePairsOf}
-use Rattle.witness_search.proofs.Heads.{head_formed, head_pairs_of, head_reached}
-use Rattle.ratio_witness.proofs.KeptRules.{valid_alone}
+use Rattle.witness_search.proofs.Heads.{head_pairs_of, head_reached}
+use Rattle.ratio_checker.proofs.FormedHeads.{head_formed}
+use Rattle.ratio_checker.proofs.MoreBlocks.{valid_without_blocks}
 use Rattle.witness_search.proofs.attacks.plan_of.Goals as goal
 
 pub plan_with-requires-clause-network : goal.plan_with-requires-clause-network
@@ -13,7 +14,7 @@ plan_with-requires-clause-network g c = head_formed c.args.head.now c.requires
 pub plan_with-requires-clause-pairs : goal.plan_with-requires-clause-pairs
 plan_with-requires-clause-pairs g c =
     let h = c.args.head.now in
-    let few = (valid_limits (record { head = h; blocks = [] }) (valid_alone h c.requires)).pairs in
+    let few = (valid_limits (record { head = h; blocks = [] }) (valid_without_blocks h c.requires)).pairs in
     subst (ArePairsOf h.network) (sym c.in_ok-pairs.ensures) (head_pairs_of h c.requires few)
 
 pub plan_with-requires-clause-reached : goal.plan_with-requires-clause-reached

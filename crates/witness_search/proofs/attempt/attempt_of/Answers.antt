@@ -5,7 +5,7 @@ use Rattle.te_model.specs.declared.route.PairRoutes.{PairRoutes}
 use Rattle.te_model.specs.Pairs.{AreDemands}
 use Rattle.witness_search.specs.Attempts.{RoutesBy, pairs_of}
 use Rattle.witness_search.specs.Candidates.{paths_by}
-use Rattle.witness_search.proofs.Heads.{head_formed}
+use Rattle.ratio_checker.proofs.FormedHeads.{head_formed}
 use Rattle.witness_search.proofs.MadeAttempts.{attempt_made, tried_keeps}
 use Rattle.witness_search.proofs.attempt.attempt_of.Goals as goal
 

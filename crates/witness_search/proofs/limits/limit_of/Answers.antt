@@ -4,7 +4,7 @@ use Rattle.std.proofs.lemmas.List.{get_or_read}
 use Rattle.te_model.specs.declared.route.PairRoutes.{PairRoutes}
 use Rattle.te_model.specs.declared.units.TheConstants.{SHARE_UNIT}
 use Rattle.te_model.specs.Path.{no_routes, routes_at}
-use Rattle.ratio_witness.specs.Judged.{IsSimplePath}
+use Rattle.ratio_checker.specs.Checked.{IsSimplePath}
 use Rattle.witness_search.specs.RouteLimits.{IsRouteLimit}
 use Rattle.witness_search.proofs.HeadLimits.{head_simple, limit_is}
 use Rattle.witness_search.proofs.LinkSums.{head_links_small}

@@ -5,16 +5,16 @@ use Rattle.witness_search.proofs.limits.room_over_capacity.Goals as goal
 
 pub overflow_mul-part : goal.overflow_mul-part
 overflow_mul-part c =
-    let share = slice_index c.args.shares.now c.args.link in
     let room : c.from.result ≤ 2 ^ 42 = let e = c.from.ensures in omega (arith, e, c.requires.room) in
-    omega (arith, mul-le c.from.result share (2 ^ 42) 1000000 room c.requires.shares)
+    let share : c.from-share.result ≤ 1000000 = let e = c.from-share.ensures in omega (arith, e, c.requires.shares) in
+    omega (arith, mul-le c.from.result c.from-share.result (2 ^ 42) 1000000 room share)
 
 pub overflow_mul-over : goal.overflow_mul-over
 overflow_mul-over c =
-    let share = slice_index c.args.shares.now c.args.link in
     let room : c.from.result ≤ 2 ^ 42 = let e = c.from.ensures in omega (arith, e, c.requires.room) in
-    let part = mul-le c.from.result share (2 ^ 42) 1000000 room c.requires.shares in
-    let unit = ap (λ u. u * (c.from.result * share)) c.from-2.ensures in
+    let share : c.from-share.result ≤ 1000000 = let e = c.from-share.ensures in omega (arith, e, c.requires.shares) in
+    let part = mul-le c.from.result c.from-share.result (2 ^ 42) 1000000 room share in
+    let unit = ap (λ u. u * (c.from.result * c.from-share.result)) c.from-2.ensures in
     omega (arith, part, unit)
 
 pub overflow_mul-under : goal.overflow_mul-under
@@ -31,7 +31,8 @@ ceil_div-requires c =
 
 pub returns : goal.returns
 returns c =
-    let share = slice_index c.args.shares.now c.args.link in
-    let over = ap (λ u. u * (c.from.result * share)) c.from-2.ensures ∙ ap (λ r. RATIO_UNIT * (r * share)) c.from.ensures in
+    let share = c.from-share.result in
+    let over = ap (λ u. u * (c.from.result * share)) c.from-2.ensures ∙ ap (λ r. RATIO_UNIT * (r * share)) c.from.ensures
+    ∙ ap (λ s. RATIO_UNIT * (c.args.room * s)) c.from-share.ensures in
     let under = ap (λ u. c.ceil_div.result * (u * c.capacity_of.result)) c.from-3.ensures ∙ ap (λ k. c.ceil_div.result * (SHARE_UNIT * k)) c.capacity_of.ensures in
     omega (arith, over, under, c.ceil_div.ensures.enough)

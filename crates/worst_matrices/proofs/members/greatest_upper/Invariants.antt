@@ -1,0 +1,5 @@
+use Rattle.std.proofs.Common.{◌^◌, ◌≤◌}
+use Rattle.worst_matrices.proofs.members.greatest_upper.Given as goal
+
+abbrev pub invariant-loop-p : goal.invariant-loop-p
+invariant-loop-p l = l.most ≤ 2 ^ 52

@@ -1,0 +1,191 @@
+//! The worst matrices for the link whose block needs most.
+ghost use Rattle.std.specs.Prelude.{◌≡◌, ◌^◌, ◌<◌, ◌≤◌, All, IfOk, IfSome, IsTrue, OnOk, length};
+ghost use Rattle.te_model.specs.Laws.{PairsJoinNodes};
+ghost use Rattle.te_model.specs.Network.{is_well_formed, link_count, node_count};
+ghost use Rattle.te_model.specs.PathRouting.{IsPathRouting};
+ghost use Rattle.best_blocks.specs.Need.{HasNumbers};
+ghost use Rattle.worst_matrices.specs.Members.{IsScaledMember};
+ghost use Rattle.worst_matrices.specs.Usage.{HasSmallBounds, IsLinkUsage, IsWeightSearch};
+
+use crate::means::Sums;
+use crate::members::{ScaledMatrix, member_near};
+use crate::neediest::neediest_link;
+use crate::sweeps::{Search, make_stage, start};
+use crate::usage::LinkUsage;
+use routing::{Routing, Shares};
+use std::alloc::Global;
+use te_model::{Block, DemandSet, Memory, Network};
+
+/// How many stages of sweeps there are whose matrices are not looked at: they bring the weights near. The steps of each stage are half
+/// as great as those of the one before.
+const FIRST_STAGES: usize = 4;
+
+/// How many stages there are whose means are looked at.
+const LAST_STAGES: usize = 4;
+
+/// The parts of a step in the first of these stages.
+const PARTS_BETWEEN: u64 = 16;
+
+/// The parts of a step in the last one.
+const MAX_PARTS: u64 = 128;
+
+/// The share of each pair on the link.
+fn shares_on(alloc: Global, routing: &Routing, link: u32) -> Result<Vec<u64>, Memory>
+    requires { length routing.now.routes < 2 ^ 32 }
+    ensures { IfOk result (λ s. length s.items ≡ length routing.now.routes) }
+{
+    let pairs = routing.routes.as_slice().len();
+    let mut shares = Vec::with_capacity(alloc, pairs)?;
+    for p in 0..pairs {
+        shares.push(routing.share(p as u32, link))?;
+    }
+    Ok(shares)
+}
+
+/// Whether the worst matrices have demands of a pair with this share.
+fn is_asked(set: &DemandSet, share: u64) -> bool {
+    match set {
+        DemandSet::All => share > 0,
+        DemandSet::Margin { .. } => true,
+        DemandSet::Box { .. } => true,
+    }
+}
+
+/// Marks the sources of the pairs of which the worst matrices have demands.
+fn mark_sources(usage: &LinkUsage, marks: &mut [bool])
+    requires usage { IsLinkUsage usage.now }
+    requires count { length marks.old ≡ node_count usage.now.net.now }
+{
+    let routes = usage.routing.routes.as_slice();
+    for p in 0..routes.len() {
+        if is_asked(usage.set, usage.shares[p]) {
+            marks[routes[p].pair.src as usize] = true;
+        }
+    }
+}
+
+/// Adds the matrix of the set that is nearest to the mean of the sums, where there is one.
+fn add_mean(
+    alloc: Global,
+    set: &DemandSet,
+    sums: &Sums,
+    found: &mut Vec<ScaledMatrix>,
+) -> Result<(), Memory>
+    requires set { HasSmallBounds set.now }
+    requires found { All (IsScaledMember set.now (length sums.now.demand.items)) found.old.items }
+    ensures { OnOk result (All (IsScaledMember set.now (length sums.now.demand.items)) found.new.items) }
+{
+    match member_near(alloc, set, sums)? {
+        Some(matrix) => {
+            found.push(matrix)?;
+            Ok(())
+        }
+        None => Ok(()),
+    }
+}
+
+/// Goes on with the search by its first stages.
+fn make_first_stages(
+    alloc: Global,
+    usage: &LinkUsage,
+    marks: &[bool],
+    search: &mut Search,
+) -> Result<(), Memory>
+    requires usage { IsLinkUsage usage.now }
+    requires marks { length marks.now ≡ node_count usage.now.net.now }
+    requires search { IsWeightSearch usage.now search.old }
+    ensures { OnOk result (IsWeightSearch usage.now search.new) }
+{
+    let mut parts = 1;
+    for _ in 0..FIRST_STAGES {
+        make_stage(alloc, usage, marks, search, parts)?;
+        parts = (2 * parts).min(MAX_PARTS);
+    }
+    Ok(())
+}
+
+/// The means of the last stages of a search, which stands behind its first ones.
+fn means_of_stages(
+    alloc: Global,
+    usage: &LinkUsage,
+    marks: &[bool],
+    search: &mut Search,
+) -> Result<Vec<ScaledMatrix>, Memory>
+    requires usage { IsLinkUsage usage.now }
+    requires marks { length marks.now ≡ node_count usage.now.net.now }
+    requires search { IsWeightSearch usage.now search.old }
+    ensures { IfOk result (λ found. All (IsScaledMember usage.now.set.now (length usage.now.shares.now)) found.items) }
+{
+    let mut found = Vec::new(alloc);
+    let mut parts = PARTS_BETWEEN;
+    for _ in 0..LAST_STAGES {
+        let sums = make_stage(alloc, usage, marks, search, parts)?;
+        add_mean(alloc, usage.set, &sums, &mut found)?;
+        parts = (2 * parts).min(MAX_PARTS);
+    }
+    Ok(found)
+}
+
+/// The means for a link.
+fn means_for(alloc: Global, usage: &LinkUsage) -> Result<Vec<ScaledMatrix>, Memory>
+    requires { IsLinkUsage usage.now }
+    ensures { IfOk result (λ found. All (IsScaledMember usage.now.set.now (length usage.now.shares.now)) found.items) }
+{
+    let mut marks = vec![in alloc; false; usage.net.names.as_slice().len()]?;
+    mark_sources(usage, &mut marks);
+    let mut search = start(alloc, usage, &marks)?;
+    make_first_stages(alloc, usage, &marks, &mut search)?;
+    means_of_stages(alloc, usage, &marks, &mut search)
+}
+
+/// The means for the link of this number.
+fn means_on(
+    alloc: Global,
+    net: &Network,
+    routing: &Routing,
+    set: &DemandSet,
+    link: u32,
+) -> Result<Vec<ScaledMatrix>, Memory>
+    requires network { IsTrue (is_well_formed net.now) }
+    requires nodes { PairsJoinNodes net.now routing.now.routes }
+    requires few { length routing.now.routes < 2 ^ 32 }
+    requires set { HasSmallBounds set.now }
+    ensures { IfOk result (λ found. All (IsScaledMember set.now (length routing.now.routes)) found.items) }
+{
+    let shares = shares_on(alloc, routing, link)?;
+    let usage = LinkUsage {
+        net,
+        routing,
+        set,
+        shares: shares.as_slice(),
+    };
+    means_for(alloc, &usage)
+}
+
+/// Matrices of the set that use the link of the first block that needs most much more than another routing would have to: for each
+/// of the last four stages of sweeps of the link's weights the mean of the worst matrices that they meet, scaled to whole numbers and
+/// moved into the set. There are fewer where no matrix of whole numbers lies so, and none where no pair has a share on the link of a
+/// block.
+///
+/// How near they are to the worst matrices of the routing is not said. `Memory` comes where memory is wanting.
+pub fn worst_matrices(
+    alloc: Global,
+    net: &Network,
+    routing: &Routing,
+    set: &DemandSet,
+    blocks: &[Block],
+) -> Result<Vec<ScaledMatrix>, Memory>
+    requires network { IsTrue (is_well_formed net.now) }
+    requires routing { IsPathRouting net.now routing.now.routes }
+    requires nodes { PairsJoinNodes net.now routing.now.routes }
+    requires few { length routing.now.routes < 2 ^ 32 }
+    requires set { HasSmallBounds set.now }
+    requires blocks { All (HasNumbers net.now) blocks.now }
+    ensures { IfOk result (λ found. All (IsScaledMember set.now (length routing.now.routes)) found.items) }
+{
+    let shares = Shares::new(alloc, net, routing)?;
+    match neediest_link(net, &shares, blocks) {
+        Some(link) => means_on(alloc, net, routing, set, link),
+        None => Ok(Vec::new(alloc)),
+    }
+}
