@@ -71,7 +71,7 @@ def programs_that_fail():
             certificate.write(SMALLEST)
         words = {
             "attack": ["4"], "check_speed": [file], "hose": ["4"], "hostile": ["false count of pairs, format 1"], "publish": ["ring:4:spf"],
-            "rates": ["4"], "schemes": ["cube:4:spf"], "update": ["4"], "nearness": ["--recorded", "--program", false, "torus"],
+            "rates": ["4"], "schemes": ["cube:4:spf"], "tighten": ["ring:4:spf"], "times": ["ring:4"], "update": ["4"], "nearness": ["--recorded", "--program", false, "torus"],
         }
         for name in scripts():
             script = without_programs(name)

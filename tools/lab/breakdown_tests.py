@@ -12,17 +12,17 @@ LINKS = "scheme,link,source,target,capacity,failed,asked,carried,asked_parts,car
 PAIRS = "scheme,source,target,offered,delivered,lost_full,lost_failed,lost_no_path,paths,cost,least_cost"
 PATHS = "scheme,source,target,weight,links"
 AMOUNTS = ("offered", "delivered", "lost_full", "lost_failed", "lost_no_path")
-EACH_SCHEME = '"schemes":["spf","ecmp","ksp","mcf","racke","smore","valiant"]'
+EACH_SCHEME = '"schemes":["spf","ecmp","ksp","mcf","racke","smore","valiant","robust"]'
 STEPS = 3
 
 
 class Inputs:
-    """A plan with the network, the series and the outages of its files, of which a step is looked at."""
+    """A plan with the network, the declared pairs, the series and the outages of its files, of which a step is looked at."""
 
-    def __init__(self, plan, net, series, outages, step):
-        self.plan, self.net, self.series, self.step = plan, net, series, step
+    def __init__(self, plan, net, pairs, series, outages, step):
+        self.plan, self.net, self.pairs, self.step = plan, net, pairs, step
         self.failed = [any(first <= step <= last and link == it for first, last, link in outages) for it in range(len(net.links))]
-        self.demands = {pair: series.demand(step, pair) for pair in series.pairs}
+        self.demands = {pair: series.demand(step, pair) for pair in pairs}
         self.names = [name.decode() for name in net.names]
 
     @classmethod
@@ -31,8 +31,9 @@ class Inputs:
         plan, _ = read_plan(files["p"].encode())
         net, _ = read_topology(files["t"].encode())
         series, _ = read_matrices(files["m"].encode(), net)
+        predictions = read_matrices(files["q"].encode(), net)[0] if plan.predictions else series
         outages = read_failures(files["f"].encode(), len(net.links), len(series.steps))[0] if plan.failures else []
-        return cls(plan, net, series, outages, step)
+        return cls(plan, net, sorted(series.declared | predictions.declared), series, outages, step)
 
     def pair_of(self, source, target):
         return self.names.index(source), self.names.index(target)
@@ -47,7 +48,7 @@ def rows_of(text, header):
 
 def rates_of(inputs, rows):
     """The paths of each declared pair, from the rows of `paths`."""
-    rates = {pair: [] for pair in inputs.series.pairs}
+    rates = {pair: [] for pair in inputs.pairs}
     for row in rows:
         rates[inputs.pair_of(row["source"], row["target"])].append((int(row["weight"]), [int(it) for it in row["links"].split(" ")]))
     return rates

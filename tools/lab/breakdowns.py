@@ -26,6 +26,8 @@ TWO_SCHEMES = plan("none", '["spf","ksp"]')
 ALONE = '{"topology":"t","matrices":"m","schemes":["spf"]}'
 EACH_TO_EACH = "source,target,capacity,cost\na,b,10,1\na,c,10,1\nb,a,10,1\nb,c,10,1\nc,a,10,1\nc,b,10,1\n"
 VALIANT = '{"topology":"t","matrices":"m","schemes":["valiant"]}'
+ROBUST = '{"topology":"t","matrices":"m","schemes":["robust"],"budget":32}'
+LINK = "source,target,capacity,cost\na,b,10,1\n"
 FIVE = "step,source,target,demand\n0,a,b,5\n"
 
 # Half of the demand goes over the straight link, and half over x. Two links of the way over y carry none.
@@ -58,6 +60,7 @@ LINKS_AT_0 = [
         BY_LINKS + "valiant,0,a,b,10,no,3,3,300000,300000\nvaliant,1,a,c,10,no,2,2,200000,200000\nvaliant,2,b,a,10,no,0,0,0,0\n"
         "valiant,3,b,c,10,no,0,0,0,0\nvaliant,4,c,a,10,no,0,0,0,0\nvaliant,5,c,b,10,no,2,2,200000,200000\n",
     ),
+    ([ROBUST, LINK, FIVE], 0, BY_LINKS + "robust,0,a,b,10,no,5,5,500000,500000\n"),
 ]
 
 LINKS_AT_1 = [
@@ -85,6 +88,7 @@ PAIRS_AT_0 = [
     # A pair whose paths have failed has none, but a least cost on the whole network.
     ([SCALE, WAYS, THERE_AND_BACK, BOTH_PATHS], 0, BY_PAIRS + "ksp,s,t,12,0,0,0,12,0,-,1000000\nksp,t,s,5,0,0,0,5,0,-,-\n"),
     ([VALIANT, EACH_TO_EACH, FIVE], 0, BY_PAIRS + "valiant,a,b,5,5,0,0,0,2,1333333,1000000\n"),
+    ([ROBUST, LINK, FIVE], 0, BY_PAIRS + "robust,a,b,5,5,0,0,0,1,1000000,1000000\n"),
 ]
 
 PAIRS_AT_1 = [
@@ -99,6 +103,7 @@ PAIRS_AT_1 = [
 PATHS_AT_0 = [
     ([KEEP, WAYS, TWELVE, FAILURE], 0, BY_PATHS + "ksp,s,t,500000,0\nksp,s,t,500000,1 2\n"),
     ([VALIANT, EACH_TO_EACH, FIVE], 0, BY_PATHS + "valiant,a,b,666667,0\nvaliant,a,b,333333,1 5\n"),
+    ([ROBUST, LINK, FIVE], 0, BY_PATHS + "robust,a,b,1000000,0\n"),
     # A pair without a path has no line.
     ([SCALE, WAYS, THERE_AND_BACK, BOTH_PATHS], 0, BY_PATHS),
 ]

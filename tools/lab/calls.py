@@ -21,10 +21,11 @@ from .hoses import (
     BOUNDED, BOUNDED_IN_PART, CUT_HOSES, HOSES, NO_FORMS as NO_HOSE_FORMS, TWICE as HOSES_TWICE, block as hose_block, bounds as hose_bounds, hose,
 )
 from .prices import BOUNDS, REPRICED
+from .tightened import NOT_TIGHTENED
 from .program import TOP
 from .rates import CUT_RATES, NO_FORMS as NO_RATE_FORMS, PROTECTIONS, RATES, TWICE as RATES_TWICE, made as made_rates, rates, yes as rates_survive
 from .updates import TWICE as UPDATE_TWICE, UPDATES, plan as update_plan
-from .witnesses import ATTACKED, ATTACKS, CUT_WITNESSES, TWICE as WITNESS_TWICE, WITNESSES, witness
+from .witnesses import ATTACKED, ATTACKS, CHALLENGED, CHALLENGES, CUT_WITNESSES, TWICE as WITNESS_TWICE, WITNESSES, witness
 
 YES = "yes ratio 1000000 set all\n"
 YES_TWICE = "yes ratio 2000000 set all\n"
@@ -138,7 +139,7 @@ CONVERSIONS = [
     ([SMALLEST_WITH_LESS], 0, SMALLEST_WITH_LESS_IN_SECOND),
 ]
 
-# A file that `convert`, `attack` and `bounds` refuse as `check` does, and the line.
+# A file that `convert`, `attack`, `challenge` and `bounds` refuse as `check` does, and the line.
 UNCONVERTED = [
     ([TWICE_A_NAME], 3, "refused: c: rule V1 at 1\n"),
     ([TRIANGLE_SMALL_MARGIN], 3, "refused: c: rule V7 at 0\n"),
@@ -190,6 +191,18 @@ PUBLISHED = [
     # Over each of three nodes, and the heaviest of these paths alone.
     (['{"topology":"t","matrices":"m","publish":"valiant","budget":32}', EACH_TO_EACH, DEMAND], 0, "\npairs 1\n0 1 2\n666667 1 0\n333333 2 1 5\nset all\n"),
     (['{"topology":"t","matrices":"m","publish":"valiant","budget":1}', EACH_TO_EACH, DEMAND], 0, "\npairs 1\n0 1 1\n1000000 1 0\nset all\n"),
+    # One path alone, at most as many as the budget, and a pair that may take either of two ways.
+    (['{"topology":"t","matrices":"m","publish":"robust"}', LINK, DEMAND], 0, "\npairs 1\n0 1 1\n1000000 1 0\nset all\nratio 1000000\n"),
+    (['{"topology":"t","matrices":"m","publish":"robust","budget":1}', EACH_TO_EACH, DEMAND], 0, "\npairs 1\n0 1 1\n1000000 "),
+    (['{"topology":"t","matrices":"m","publish":"robust","budget":32}', EACH_TO_EACH, DEMAND], 0, "\npairs 1\n0 1 2\n"),
+    # Pairs that share no link, a margin, an envelope, and no pair.
+    (
+        ['{"topology":"t","matrices":"m","publish":"robust"}', "source,target,capacity,cost\na,b,10,1\nc,d,30,1\n", "step,source,target,demand\n0,a,b,1\n0,c,d,1\n"], 0,
+        "\n0 1 1\n1000000 1 0\n2 3 1\n1000000 1 1\nset all\nratio 100000",
+    ),
+    (['{"topology":"t","matrices":"m","publish":"robust","margin":[2,1]}', LINK, FIVE_AND_NINE], 0, "\n0 1 1\n1000000 1 0\nset margin 2 1\nbase 5\nratio 1000000\n"),
+    (['{"topology":"t","matrices":"m","publish":"robust","envelope":true}', LINK, FIVE_AND_NINE], 0, "\nset box\nlower 5\nupper 9\nratio 1000000\n"),
+    (['{"topology":"t","matrices":"m","publish":"robust"}', LINE, "step,source,target,demand\n"], 0, "\npairs 0\nset all\nratio 0\nblocks 0\nend\n"),
     # The trees of the default scheme have one path for each pair.
     (['{"topology":"t","matrices":"m"}', BOTH_WAYS, EXCHANGE], 0, "\n0 1 1\n1000000 1 0\n1 0 1\n1000000 1 1\nset all\nratio "),
     ([MARGIN_OF_ONE, TRIANGLE_NET, TO_C], 0, "\nset margin 1 1\nbase 10 10\nratio "),
@@ -219,7 +232,7 @@ UNPUBLISHED = [
     ([SPF, LINE, "step,source,target,demand\n0,a,b,1\n0,a,c,1\n0,c,a,1\n"], 7, "no path: c a\n"),
     ([SPF, LINE, "step,source,target,demand\n0,c,a,1\n0,b,a,1\n"], 7, "no path: b a\n"),
     # So they are whichever scheme is published.
-    *[([SPF.replace("spf", scheme), LINE, DEMAND + "0,c,a,1\n0,b,a,1\n"], 7, "no path: b a\n") for scheme in ("ecmp", "ksp", "racke")],
+    *[([SPF.replace("spf", scheme), LINE, DEMAND + "0,c,a,1\n0,b,a,1\n"], 7, "no path: b a\n") for scheme in ("ecmp", "ksp", "racke", "robust")],
     (
         ['{"topology":"t","matrices":"m","publish":"valiant"}', "source,target,capacity,cost\na,b,10,1\nb,a,10,1\nc,b,10,1\n",
          "step,source,target,demand\n0,a,c,1\n"], 7, "no path: a c\n",
@@ -299,6 +312,11 @@ REPORTS = [
     (
         ['{"topology":"t","matrices":"m","schemes":["valiant"]}', EACH_TO_EACH, "step,source,target,demand\n0,a,b,5\n"], 0,
         COLUMNS + "valiant,0,5,5,0,0,0,300000,333334,-\nvaliant,total,5,5,0,0,0,300000,333334,-\n",
+    ),
+    # Where each pair has one path the sweeps have no choice, whatever the budget is.
+    (
+        ['{"topology":"t","matrices":"m","schemes":["robust"],"budget":32}', LINE, "step,source,target,demand\n0,a,c,5\n0,b,c,2\n"], 0,
+        COLUMNS + "robust,0,7,7,0,0,0,700000,700000,-\nrobust,total,7,7,0,0,0,700000,700000,-\n",
     ),
     # Traffic without a path is lost, and needs no failure file.
     (
@@ -384,11 +402,15 @@ NO_FORMS = [
     ["check", "c", "t", "t"],
     ["attack"],
     ["attack", "c", "c"],
+    ["challenge"],
+    ["challenge", "c", "c"],
     ["check-witness", "c"],
     ["check-witness", "c", "w", "w"],
     ["check_witness", "c", "w"],
     ["convert"],
     ["convert", "c", "c"],
+    ["tighten"],
+    ["tighten", "c", "c"],
     ["publish"],
     ["run", "p", "p"],
     ["yates", "check", "c"],
@@ -515,6 +537,10 @@ TABLES = [
     ("attacks of chains", ["attack", "c"], "c", CHAIN_ATTACKS),
     ("witnesses of attacks", ["check-witness", "c", "w"], "cw", ATTACKED),
     ("refusals of attack", ["attack", "c"], "c", UNCONVERTED),
+    ("challenges", ["challenge", "c"], "c", CHALLENGES),
+    ("challenges of chains", ["challenge", "c"], "c", CHAIN_ATTACKS),
+    ("witnesses of challenges", ["check-witness", "c", "w"], "cw", CHALLENGED),
+    ("refusals of challenge", ["challenge", "c"], "c", UNCONVERTED),
     ("a file twice, as a witness", ["check-witness", "c", "c"], "c", WITNESS_TWICE),
     ("updates", ["update", "o", "n", "m"], "onm", UPDATES),
     ("updates of chains", ["update", "o", "n", "m"], "onm", CHAIN_UPDATES),
@@ -538,6 +564,8 @@ TABLES = [
     ("refusals of bounds", ["bounds", "c"], "c", UNCONVERTED),
     ("certificates on other capacities", ["reprice", "c", "t"], "ct", REPRICED),
     ("a file twice, as its capacities", ["reprice", "c", "c"], "c", TWICE),
+    ("certificates that are not tightened", ["tighten", "c"], "c", NOT_TIGHTENED),
+    ("refusals of tighten", ["tighten", "c"], "c", UNCONVERTED),
     ("published certificates", ["publish", "p"], "ptm", PUBLISHED),
     ("refusals of publish", ["publish", "p"], "ptm", UNPUBLISHED),
     ("reports", ["run", "p"], "ptmf", REPORTS),

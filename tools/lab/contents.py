@@ -19,8 +19,8 @@ BEGINNINGS = [
 ]
 # The first line of a file of text, in small letters: what it is.
 FIRST_LINES = [
-    (r"yates-ratio ", "a certificate, which attack, bounds, check, check-hose, check-rates, check-witness, convert, hose, protect, reprice and update read"),
-    (r"yates-witness ", "a witness, which attack writes and check-witness reads"),
+    (r"yates-ratio ", "a certificate, which attack, bounds, challenge, check, check-hose, check-rates, check-witness, convert, hose, protect, reprice, tighten and update read"),
+    (r"yates-witness ", "a witness, which attack and challenge write and check-witness reads"),
     (r"yates-rates ", "rates, which protect writes and check-rates reads"),
     (r"yates-hose ", "a hose certificate, which hose writes and check-hose reads"),
     (r"yates-bounds ", "bounds on what nodes send and receive, which hose reads"),

@@ -1,5 +1,5 @@
 """Certificates that are drawn, of both formats and all sets, with right numbers, with slightly wrong ones, and changed at some place; and
-whether `check`, `convert`, `bounds` and `reprice` say of them what the second checker does.
+whether `check`, `convert`, `bounds` and `reprice` say of them what the second checker does, and `tighten` makes of them what it may.
 """
 import functools
 import os
@@ -8,14 +8,14 @@ import random
 import reference_check
 import reference_reprice
 
-from . import certificates, program
+from . import certificates, program, tightened
 from .campaigns import SECONDS
 from .changes import CERTIFICATE, with_changes, with_number
 from .polish import Made, up
 
 NAME, TOPOLOGY, SEPARATOR, CASES_OF_CAMPAIGN = "c", "t", CERTIFICATE.separator, 1_000_000
-# Of how many certificates one is converted; how many of one network are drawn.
-CONVERTED, OF_ONE = 8, 16
+# Of how many certificates one is converted, and one tightened; how many of one network are drawn.
+CONVERTED, TIGHTENED, OF_ONE = 8, 4, 16
 # A topology of another network.
 OTHER_NETWORK = b"source,target,capacity,cost\nx,y,1,1\n"
 NO_PAIRS = "nodes 2\na\nb\nlinks 1\n0 1 10 1\npairs 0\n"
@@ -107,6 +107,11 @@ def block_of(draw, made, link):
     """A block of drawn weights that holds, and what it needs."""
     most = draw.choice((1, 9, 1000, 2**20))
     weights = [draw.randint(1, most) for _ in made.links]
+    return block_text(made, link, weights), made.need(link, weights)
+
+
+def block_text(made, link, weights):
+    """The best block of these weights."""
     a, b = made.a_and_b(link, weights)
     shares = made.shares(link, weights)
     sources = sorted({pair[0] for pair, share in zip(made.pairs, shares) if share[0] or made.bounds})
@@ -115,7 +120,7 @@ def block_of(draw, made, link):
     if made.bounds:
         rises = [up(b * share, reference_check.SHARE_UNIT) - distance for share, distance, _ in shares]
         text += f"plus{numbers_text(max(it, 0) for it in rises)}\nminus{numbers_text(max(-it, 0) for it in rises)}\n"
-    return text, made.need(link, weights)
+    return text
 
 
 @functools.lru_cache(maxsize=4)
@@ -167,6 +172,8 @@ def judge(files, folder, number):
     faults += faults_of_prices(data, folder)
     if number % CONVERTED == 0:
         faults += faults_of_converted(data, want, answer_of(["convert", NAME], folder))
+    if number % TIGHTENED == 0:
+        faults += faults_of_tightened(data, answer_of(["tighten", NAME], folder))
     label = {0: "yes", 1: "no"}.get(want[2], "rule" if "rule" in want[1] else "shape")
     return label, faults
 
@@ -195,6 +202,16 @@ def faults_of_prices(data, folder):
         ("reprice", reference_reprice.answer([NAME, TOPOLOGY], bytes_of), answer_of(["reprice", NAME, TOPOLOGY], folder)),
     ]
     return [f"{command}: want {want}, got {got}" for command, want, got in pairs if got != want]
+
+
+def faults_of_tightened(data, got):
+    """What is wrong with what `tighten` says of a certificate: the no of `bounds`, or the file of a certificate that needs no more."""
+    want = reference_check.bounds_of(NAME, data)
+    if want[2] != 0:
+        return [] if got == want else [f"tighten: want {want}, got {got}"]
+    if got[1:] != ("", 0):
+        return [f"tighten: got {got[1:]}"]
+    return [f"tighten: {fault}" for fault in tightened.faults_of(data, got[0].encode())]
 
 
 def faults_of_converted(data, want, got):

@@ -59,13 +59,15 @@ def faults_of_breakdowns(reading, folder, step):
         said = program.answer(words, folder, SECONDS)
         return said.status, said.out.decode(), said.err
 
-    return faults_of_step(answer, Inputs(reading.plan, reading.net, reading.series, reading.outages or [], step), PLAN)
+    pairs = sorted(reading.series.declared | (reading.predictions or reading.series).declared)
+    return faults_of_step(answer, Inputs(reading.plan, reading.net, pairs, reading.series, reading.outages or [], step), PLAN)
 
 
 def wanted(words, reading):
     """The line and status that the files decide for these words."""
     # `publish` does not read the failures.
-    return ("", 0) if words[0] == "publish" and reading.series is not None else outcome(reading)
+    is_published = reading.series is not None and (reading.predictions is not None or not reading.plan.predictions)
+    return ("", 0) if words[0] == "publish" and is_published else outcome(reading)
 
 
 def words_of(number):

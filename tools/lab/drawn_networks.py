@@ -3,8 +3,10 @@ import json
 
 from .plans import OBLIVIOUS, RECOVERIES, SCHEMES
 
-PLAN, NETWORK, MATRICES, FAILURES = "plan.json", "net.csv", "tm.csv", "cuts.csv"
+PLAN, NETWORK, MATRICES, FAILURES, PREDICTIONS = "plan.json", "net.csv", "tm.csv", "cuts.csv", "predicted.csv"
 MOST_AMOUNT = 2**32
+# How many links a network has at most whose plan may name `robust`, whose sweeps take long on greater ones.
+LINKS_OF_ROBUST = 40
 HEADERS = {NETWORK: "source,target,capacity,cost\n", MATRICES: "step,source,target,demand\n", FAILURES: "from,to,link\n"}
 
 
@@ -45,11 +47,13 @@ def failures(draw, links, steps):
     return HEADERS[FAILURES] + "".join(rows)
 
 
-def plan(draw):
-    """A plan whose keys may be left out."""
+def plan(draw, links):
+    """A plan for a network of so many links, whose keys may be left out."""
     k, most = draw.randint(1, 8), draw.randint(1, 9)
+    schemes, oblivious = ([it for it in names if it != "robust" or links <= LINKS_OF_ROBUST] for names in (SCHEMES, OBLIVIOUS))
     keys = {
-        "failures": FAILURES, "schemes": draw.sample(SCHEMES, draw.randint(1, 6)), "recovery": draw.choice(RECOVERIES), "publish": draw.choice(OBLIVIOUS),
+        "failures": FAILURES, "predictions": PREDICTIONS, "schemes": draw.sample(schemes, draw.randint(1, 6)), "recovery": draw.choice(RECOVERIES),
+        "publish": draw.choice(oblivious),
         "k": k, "budget": draw.choice((k, draw.randint(1, 8), 32)), "trees": draw.randint(1, 8), "seed": draw.randrange(2**64),
         "seeds": draw.choice((1, 1, 2, 3)),
     }
@@ -62,5 +66,6 @@ def experiment(draw, nodes, links, steps, pairs):
     """The files of an experiment of such a size at most."""
     net, ends = topology(draw, nodes, links)
     series, count = matrices(draw, ends, steps, pairs)
-    files = {PLAN: plan(draw), NETWORK: net, MATRICES: series, FAILURES: failures(draw, len(ends), count)}
+    predicted, _ = matrices(draw, ends, draw.randint(0, steps + 1), pairs)
+    files = {PLAN: plan(draw, len(ends)), NETWORK: net, MATRICES: series, FAILURES: failures(draw, len(ends), count), PREDICTIONS: predicted}
     return {name: text.encode() for name, text in files.items()}

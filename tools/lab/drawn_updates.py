@@ -1,10 +1,17 @@
-"""Updates that are drawn: small networks with two routings of each, which leave a little room on their links under the matrices."""
+"""Updates that are drawn: small networks with two routings of each, which leave a little room on their links under the matrices, and changes of those
+of the tables; and whether `update` says of them what the second reckoning does.
+"""
+import random
+
 import reference_check
+import reference_update
 
 from .changes import CERTIFICATE, INPUT, with_changes
-from .drawn_certificates import numbers_text, paths_of, weights_of
+from .drawn_certificates import answer_of, numbers_text, paths_of, weights_of
+from .updates import SAMPLES
 
-NODES = "abcd"
+NODES, NAMES = "abcd", "onm"
+SEPARATOR, CASES_OF_CAMPAIGN = CERTIFICATE.separator, 100_000
 
 
 def ends_of(draw, nodes):
@@ -94,3 +101,20 @@ def files_of(draw):
         place = draw.randrange(3)
         files[place] = with_changes(draw, files[place], CERTIFICATE if place < 2 else INPUT)
     return files
+
+
+def case(seed, number):
+    """The files of a case: most are drawn, and the others are changes of those of the tables."""
+    draw = random.Random(f"{seed} update {number}")
+    if draw.randrange(4):
+        return dict(zip(NAMES, files_of(draw)))
+    files, place = list(draw.choice(SAMPLES)), draw.randrange(3)
+    files[place] = with_changes(draw, files[place], CERTIFICATE if place < 2 else INPUT)
+    return dict(zip(NAMES, files))
+
+
+def judge(files, folder, _):
+    """What the second reckoning says of the case, and what is wrong with the program's answer."""
+    want, got = reference_update.answer(NAMES, files.__getitem__), answer_of(["update", *NAMES], folder)
+    label = f"status {want[2]}" if want[2] > 1 else want[0].partition("\n")[0].partition(" at ")[0]
+    return label, [] if got == want else [f"update: want {want}, got {got}"]

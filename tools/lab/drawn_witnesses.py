@@ -1,5 +1,6 @@
 """Witnesses that are drawn for certificates that are drawn, most of the set and with a bound near the one that they show, and changes of those of
-the tables; whether `check-witness` says of them what the second checker does; and whether both say yes to what `attack` writes.
+the tables; whether `check-witness` says of them what the second checker does; and whether both say yes to what `attack` and `challenge` write, and the
+second has no lesser bound than the first.
 """
 import random
 
@@ -19,7 +20,7 @@ WITNESS = Alphabet(
     b" ",
 )
 NAME, SEPARATOR, CASES_OF_CAMPAIGN = "w", WITNESS.separator, 1_000_000
-# Of how many certificates one is attacked.
+# Of how many certificates one is attacked and challenged.
 ATTACKED = 4
 
 
@@ -77,18 +78,33 @@ def judge(files, folder, number):
     want, got = reference_witness.check_witness("c", files["c"], "w", lambda: files["w"]), answer_of(["check-witness", "c", "w"], folder)
     faults = [] if got == want else [f"check-witness: want {want}, got {got}"]
     if number % ATTACKED == 0:
-        faults += faults_of_attack(files["c"], folder)
+        faults += faults_of_search(files["c"], folder)
     label = {0: "yes", 1: "no"}.get(want[2], "rule" if "rule" in want[1] else "shape")
     return label, faults
 
 
-def faults_of_attack(data, folder):
-    """What is wrong with the witness that `attack` writes of a certificate that is accepted, which both say yes to."""
-    out, err, status = answer_of(["attack", "c"], folder)
-    if (err, status) != ("", 0):
-        return [f"attack: {err!r}, status {status}"]
+def bound_of(text):
+    """The bound of a witness of this text."""
+    return int(text.split()[3])
+
+
+def faults_of_search(data, folder):
+    """What is wrong with the witnesses that `attack` and `challenge` write of a certificate that is accepted."""
+    texts, faults = [], []
+    for command in ("attack", "challenge"):
+        out, err, status = answer_of([command, "c"], folder)
+        if (err, status) != ("", 0):
+            return [*faults, f"{command}: {err!r}, status {status}"]
+        texts.append(out)
+        faults += faults_of_made(command, data, out, folder)
+    lesser, greater = (bound_of(text) for text in texts)
+    return [*faults, f"challenge shows {greater}, and attack {lesser}"] if greater < lesser else faults
+
+
+def faults_of_made(command, data, out, folder):
+    """What is wrong with the witness that the command wrote, which both say yes to."""
     made = out.encode()
     write_files(folder, {"a": made})
-    yes = f"yes bound {out.split()[3]}\n", "", 0
+    yes = f"yes bound {bound_of(out)}\n", "", 0
     said = reference_witness.check_witness("c", data, "a", lambda: made), answer_of(["check-witness", "c", "a"], folder)
-    return [f"{name} of what attack writes: {it}" for name, it in zip(("the second checker", "check-witness"), said) if it != yes]
+    return [f"{name} of what {command} writes: {it}" for name, it in zip(("the second checker", "check-witness"), said) if it != yes]

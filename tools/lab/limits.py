@@ -23,7 +23,7 @@ HOSES = [["hose", "c", "b"], ["check-hose", "c", "h"]]
 # The files of a call, of which one is exchanged; and by the kind of this one its name, and the words of the calls that read it.
 GOOD = {"c": SMALLEST, "w": OF_SMALLEST, "t": HEADER + ROW, "m": DEMAND, "r": RATES, "b": BOUNDS, "h": HOSE, "f": OUTAGES + "0,0,0\n", "p": PLAN}
 CALLS = {
-    "certificate": ("c", [["check", "c"], ["check", "c", "t"], ["check-witness", "c", "w"], ["attack", "c"], ["update", "c", "c", "m"], *PROTECTED, *HOSES, ["convert", "c"], ["bounds", "c"], ["reprice", "c", "t"]]),
+    "certificate": ("c", [["check", "c"], ["check", "c", "t"], ["check-witness", "c", "w"], ["attack", "c"], ["challenge", "c"], ["update", "c", "c", "m"], *PROTECTED, *HOSES, ["convert", "c"], ["bounds", "c"], ["reprice", "c", "t"], ["tighten", "c"]]),
     "witness": ("w", [["check-witness", "c", "w"]]),
     "rates": ("r", [["check-rates", "c", "m", "r"]]),
     "bounds": ("b", [["hose", "c", "b"]]),

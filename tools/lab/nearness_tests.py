@@ -15,6 +15,8 @@ NETWORKS = ("small", "abilene", "backbone")
 MARGINS = (("fat-tree", "racke"),)
 # The greatest quotient of a published ratio over the least that is true of its routing, and of each kind by its scheme, a step at a time.
 OF_RATIOS = 1.02
+# The greatest quotient of a published ratio over the bound of the witness that `challenge` writes of it.
+OF_BRACKETS = 1.05
 OF_STEPS = {("mcf", "parts / optimum"): 1.003, ("mcf", "optimum / low"): 1.02, ("smore", "parts / optimum on paths"): 1.01}
 
 
@@ -41,6 +43,9 @@ def faults_of(program, network):
     except (SystemExit, reference_check.ShapeFault) as fault:
         return [f"{fault}"]
     faults = [f"set {name}, ratio {published}: {quotient} of the exact one" for name, _, published, _, quotient, *_ in ratios if is_above(quotient, OF_RATIOS)]
+    for name, scheme, published, _, _, shown in ratios:
+        quotient = published / shown["challenge"]
+        faults += [f"{scheme}, set {name}: {quotient} of the bound of challenge"] * (quotient > OF_BRACKETS)
     for (scheme, kind), most in OF_STEPS.items():
         quotients = found.get((scheme, kind), [])
         faults += [f"{scheme}, {kind}: {len(quotients)} steps of {steps}"] * (len(quotients) != steps)

@@ -21,6 +21,10 @@ def failures_of(part):
     return f"part-{part}-failures.csv"
 
 
+def predictions_of(part):
+    return f"part-{part}-predictions.csv"
+
+
 def report_of(part):
     return f"part-{part}-report.csv"
 

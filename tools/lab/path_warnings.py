@@ -13,7 +13,7 @@ def path_warnings(plan, net, series, publish):
     `publish` gives the certificate of a plan of this name as text: None where it is not made in time, and an empty one where none is made.
     It is itself None where the program is not to be asked: then only `ecmp` and `valiant` are counted.
     """
-    most = {"spf": 1, "ksp": plan.k, "racke": plan.trees}.get(plan.publish)
+    most = {"spf": 1, "ksp": plan.k, "racke": plan.trees, "robust": plan.budget}.get(plan.publish)
     if most is not None and most <= plan.budget or not (plan.publish in plan.schemes or plan.names_publish):
         return []
     if plan.publish == "ecmp":

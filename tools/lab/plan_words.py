@@ -5,13 +5,14 @@ import re
 
 from .contents import foreign, is_utf_16, text_kind
 from .letters import look_alikes, plain_text, shown
-from .plans import KEYS, OBLIVIOUS, RECOVERIES, SCHEMES, Written
+from .plans import FILES, KEYS, OBLIVIOUS, RECOVERIES, SCHEMES, Written
 
 # What each key takes, as a user would write it.
 VALUES = {
     "topology": "the name of a file, in quotes",
     "matrices": "the name of a file, in quotes",
     "failures": "the name of a file, in quotes; leave the key out where nothing fails",
+    "predictions": "the name of a matrix file, in quotes; leave the key out where schemes are given the matrices themselves",
     "schemes": "a list of 1 to 16 of " + ", ".join(f'"{it}"' for it in SCHEMES),
     "recovery": "one of " + ", ".join(f'"{it}"' for it in RECOVERIES),
     "publish": "one of " + ", ".join(f'"{it}"' for it in OBLIVIOUS),
@@ -23,7 +24,7 @@ VALUES = {
     "seeds": "a whole number from 1 to 64, without quotes",
     "envelope": "true or false, without quotes; true is for the matrices between the least and the greatest demand of each pair, and not beside a margin",
 }
-OTHER_NAMES = {"raecke": "racke", "räcke": "racke", "optimal": "mcf", "opt": "mcf", "semimcf": "smore", "semimcfraecke": "smore", "ospf": "spf", "shortest": "spf", "vlb": "valiant"}
+OTHER_NAMES = {"raecke": "racke", "räcke": "racke", "optimal": "mcf", "opt": "mcf", "semimcf": "smore", "semimcfraecke": "smore", "ospf": "spf", "shortest": "spf", "vlb": "valiant", "oblivious": "robust"}
 OTHER_KEYS = {"demands": "matrices", "traffic": "matrices", "network": "topology", "net": "topology", "scheme": "schemes", "paths": "k"}
 LEAST_PLAN = '{"topology": "net.csv", "matrices": "tm.csv"}'
 # What the reader of JSON in Python finds, what that means, and what to do.
@@ -81,7 +82,7 @@ def value_words(fault):
         return range_words(key, value, said), takes
     if value is None:
         return f"{said} is JSON's word for nothing, and no value of a key", f"leave the key out, or: {takes}"
-    if isinstance(value, Written) and key not in ("topology", "matrices", "failures", "schemes", "recovery", "publish"):
+    if isinstance(value, Written) and key not in (*FILES, "schemes", "recovery", "publish"):
         return f"{said} {written_fault(value.text)}", takes
     if isinstance(value, int) and not isinstance(value, bool) and value < 0:
         return f"{said} is below 0", takes
@@ -120,7 +121,7 @@ def text_words(key, value, said, takes):
         return f"the number stands in quotes: {shown(in_json(value))}", takes
     if key == "envelope" and bare.lower() in ("true", "false"):
         return f"{said} stands in quotes", takes
-    if key in ("topology", "matrices", "failures"):
+    if key in FILES:
         return f"{said} is empty", takes
     if key == "recovery":
         alike = plain_text(bare).lower()

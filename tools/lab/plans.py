@@ -4,10 +4,13 @@ import json
 from .faults import Fault
 
 DEFAULT_SCHEMES = ("spf", "ecmp", "ksp", "mcf", "racke", "smore")
-SCHEMES = (*DEFAULT_SCHEMES, "valiant")
-OBLIVIOUS = ("spf", "ecmp", "ksp", "racke", "valiant")
+SCHEMES = (*DEFAULT_SCHEMES, "valiant", "robust")
+OBLIVIOUS = ("spf", "ecmp", "ksp", "racke", "valiant", "robust")
 RECOVERIES = ("none", "scale", "bypass", "reroute")
-KEYS = ("topology", "matrices", "failures", "schemes", "recovery", "publish", "margin", "k", "budget", "trees", "seed", "seeds", "envelope")
+KEYS = (
+    "topology", "matrices", "failures", "predictions", "schemes", "recovery", "publish", "margin", "k", "budget", "trees", "seed", "seeds", "envelope",
+)
+FILES = ("topology", "matrices", "failures", "predictions")
 COUNTS = {"k": (1, 32), "budget": (1, 32), "trees": (1, 16), "seed": (0, 2**64 - 1), "seeds": (1, 64)}
 MAX_DEPTH = 127
 
@@ -30,7 +33,7 @@ class Plan:
 
     def __init__(self, members, twice):
         self.topology, self.matrices = members["topology"], members["matrices"]
-        self.failures = members.get("failures")
+        self.failures, self.predictions = members.get("failures"), members.get("predictions")
         self.schemes = members.get("schemes", list(DEFAULT_SCHEMES))
         self.recovery = members.get("recovery", "none")
         self.publish, self.names_publish = members.get("publish", "racke"), "publish" in members
@@ -99,7 +102,7 @@ def is_count(value):
 
 def value_fault(key, value, members):
     """What is wrong with the value of a key, beside these members: kind, then range, then scheme name; or None."""
-    if key in ("topology", "matrices", "failures"):
+    if key in FILES:
         return "kind of" if not isinstance(value, str) else None if value else "range of"
     if key == "schemes":
         return schemes_fault(value)

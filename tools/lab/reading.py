@@ -65,7 +65,7 @@ class Reading:
     def __init__(self, name, goes_on, step=None):
         self.name, self.goes_on, self.step = name, goes_on, step
         self.files, self.unread = [], None
-        self.plan = self.net = self.series = self.outages = None
+        self.plan = self.net = self.series = self.predictions = self.outages = None
         try:
             self.read()
         except Unread as error:
@@ -77,7 +77,9 @@ class Reading:
             self.net = self.next("topology", self.plan.topology, read_topology)
         if self.net is not None:
             self.series = self.next("matrices", self.plan.matrices, lambda it: with_step(self.step, *read_matrices(it, self.net)))
-        if self.series is not None and self.plan.failures:
+        if self.series is not None and self.plan.predictions:
+            self.predictions = self.next("matrices", self.plan.predictions, lambda it: read_matrices(it, self.net))
+        if self.series is not None and self.plan.failures and (self.predictions is not None or not self.plan.predictions):
             links, steps = len(self.net.links), len(self.series.steps)
             self.outages = self.next("failures", self.plan.failures, lambda it: read_failures(it, links, steps))
 

@@ -19,6 +19,12 @@ PART_1 = {
 }
 # The first part ends with a step that no row has.
 PART_0 = {"part-0-matrices.csv": "step,source,target,demand\n0,a,b,7\n0,a,c,0\n0,b,a,3\n1,a,b,0\n", "part-0-failures.csv": "from,to,link\n0,1,0\n"}
+# Predictions for two steps of five.
+PREDICTIONS = "step,source,target,demand\n0,a,b,5\n1,b,c,2\n"
+PREDICTED = {
+    "part-0-predictions.csv": "step,source,target,demand\n0,a,b,5\n0,b,c,0\n1,b,c,2\n",
+    "part-1-predictions.csv": "step,source,target,demand\n0,a,b,0\n0,b,c,0\n2,a,b,0\n",
+}
 HEADER = "scheme,step,offered,delivered,lost_full,lost_failed,lost_no_path,peak,parts,low\n"
 REPORTS = {
     "parts.json": '{"schemes": ["mcf", "spf"], "steps": [1, 2]}',
@@ -47,6 +53,11 @@ def cases(load, call, has_program):
         members = {**PLAN, "matrices": "part-1-matrices.csv", "failures": "part-1-failures.csv"}
         yield "split: the plan of a part", wrong(json.loads(read(folder, "made", "part-1.json")), members)
         yield "split: a folder that is there", wrong(call(tools[0], ["plan.json", "2", "made"], folder), ("made is there already\n", 3))
+        write_files(folder, {"q.csv": PREDICTIONS, "predicted.json": json.dumps({**PLAN, "predictions": "q.csv"})})
+        call(tools[0], ["predicted.json", "2", "predicted"], folder)
+        for name, text in PREDICTED.items():
+            yield f"split: {name}", wrong(read(folder, "predicted", name), text)
+        yield "split: the predictions of a part", wrong(json.loads(read(folder, "predicted", "part-0.json"))["predictions"], "part-0-predictions.csv")
         call(tools[0], ["plan.json", "99", "steps"], folder)
         yield "split: as many parts as steps", wrong(json.loads(read(folder, "steps", "parts.json"))["steps"], [1] * 5)
         yield "split: words", wrong(call(tools[0], ["plan.json", "0", "none"], folder)[1], 2)
@@ -56,6 +67,9 @@ def cases(load, call, has_program):
     yield from joins(tools[1], call)
     for name, words in [("a series", (FILES, 2)), ("a series without steps", ({**FILES, "tm.csv": MATRICES[:26], "failures.csv": FAILURES[:13]}, 2))] * has_program:
         yield f"split: {name} beside one run", of_files(tools, call, *words)
+    predicted = {**FILES, "q.csv": PREDICTIONS, "plan.json": json.dumps({**PLAN, "predictions": "q.csv"})}
+    if has_program:
+        yield "split: predictions beside one run", of_files(tools, call, predicted, 2)
     for plan, place, count in RUNS * has_program:
         yield f"split: {place}/{plan} beside one run", beside_one_run(tools, call, plan, os.path.join(program.TOP, place), count)
 

@@ -59,7 +59,7 @@ def ways_of_ecmp():
     said = "keeps the 4 heaviest paths of a pair (the key budget), and ecmp has more for 2 of 2 pairs, up to 6"
     faults = differences(path_warnings(plan_of(publish="ecmp"), net, series, None), said)
     faults += differences(path_warnings(plan_of(publish="ecmp", budget=5), net, series, None), "a budget of 6 keeps all")
-    for members in ({"publish": "ecmp", "budget": 6}, {"publish": "spf"}, {"publish": "ksp"}, {"publish": "ksp", "k": 32}, {"trees": 4}, {"schemes": ["spf"]}):
+    for members in ({"publish": "ecmp", "budget": 6}, {"publish": "spf"}, {"publish": "ksp"}, {"publish": "ksp", "k": 32}, {"trees": 4}, {"publish": "robust"}, {"schemes": ["spf"]}):
         faults += differences(path_warnings(plan_of(**members), net, series, None))
     return faults
 

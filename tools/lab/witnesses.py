@@ -11,6 +11,10 @@ NO_PAIRS_FOR_MARGIN = FIRST + NO_PAIRS_HEAD + "set margin 1 1\nbase\nratio 0\nbl
 # Bounds above the greatest demand of a witness. Its inequalities are not tried.
 TRIANGLE_GREAT_BOX = SECOND + TRIANGLE + "set box\nlower 5000000000 5000000000\nupper 5000000000 6000000000\nratio 1333334\n" + TRIANGLE_DOUBLE
 
+# Matrices within 3 / 2 around a base, the box of their bounds, and a base without demands. Their inequalities are not tried.
+TRIANGLE_FOR_WIDER_MARGIN = TRIANGLE_FOR_MARGIN.replace("set margin 1 1", "set margin 3 2")
+TRIANGLE_WIDER_MARGIN_AS_BOX = TRIANGLE_FOR_WIDER_MARGIN.replace(FIRST, SECOND).replace("set margin 3 2\nbase 10 10", "set box\nlower 40 40\nupper 90 90")
+TRIANGLE_FOR_NO_DEMAND = TRIANGLE_FOR_WIDER_MARGIN.replace("base 10 10", "base 0 0")
 
 def witness(bound, scale, demand, *rows):
     """The file of a witness, of these texts of its lines; a line that is None is left out."""
@@ -109,6 +113,10 @@ OF_TRIANGLE = [
     (TRIANGLE_DOUBLE_BOX, (1333334, "1 1", "30 10", *DIVIDED_FOR_BOX), no(1, 0)),
     (TRIANGLE_DOUBLE_BOX, (1333334, "1 1", "10 9", *DIVIDED_FOR_BOX), no(1, 1)),
     (TRIANGLE_GREAT_BOX, (1000000, "1 2", "2500000000 2500000000", *OWN), yes(1000000)),
+    # What is written of a margin is answered alike beside the certificate that is made of it.
+    (TRIANGLE_FOR_WIDER_MARGIN, (1000000, "1 4", "10 10", *OWN), yes(1000000)),
+    (TRIANGLE_WIDER_MARGIN_AS_BOX, (1000000, "1 4", "10 10", *OWN), yes(1000000)),
+    (TRIANGLE_WIDER_MARGIN_AS_BOX, (1000000, "1 1", "10 10", *OWN), no(1, 0)),
 ]
 
 # A certificate and a witness, and the status and text that they leave.
@@ -132,10 +140,6 @@ WITNESSES = [
     ([None, OF_SMALLEST], 4, "fault: read\n"),
 ]
 
-# Matrices within 3 / 2 around a base, and of a base without demands. Their inequalities are not tried.
-TRIANGLE_FOR_WIDER_MARGIN = TRIANGLE_FOR_MARGIN.replace("set margin 1 1", "set margin 3 2")
-TRIANGLE_FOR_NO_DEMAND = TRIANGLE_FOR_WIDER_MARGIN.replace("base 10 10", "base 0 0")
-
 # A certificate, and the witness that is written of it.
 ATTACKS = [
     ([SMALLEST], 0, OF_SMALLEST),
@@ -154,6 +158,19 @@ ATTACKS = [
 
 # And what is said of it.
 ATTACKED = [([certificate, made], *yes(made.split()[3])) for (certificate,), _, made in ATTACKS]
+
+# A certificate, and the witness that `challenge` writes of it: that of `attack` where nothing shows more.
+CHALLENGES = [
+    *ATTACKS[:6],
+    ATTACKS[7],
+    # The one matrix of the box at half of its demands.
+    ([TRIANGLE_GREAT_BOX], 0, witness(1000000, "1 2", "2500000000 2500000000", *OWN)),
+]
+CHALLENGED = [([certificate, made], *yes(made.split()[3])) for (certificate,), _, made in CHALLENGES]
+
+# A certificate whose worst matrix is at a corner of its set, and the least ratio that is true of it: 18 / 13, where one demand is 9 and the other 4,
+# and 4 / 3, where one is twice the other. The links that leave the node share the demands evenly.
+CHALLENGED_NEAR = [([TRIANGLE_FOR_WIDER_MARGIN], 1384616), ([TRIANGLE_DOUBLE_BOX], 1333334)]
 
 # Each cut of a witness is refused at its last line.
 CUT_WITNESSES = [

@@ -12,7 +12,7 @@ use Rattle.ratio_witness.specs.declared.witness.Witness.{Witness}
 use Rattle.ratio_witness.specs.Answers.{verdict_line, verdict_status, yes_line, IsBoundVerdict}
 use Rattle.ratio_witness.specs.Text.{witness_text, IsWitnessOf}
 use Rattle.ratio_witness.specs.Verdict.{verdict_fault, verdict_of}
-use Rattle.ratio_witness.proofs.KeptRules.{valid_alone}
+use Rattle.ratio_checker.proofs.MoreBlocks.{valid_without_blocks}
 use Rattle.ratio_witness.proofs.WitnessSizes.{witness_texts_are_short}
 use Rattle.witness_search.specs.Attack.{IsAttack}
 use Rattle.witness_search.specs.Attempts.{RoutesBy, pairs_of}
@@ -31,58 +31,61 @@ use Rattle.te_command.proofs.CheckingWitnesses.{verdict_proves}
 use Rattle.te_command.proofs.Regular.{certificates_regular}
 use Rattle.te_command.proofs.Streaming.{spelled_head}
 
--- ---- the verdict on a witness that an attack chooses
+-- ---- the verdict on a witness to which it is yes
 
 attack_yes : (h : Head) (w : Witness) → IsValidHead h → IsAttack flow_scheme.is_plan flow_scheme.relates h w → verdict_fault h w ≡ None
 attack_yes h w valid is = chosen_yes h (RoutesBy (flow_scheme.relates h.network (pairs_of h) is.plan)) w valid is.chosen
 
-attack_verdict : (h : Head) (w : Witness) → IsValidHead h → IsAttack flow_scheme.is_plan flow_scheme.relates h w → IsBoundVerdict h w 0 (yes_line w.bound)
-attack_verdict h w valid is =
-    let none = attack_yes h w valid is in (
-      sym (ap (λ (o : Option RuleFault). verdict_status (verdict_of o)) none),
-      sym (ap (λ (o : Option RuleFault). verdict_line w.bound (verdict_of o)) none),
-    )
+yes_verdict : (h : Head) (w : Witness) → verdict_fault h w ≡ None → IsBoundVerdict h w 0 (yes_line w.bound)
+yes_verdict h w none = (
+  sym (ap (λ (o : Option RuleFault). verdict_status (verdict_of o)) none),
+  sym (ap (λ (o : Option RuleFault). verdict_line w.bound (verdict_of o)) none),
+)
 
-attack_fits : (h : Head) (w : Witness) (bytes : List ℕ) → IsValidHead h → IsWitnessOf h w → bytes ≡ witness_text w → length bytes ≤ witness_limit
-attack_fits h w bytes valid is file =
+witness_fits : (h : Head) (w : Witness) (bytes : List ℕ) → IsValidHead h → IsWitnessOf h w → bytes ≡ witness_text w → length bytes ≤ witness_limit
+witness_fits h w bytes valid is file =
     let short = witness_texts_are_short h w valid is in
     let same = ap (λ (text : List ℕ). length text) file in
     omega (arith, short, same)
 
-attack_proof : (h : Head) (w : Witness) → IsValidHead h → IsAttack flow_scheme.is_plan flow_scheme.relates h w → IsBoundProof h w
-attack_proof h w valid is = verdict_proves h w (yes_line w.bound) valid is.of_head.rules (attack_verdict h w valid is)
+pub yes_proof : (h : Head) (w : Witness) → IsValidHead h → IsWitnessOf h w → verdict_fault h w ≡ None → IsBoundProof h w
+yes_proof h w valid is none = verdict_proves h w (yes_line w.bound) valid is.rules (yes_verdict h w none)
 
 attack_proves : (h : Head) (text : List ℕ) → IsValidHead h → IsFlowAttack h text → IsProvedAttack h text
 attack_proves h text valid (w, is, file) =
-    record { witness = w; chosen = is; file = file; proof = attack_proof h w valid is }
+    record { witness = w; chosen = is; file = file; proof = yes_proof h w valid is.of_head (attack_yes h w valid is) }
 
 -- ---- told a certificate and the file, `check-witness` says yes
 
 yes_after : (h : Head) (w : Witness) (content : List ℕ → Option (List ℕ)) (name bytes : List ℕ) (before : List FileRead) → IsValidHead h →
-    IsAttack flow_scheme.is_plan flow_scheme.relates h w → bytes ≡ witness_text w → content name ≡ Some bytes →
+    IsWitnessOf h w → verdict_fault h w ≡ None → bytes ≡ witness_text w → content name ≡ Some bytes →
     MeansAfter (witness_reading name h) (told_passes content) before 0 (yes_line w.bound)
-yes_after h w content name bytes before valid is file told =
-    inr (w, before, (bytes, told, attack_fits h w bytes valid is.of_head file, (is.of_head, file)), (attack_verdict h w valid is, tt))
+yes_after h w content name bytes before valid is none file told =
+    inr (w, before, (bytes, told, witness_fits h w bytes valid is file, (is, file)), (yes_verdict h w none, tt))
 
-says_yes : (c : Certificate) (w : Witness) (content : List ℕ → Option (List ℕ)) (certificate name text bytes : List ℕ) → IsValidHead c.head →
-    IsAttack flow_scheme.is_plan flow_scheme.relates c.head w → Spells text c → content certificate ≡ Some text → bytes ≡ witness_text w →
+pub says_yes : (c : Certificate) (w : Witness) (content : List ℕ → Option (List ℕ)) (certificate name text bytes : List ℕ) → IsValidHead c.head →
+    IsWitnessOf c.head w → verdict_fault c.head w ≡ None → Spells text c → content certificate ≡ Some text → bytes ≡ witness_text w →
     content name ≡ Some bytes → Means (check_witness_entry certificate name).reading (told_files content) 0 (yes_line w.bound)
-says_yes c w content certificate name text bytes valid is spells told file told_too =
-    inr (c, [], (text, told, fits_file text c spells, spells), yes_after c.head w content name bytes [] valid is file told_too)
+says_yes c w content certificate name text bytes valid is none spells told file told_too =
+    inr (c, [], (text, told, fits_file text c spells, spells), yes_after c.head w content name bytes [] valid is none file told_too)
 
-attack_answered : (h : Head) (text : List ℕ) → IsValidHead h → IsFlowAttack h text → IsWitnessedYes text
-attack_answered h text valid (w, is, file) =
+pub yes_answered : (h : Head) (w : Witness) (text : List ℕ) → IsValidHead h → IsWitnessOf h w → verdict_fault h w ≡ None → text ≡ witness_text w →
+    IsWitnessedYes text
+yes_answered h w text valid is none file =
     let c : Certificate = record { head = h; blocks = [] } in
     record {
-      fits = attack_fits h w text valid is.of_head file;
+      fits = witness_fits h w text valid is file;
       head = h;
       valid = valid;
       witness = w;
-      of_head = is.of_head;
+      of_head = is;
       file = file;
-      proof = attack_proof h w valid is;
-      answer = λ content certificate name told told_too. says_yes c w content certificate name (text_of c) text valid is (valid_alone h valid, refl) told file told_too;
+      proof = yes_proof h w valid is none;
+      answer = λ content certificate name told told_too. says_yes c w content certificate name (text_of c) text valid is none (valid_without_blocks h valid, refl) told file told_too;
     }
+
+attack_answered : (h : Head) (text : List ℕ) → IsValidHead h → IsFlowAttack h text → IsWitnessedYes text
+attack_answered h text valid (w, is, file) = yes_answered h w text valid is.of_head (attack_yes h w valid is) file
 
 -- ---- the answers
 
@@ -96,9 +99,9 @@ attack_sound h valid = record {
   accepted = λ text is. omega (arith, is.0);
 }
 
-attack_text : (h : Head) → IsValidHead h → HasText (attack_of h)
-attack_text h valid =
-    let (text, is) = attacks_exist flow_scheme.is_plan flow_scheme.relates
+pub attack_exists : (h : Head) → IsValidHead h → (text : List ℕ) × IsFlowAttack h text
+attack_exists h valid =
+    attacks_exist flow_scheme.is_plan flow_scheme.relates
     (λ net pairs formed are reached.
     let (plan, planned) = flow_plans_exist net pairs formed are reached in
     record {
@@ -109,8 +112,9 @@ attack_text h valid =
           (routes, note, routing, few, balanced);
     })
     h valid
-    in
-    (0, text, (refl, is))
+
+attack_text : (h : Head) → IsValidHead h → HasText (attack_of h)
+attack_text h valid = let (text, is) = attack_exists h valid in (0, text, (refl, is))
 
 pub attack_is_sound : (file : List ℕ) → IsSoundEntry (attack_entry file)
 attack_is_sound file = record {
@@ -127,5 +131,5 @@ attacks_are_witnessed content file made text (inl (three, now, refused, ended)) 
 attacks_are_witnessed content file made text (inr (c, now, (bytes, told_as, few, spells), ((zero_status, (w, is, file_is)), ended))) told = (
   yes_line w.bound,
   record { witness = w; file = file_is; line_is = refl },
-  says_yes c w content file made bytes text (spelled_head bytes c spells) is spells told_as file_is told,
+  says_yes c w content file made bytes text (spelled_head bytes c spells) is.of_head (attack_yes c.head w (spelled_head bytes c spells) is) spells told_as file_is told,
 )

@@ -16,13 +16,14 @@ use Rattle.hose_bound.proofs.Meaning.{hoses_have_one_meaning}
 use Rattle.hose_bound.proofs.ShortTexts.{hose_texts_are_short}
 use Rattle.hose_bound.proofs.SomeCert.{hose_certs_exist}
 use Rattle.update_plan.proofs.ValidHeads.{valid_routing}
-use Rattle.witness_search.proofs.Heads.{head_formed, head_pairs}
+use Rattle.witness_search.proofs.Heads.{head_pairs}
 use Rattle.command_frame.specs.Sound.{HasText, IsSound}
 use Rattle.command_frame.specs.Table.{IsSoundEntry}
 use Rattle.te_command.specs.BoundHose.{bound_hose_entry, bounding_of, IsTextOfCert}
 use Rattle.te_command.specs.HoseFile.{hose_reason}
 use Rattle.te_command.proofs.Regular.{certificates_regular, meant_regular}
 use Rattle.te_command.proofs.Streaming.{spelled_head}
+use Rattle.ratio_checker.proofs.FormedHeads.{head_formed}
 
 -- the hose that bytes mean keeps K1
 meant_is_valid : (net : Network) (bytes : List ℕ) (hose : Hose) → MeansHose net bytes (Ok hose) → IsValidHose (node_count net) hose

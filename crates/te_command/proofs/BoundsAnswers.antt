@@ -11,7 +11,7 @@ use Rattle.ratio_checker.specs.Finding.{finding_of}
 use Rattle.ratio_checker.specs.declared.finding.Finding.TheVariants.{No}
 use Rattle.link_bounds.specs.Laws.{CanReprice}
 use Rattle.link_bounds.specs.Repriced.{repriced}
-use Rattle.link_bounds.proofs.FirstInfeasible.{some_from_no}
+use Rattle.ratio_checker.proofs.Verdicts.{failure_from_no}
 use Rattle.link_bounds.proofs.RepricedHolds.{failures_kept}
 use Rattle.command_frame.specs.declared.answer.Answer.{Answer}
 use Rattle.command_frame.specs.Outcome.{answer_text, status_of}
@@ -34,7 +34,7 @@ pub says_no : (c : Certificate) (link rule place : ℕ) (r : Result Answer Memor
     IfOk r (λ answer. ((status_of answer ≡ 0) × (first_failure c ≡ None) × (answer_text answer ≡ text_of c)) ⊎ ((status_of answer ≡ 1) × SaysNo c (answer_text answer)))
 says_no c link rule place (Ok answer) found line =
     let failure : LinkFailure = record { link = link; rule = rule; place = place } in
-    inr (line.0, record { failure = failure; fails = some_from_no (first_failure c) link rule place (sym found); line_is = line.1 })
+    inr (line.0, record { failure = failure; fails = failure_from_no (first_failure c) link rule place (sym found); line_is = line.1 })
 says_no c link rule place (Err e) found line = line
 
 -- the first inequality of the repriced certificate that fails is the first of I1 to I3 of the certificate

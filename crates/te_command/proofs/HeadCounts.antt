@@ -12,7 +12,7 @@ use Rattle.te_model.specs.Shape.{is_shaped_pair}
 use Rattle.te_model.specs.Validity.{IsValidHead}
 use Rattle.te_model.proofs.Tests.{all_from_tests}
 use Rattle.te_model.proofs.Valid.{valid_limits}
-use Rattle.ratio_witness.proofs.KeptRules.{valid_alone}
+use Rattle.ratio_checker.proofs.MoreBlocks.{valid_without_blocks}
 use Rattle.routing.specs.Routes.{HasFewPaths}
 
 few_in_format : (format : ℕ) → (limits_of format).paths ≤ 32
@@ -32,5 +32,5 @@ head_has_few_paths h valid =
 
 pub head_has_few_pairs : (h : Head) → IsValidHead h → length h.routes ≤ FORMAT_2.pairs
 head_has_few_pairs h valid =
-    let small = valid_limits (record { head = h; blocks = [] }) (valid_alone h valid) in
+    let small = valid_limits (record { head = h; blocks = [] }) (valid_without_blocks h valid) in
     omega (arith, small.pairs)

@@ -12,7 +12,7 @@ use Rattle.hose_bound.specs.Answers.{IsHoseText, IsHoseVerdict, verdict_line, ve
 use Rattle.hose_bound.specs.Reading.{MeansHoseCert}
 use Rattle.hose_bound.proofs.Answered.{made_certs_are_yes}
 use Rattle.hose_bound.proofs.ShortTexts.{hose_texts_are_short}
-use Rattle.witness_search.proofs.Heads.{head_formed}
+use Rattle.ratio_checker.proofs.FormedHeads.{head_formed}
 use Rattle.command_frame.specs.Files.{told_files, told_passes}
 use Rattle.command_frame.specs.Reading.{Means, MeansAfter}
 use Rattle.te_command.specs.BoundHose.{bounds_reading, SaysYesToHose}

@@ -12,9 +12,11 @@ pub mod Bounding
 pub mod BoundsAnswers
 pub mod CapacityFiles
 pub mod Repricing
+pub mod Tightening
 pub mod Alike
 pub mod WitnessedAlike
 pub mod Attacking
+pub mod Challenging
 pub mod Updating
 pub mod UpdatedAlike
 pub mod HeadCounts

@@ -1,6 +1,6 @@
 -- The files of a plan are read in one way, and what they give is within the limits.
 use Rattle.std.proofs.Common.{◌≡◌, ◌<◌, ◌≤◌, ◌∙◌, ℕ, List, Bool, true, false, cond, length, Option, Some, None, Result, Ok, Err, refl, sym, ap, subst}
-use Rattle.std.specs.Prelude.{IsTrue, nat_lt}
+use Rattle.std.specs.Prelude.{IfSome, IsTrue, nat_lt}
 use Rattle.std.proofs.lemmas.Bool.{ltb-true}
 use Rattle.te_model.specs.declared.network.Network.{Network}
 use Rattle.te_model.specs.Network.{is_well_formed, link_count, node_count}
@@ -26,7 +26,7 @@ use Rattle.te_command.specs.MatrixFile.{matrices_for, matrices_reason, no_step_r
 use Rattle.te_command.specs.Outcome.{HasStep}
 use Rattle.te_command.specs.PlanFile.{plan_reason}
 use Rattle.te_command.specs.TopologyFile.{topology_reason}
-use Rattle.te_command.specs.PlanReading.{with_failures, with_plan}
+use Rattle.te_command.specs.PlanReading.{with_failures, with_plan, with_predictions}
 use Rattle.te_command.proofs.Regular.{inputs_regular}
 
 -- the value that a reader gave
@@ -85,6 +85,18 @@ plan_regular step file next rest = (
   inputs_regular plan_reason plan_of,
   λ plan. (inputs_regular topology_reason topology_of, λ n. (series_regular step n, λ series. rest plan n series)),
 )
+
+-- so are the predictions, whatever follows them
+pub predictions_regular : (n : Network) (named : Option (List ℕ)) (next : Option Series → Reading) →
+    ((predictions : Option Series) → AreRegular (next predictions)) → AreRegular (with_predictions n named next)
+predictions_regular n None next rest = rest None
+predictions_regular n (Some file) next rest = (inputs_regular matrices_reason (series_in n), λ series. rest (Some series))
+
+-- what holds at the end of all that follows predictions within the limits holds at the end
+pub at_end_of_predictions : (P : Answers → Type 0) (n : Network) (named : Option (List ℕ)) (next : Option Series → Reading) → IsTrue (is_well_formed n) →
+    ((predictions : Option Series) → IfSome predictions (IsSeries (node_count n)) → AtEnd (next predictions) P) → AtEnd (with_predictions n named next) P
+at_end_of_predictions P n None next formed holds = holds None tt
+at_end_of_predictions P n (Some file) next formed holds = λ bytes series gives. holds (Some series) (series_in_range bytes n series formed gives)
 
 -- after the failures nothing is read
 pub failures_regular : (n : Network) (series : Series) (named : Option (List ℕ)) (answers_of : Failures → Answers) →

@@ -12,15 +12,15 @@ use Rattle.command_frame.specs.Files.{Passes, given_passes}
 use Rattle.command_frame.specs.Reading.{Reading, answers, reads, MeansAfter, ReadFailedAfter}
 use Rattle.command_frame.specs.Order.{ReadsAlong}
 use Rattle.te_command.specs.TopologyFile.{topologies}
-use Rattle.te_command.specs.MatrixFile.{matrices_for}
+use Rattle.te_command.specs.MatrixFile.{matrices, matrices_for}
 use Rattle.failure.specs.Series.{no_failures}
 use Rattle.te_command.specs.FailureFile.{failure_files}
 use Rattle.te_command.specs.PlanFile.{plans}
-use Rattle.te_command.specs.PlanReading.{with_plan, with_failures}
+use Rattle.te_command.specs.PlanReading.{with_plan, with_predictions, with_failures}
 use Rattle.te_ports.specs.Ports.{Rose}
 use Rattle.te_ports.specs.Shown.{Shown}
 use Rattle.command_frame.specs.Outcome.{ReadsFile, Meant, OnRead, Follows}
-use Rattle.te_command.specs.Outcome.{GivesPlan, ReadsFailures, no_answer}
+use Rattle.te_command.specs.Outcome.{GivesPlan, ReadsFailures, ReadsPredictions, no_answer}
 use Rattle.command_frame.proofs.Following.{none_read, meant_on, failed_on, failed_since, both, goes_on, stops}
 
 -- what is read after a plan, and after its network
@@ -133,15 +133,31 @@ plan_goes_on step file next plan network series old mid new result gives rest =
       may = both old mid new gives.may rest.may;
     }
 
-ok_or_err : (x : Failures) (y : Fault) → ◌≡◌ {A = Result Failures Fault} (Err y) (Ok x) → ⊥
-ok_or_err x y e = cc
+err_is_ok : {A : Type 0} (x : A) (y : Fault) → ◌≡◌ {A = Result A Fault} (Err y) (Ok x) → ⊥
+err_is_ok x y e = cc
 
-ok_is : (x y : Failures) → ◌≡◌ {A = Result Failures Fault} (Ok x) (Ok y) → x ≡ y
-ok_is x y e = cc
+same_ok : {A : Type 0} (x y : A) → ◌≡◌ {A = Result A Fault} (Ok x) (Ok y) → x ≡ y
+same_ok x y e = cc
+
+pub predictions_stop : (network : Network) (named : Option (List ℕ)) (next : Option Series → Reading) (old new : Shown) (fault : Fault) →
+    ReadsPredictions network named old new (Err fault) → Follows (with_predictions network named next) old new (Err fault)
+predictions_stop network None next old new fault read = absurd (err_is_ok None fault (read.unnamed refl).0)
+predictions_stop network (Some file) next old new fault read = stops Series (matrices network) file (λ s. next (Some s)) old new fault (read.reads file refl)
+
+pub predictions_go_on : (network : Network) (named : Option (List ℕ)) (next : Option Series → Reading) (predictions : Option Series) (old mid new : Shown)
+    (result : Result Answer Fault) → ReadsPredictions network named old mid (Ok predictions) → Follows (next predictions) mid new result →
+    Follows (with_predictions network named next) old new result
+predictions_go_on network None next predictions old mid new result read rest =
+    let unnamed = read.unnamed refl in
+    subst (λ s. Follows (next None) s new result) unnamed.1
+    (subst (λ p. Follows (next p) mid new result) (same_ok predictions None unnamed.0) rest)
+predictions_go_on network (Some file) next (Some series) old mid new result read rest =
+    goes_on Series (matrices network) file (λ s. next (Some s)) series old mid new result (read.reads file refl) rest
+predictions_go_on network (Some file) next None old mid new result read rest = absurd (read.reads file refl)
 
 pub failures_stop : (network : Network) (series : Series) (named : Option (List ℕ)) (next : Failures → Reading) (old new : Shown) (fault : Fault) →
     ReadsFailures network series named old new (Err fault) → Follows (with_failures network series named next) old new (Err fault)
-failures_stop network series None next old new fault read = absurd (ok_or_err no_failures fault (read.unnamed refl).0)
+failures_stop network series None next old new fault read = absurd (err_is_ok no_failures fault (read.unnamed refl).0)
 failures_stop network series (Some file) next old new fault read = stops Failures (failure_files network series) file next old new fault (read.reads file refl)
 
 pub failures_go_on : (network : Network) (series : Series) (named : Option (List ℕ)) (next : Failures → Reading) (failures : Failures) (old mid new : Shown)
@@ -150,6 +166,6 @@ pub failures_go_on : (network : Network) (series : Series) (named : Option (List
 failures_go_on network series None next failures old mid new result read rest =
     let unnamed = read.unnamed refl in
     subst (λ s. Follows (next no_failures) s new result) unnamed.1
-    (subst (λ f. Follows (next f) mid new result) (ok_is failures no_failures unnamed.0) rest)
+    (subst (λ f. Follows (next f) mid new result) (same_ok failures no_failures unnamed.0) rest)
 failures_go_on network series (Some file) next failures old mid new result read rest =
     goes_on Failures (failure_files network series) file next failures old mid new result (read.reads file refl) rest

@@ -10,7 +10,7 @@ use Rattle.traffic_matrix.specs.Rows.{series_in}
 use Rattle.traffic_matrix.specs.declared.series.Series.{Series}
 use Rattle.traffic_matrix.proofs.FirstMatrix.{first_demands}
 use Rattle.update_plan.proofs.ValidHeads.{valid_routing}
-use Rattle.witness_search.proofs.Heads.{head_formed}
+use Rattle.ratio_checker.proofs.FormedHeads.{head_formed}
 use Rattle.fault_rates.specs.Answers.{IsProtectionAnswer, SaysNoPairs}
 use Rattle.fault_rates.specs.Plan.{protection_by}
 use Rattle.fault_rates.proofs.ShortTexts.{rate_texts_are_short}

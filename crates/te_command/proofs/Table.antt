@@ -10,8 +10,9 @@ use Rattle.te_command.specs.BreakDown.{step_number}
 use Rattle.te_command.specs.DecimalNumber.{decimal_number}
 use Rattle.te_command.specs.Generate.{drawn_of, nodes_and_seed}
 use Rattle.te_command.specs.Protect.{failures_of, few_failures}
-use Rattle.te_command.specs.Commands.{Command, attack, bound_hose, bound_links, break_down, check, check_hose, check_network, check_rates, check_witness, convert, protect, publish, reprice, run, generate, update, command_of, entry_of, commands}
+use Rattle.te_command.specs.Commands.{Command, attack, bound_hose, bound_links, break_down, challenge, check, check_hose, check_network, check_rates, check_witness, convert, protect, publish, reprice, run, generate, tighten, update, command_of, entry_of, commands}
 use Rattle.te_command.proofs.Attacking.{attack_is_sound}
+use Rattle.te_command.proofs.Challenging.{challenge_is_sound}
 use Rattle.te_command.proofs.Checking.{check_is_sound, check_network_is_sound}
 use Rattle.te_command.proofs.BoundingHoses.{bound_hose_is_sound}
 use Rattle.te_command.proofs.Bounding.{bounds_is_sound}
@@ -24,11 +25,13 @@ use Rattle.te_command.proofs.Reporting.{run_is_sound}
 use Rattle.te_command.proofs.Repricing.{reprice_is_sound}
 use Rattle.te_command.proofs.Drawing.{generate_is_sound, nodes_drawn}
 use Rattle.te_command.proofs.Protecting.{protect_is_sound}
+use Rattle.te_command.proofs.Tightening.{tighten_is_sound}
 use Rattle.te_command.proofs.Updating.{update_is_sound}
 use Rattle.te_command.proofs.BreakingDown.{break_down_is_sound}
 
 entry_is_sound : (command : Command) → IsSoundEntry (entry_of command)
 entry_is_sound (attack file) = attack_is_sound file
+entry_is_sound (challenge file) = challenge_is_sound file
 entry_is_sound (check file) = check_is_sound file
 entry_is_sound (check_network file topology) = check_network_is_sound file topology
 entry_is_sound (check_witness file witness) = check_witness_is_sound file witness
@@ -43,6 +46,7 @@ entry_is_sound (bound_hose certificate bounds) = bound_hose_is_sound certificate
 entry_is_sound (check_hose certificate file) = check_hose_is_sound certificate file
 entry_is_sound (bound_links certificate) = bounds_is_sound certificate
 entry_is_sound (reprice certificate topology) = reprice_is_sound certificate topology
+entry_is_sound (tighten certificate) = tighten_is_sound certificate
 entry_is_sound (break_down breakdown file k) = break_down_is_sound breakdown k file
 
 -- the numbers of the command are in their range, where there is one
@@ -77,11 +81,13 @@ asked_in_range [] = tt
 asked_in_range (word ∷ []) = tt
 asked_in_range (word ∷ file ∷ []) =
     where_in_range (bytes_eq word (codes "attack")) (Some (attack file)) _ tt
+    (where_in_range (bytes_eq word (codes "challenge")) (Some (challenge file)) _ tt
     (where_in_range (bytes_eq word (codes "check")) (Some (check file)) _ tt
     (where_in_range (bytes_eq word (codes "convert")) (Some (convert file)) _ tt
     (where_in_range (bytes_eq word (codes "publish")) (Some (publish file)) _ tt
     (where_in_range (bytes_eq word (codes "run")) (Some (run file)) _ tt
-    (where_in_range (bytes_eq word (codes "bounds")) (Some (bound_links file)) None tt tt)))))
+    (where_in_range (bytes_eq word (codes "bounds")) (Some (bound_links file)) _ tt
+    (where_in_range (bytes_eq word (codes "tighten")) (Some (tighten file)) None tt tt)))))))
 asked_in_range (word ∷ file ∷ next ∷ []) =
     where_in_range (bytes_eq word (codes "check")) (Some (check_network file next)) _ tt
     (where_in_range (bytes_eq word (codes "check-witness")) (Some (check_witness file next)) _ tt

@@ -1,10 +1,11 @@
 -- The command that was read from the words.
 use Rattle.te_command.specs.declared.words.Command.{Command as Asked}
 use Rattle.te_command.specs.declared.words.Command.TheVariants as asked
-use Rattle.te_command.specs.Commands.{Command, attack, bound_hose, bound_links, break_down, check, check_hose, check_network, check_rates, check_witness, convert, protect, publish, reprice, run, generate, update}
+use Rattle.te_command.specs.Commands.{Command, attack, bound_hose, bound_links, break_down, challenge, check, check_hose, check_network, check_rates, check_witness, convert, protect, publish, reprice, run, generate, tighten, update}
 
 abbrev pub command_meant : Asked → Command
 command_meant (asked.Attack c) = attack c.certificate.now
+command_meant (asked.Challenge c) = challenge c.certificate.now
 command_meant (asked.Check c) = check c.certificate.now
 command_meant (asked.CheckNetwork c) = check_network c.certificate.now c.topology.now
 command_meant (asked.CheckWitness c) = check_witness c.certificate.now c.witness.now
@@ -19,4 +20,5 @@ command_meant (asked.BoundHose c) = bound_hose c.certificate.now c.bounds.now
 command_meant (asked.CheckHose c) = check_hose c.certificate.now c.hose.now
 command_meant (asked.Bounds c) = bound_links c.certificate.now
 command_meant (asked.Reprice c) = reprice c.certificate.now c.topology.now
+command_meant (asked.Tighten c) = tighten c.certificate.now
 command_meant (asked.BreakDown c) = break_down c.breakdown c.plan.now c.step

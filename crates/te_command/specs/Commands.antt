@@ -10,6 +10,7 @@ use Rattle.te_command.specs.Attack.{attack_entry}
 use Rattle.te_command.specs.BoundHose.{bound_hose_entry}
 use Rattle.te_command.specs.Bounds.{bounds_entry}
 use Rattle.te_command.specs.BreakDown.{break_down_entry, step_number}
+use Rattle.te_command.specs.Challenge.{challenge_entry}
 use Rattle.te_command.specs.Check.{check_entry, check_network_entry}
 use Rattle.te_command.specs.CheckHose.{check_hose_entry}
 use Rattle.te_command.specs.CheckRates.{check_rates_entry}
@@ -20,16 +21,18 @@ use Rattle.te_command.specs.Protect.{failures_of, protect_entry}
 use Rattle.te_command.specs.Publish.{publish_entry}
 use Rattle.te_command.specs.Report.{run_entry}
 use Rattle.te_command.specs.Reprice.{reprice_entry}
+use Rattle.te_command.specs.Tighten.{tighten_entry}
 use Rattle.te_command.specs.Update.{update_entry}
 
--- what is asked for: of `attack`, `check`, `check-witness` and `convert`, the name of the certificate, and of `check` that of the topology
+-- what is asked for: of `attack`, `challenge`, `check`, `check-witness` and `convert`, the name of the certificate, and of `check` that of the topology
 -- where one is given, of `check-witness` that of the witness; of `publish` and `run`, the name of the plan; of `gen`, the number of nodes and
 -- the seed; of `update`, the names of the older certificate, the newer one and the matrices; of `protect` and `check-rates`, the names of
 -- the certificate and the matrices, and the number of links that may fail or the name of the rates; of `hose` and `check-hose`, the names of
--- the certificate and of the bounds or the hose certificate; of `bounds` and `reprice`, the name of the certificate, and of `reprice` that of
--- the topology; of `links`, `pairs` and `paths`, by what a step is broken down, the name of the plan and the number of the step
+-- the certificate and of the bounds or the hose certificate; of `bounds`, `reprice` and `tighten`, the name of the certificate, and of
+-- `reprice` that of the topology; of `links`, `pairs` and `paths`, by what a step is broken down, the name of the plan and the number of the step
 pub data Command : Type 0 where
   attack : List ℕ → Command
+  challenge : List ℕ → Command
   check : List ℕ → Command
   check_network : List ℕ → List ℕ → Command
   check_witness : List ℕ → List ℕ → Command
@@ -44,6 +47,7 @@ pub data Command : Type 0 where
   check_hose : List ℕ → List ℕ → Command
   bound_links : List ℕ → Command
   reprice : List ℕ → List ℕ → Command
+  tighten : List ℕ → Command
   break_down : Breakdown → List ℕ → ℕ → Command
 
 -- the command of the words, where they are one of the forms
@@ -52,11 +56,13 @@ command_of [] = None
 command_of (word ∷ []) = None
 command_of (word ∷ file ∷ []) =
     if bytes_eq word (codes "attack") then Some (attack file)
+    else if bytes_eq word (codes "challenge") then Some (challenge file)
     else if bytes_eq word (codes "check") then Some (check file)
     else if bytes_eq word (codes "convert") then Some (convert file)
     else if bytes_eq word (codes "publish") then Some (publish file)
     else if bytes_eq word (codes "run") then Some (run file)
     else if bytes_eq word (codes "bounds") then Some (bound_links file)
+    else if bytes_eq word (codes "tighten") then Some (tighten file)
     else None
 command_of (word ∷ file ∷ next ∷ []) =
     if bytes_eq word (codes "check") then Some (check_network file next)
@@ -79,6 +85,7 @@ command_of (word ∷ file ∷ next ∷ last ∷ more ∷ words) = None
 -- what each reads and answers
 abbrev pub entry_of : Command → Entry
 entry_of (attack certificate) = attack_entry certificate
+entry_of (challenge certificate) = challenge_entry certificate
 entry_of (check certificate) = check_entry certificate
 entry_of (check_network certificate topology) = check_network_entry certificate topology
 entry_of (check_witness certificate witness) = check_witness_entry certificate witness
@@ -93,6 +100,7 @@ entry_of (bound_hose certificate bounds) = bound_hose_entry certificate bounds
 entry_of (check_hose certificate file) = check_hose_entry certificate file
 entry_of (bound_links certificate) = bounds_entry certificate
 entry_of (reprice certificate topology) = reprice_entry certificate topology
+entry_of (tighten certificate) = tighten_entry certificate
 entry_of (break_down breakdown plan k) = break_down_entry breakdown plan k
 
 -- the table of commands

@@ -16,6 +16,7 @@ pub mod DecimalNumber
 pub mod Check
 pub mod CheckWitness
 pub mod Attack
+pub mod Challenge
 pub mod Convert
 pub mod Bounds
 pub mod Generate
@@ -25,6 +26,7 @@ pub mod CheckHose
 pub mod BoundHose
 pub mod Publish
 pub mod Reprice
+pub mod Tighten
 pub mod Report
 pub mod BreakDown
 pub mod Update

@@ -17,7 +17,7 @@ use Rattle.command_frame.specs.Reading.{Answers, answers, GivesIn}
 use Rattle.command_frame.specs.Outcome.{KeepsDepot, ReadsFile, Follows, status_of, answer_text}
 use Rattle.te_command.specs.declared.inputs.Inputs.{Inputs}
 use Rattle.te_command.specs.TopologyFile.{topologies}
-use Rattle.te_command.specs.MatrixFile.{matrices_for}
+use Rattle.te_command.specs.MatrixFile.{matrices, matrices_for}
 use Rattle.te_command.specs.FailureFile.{failure_files}
 use Rattle.te_command.specs.PlanFile.{plans}
 use Rattle.te_command.specs.Check.{yes_line, no_line}
@@ -61,6 +61,17 @@ pub record GivesPlan (step : Option ℕ) (file : List ℕ) (old new : Shown) (pl
 abbrev pub ReadsInputs : Option ℕ → List ℕ → Shown → Shown → Result Inputs Fault → Type 0
 ReadsInputs step file old new (Ok inputs) = GivesPlan step file old new inputs.plan inputs.network inputs.series
 ReadsInputs step file old new (Err fault) = Follows (with_plan step file (λ plan network series. answers no_answer)) old new (Err fault)
+
+-- the file gives the predicted matrices, or it is refused or not read
+abbrev pub ReadsSeries : Network → List ℕ → Shown → Shown → Result (Option Series) Fault → Type 0
+ReadsSeries network file old new (Ok None) = ⊥
+ReadsSeries network file old new (Ok (Some series)) = ReadsFile (matrices network) file old new (Ok series)
+ReadsSeries network file old new (Err fault) = ReadsFile (matrices network) file old new (Err fault)
+
+-- the predictions are read from the file that is named, and there are none where none is, of which nothing is read
+pub record ReadsPredictions (network : Network) (named : Option (List ℕ)) (old new : Shown) (result : Result (Option Series) Fault) : Type 0 where
+  pub unnamed : named ≡ None → (result ≡ Ok None) × (new ≡ old)
+  pub reads : (file : List ℕ) → named ≡ Some file → ReadsSeries network file old new result
 
 -- the failures are read from the file that is named, and are none where none is, of which nothing is read
 pub record ReadsFailures (network : Network) (series : Series) (named : Option (List ℕ)) (old new : Shown) (result : Result Failures Fault) : Type 0 where

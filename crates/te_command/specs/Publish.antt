@@ -3,11 +3,12 @@ use Rattle.std.specs.Prelude.{◌≡◌, ◌≤◌, ◌⊎◌, ℕ, List, [], �
 use Rattle.te_model.specs.declared.certificate.Certificate.{Certificate}
 use Rattle.te_model.specs.declared.network.Network.{Network}
 use Rattle.te_model.specs.declared.route.Pair.{Pair}
-use Rattle.te_model.specs.Network.{name_at}
+use Rattle.te_model.specs.Network.{name_at, node_count}
 use Rattle.te_model.specs.Text.{Spells}
 use Rattle.te_model.specs.Pairs.{pair_at}
 use Rattle.scheme.specs.Reach.{AllReached, IsFirstWithout}
 use Rattle.traffic_matrix.specs.declared.series.Series.{Series}
+use Rattle.traffic_matrix.specs.Traffic.{traffic_of}
 use Rattle.plan.specs.declared.experiment.Experiment.{Experiment}
 use Rattle.experiment.specs.Published.{IsPublished}
 use Rattle.command_frame.specs.Files.{told_files}
@@ -15,7 +16,7 @@ use Rattle.command_frame.specs.Reading.{Answers, answers, Means}
 use Rattle.command_frame.specs.Table.{Entry}
 use Rattle.te_command.specs.CertificateFile.{certificates}
 use Rattle.te_command.specs.Check.{IsProof, yes_line, check_entry}
-use Rattle.te_command.specs.PlanReading.{with_plan}
+use Rattle.te_command.specs.PlanReading.{with_plan, with_predictions}
 
 -- the line of a pair that has no path, by the names of its nodes
 abbrev pub no_path_line : Network → Pair → List ℕ
@@ -64,10 +65,12 @@ pub record IsAnsweredYes (bytes : List ℕ) : Type 0 where
   pub answer : (file : List ℕ) →
       Means (check_entry file).reading (told_files (λ name. Some bytes)) 0 (yes_line certificate.head.ratio certificate.head.set)
 
--- `publish PLAN` writes a file to which `check` says yes, or names a pair without a path
+-- `publish PLAN` writes a file to which `check` says yes, or names a pair without a path. Predictions declare their pairs, and say
+-- nothing else of what is published.
 abbrev pub publish_entry : List ℕ → Entry
 publish_entry plan = record {
-  reading = with_plan None plan (λ named network series. answers (publication_of named network series));
+  reading = with_plan None plan (λ named network series. with_predictions network named.predictions (λ predictions.
+      answers (publication_of named network (traffic_of (node_count network) series predictions).sent)));
   may_answer = λ status text. ((status ≡ 0) × IsAnsweredYes text) ⊎ (status ≡ 7);
   has_one_text = ⊥;
   in_range = Unit {0};

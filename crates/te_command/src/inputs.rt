@@ -1,19 +1,20 @@
 //! What a plan and the files that it names give.
-ghost use Rattle.std.specs.Prelude.{◌≤◌, IfOk, IsTrue};
+ghost use Rattle.std.specs.Prelude.{◌≡◌, ◌≤◌, IfOk, IfSome, IsTrue, length};
 ghost use Rattle.te_model.specs.Network.{is_well_formed, link_count, node_count};
 ghost use Rattle.traffic_matrix.specs.Limits.{IsSeries};
+ghost use Rattle.traffic_matrix.specs.Traffic.{IsTraffic, traffic_of};
 ghost use Rattle.plan.specs.Plan.{InRange};
 ghost use Rattle.te_ports.specs.Shown.{shown_by};
-ghost use Rattle.te_command.specs.Outcome.{HasStep, ReadsInputs, ReadsFailures};
+ghost use Rattle.te_command.specs.Outcome.{HasStep, ReadsInputs, ReadsFailures, ReadsPredictions};
 
 use crate::kind::{FailureFiles, Matrices, Plans, Topologies};
 use command_frame::{Fault, value_in};
 use failure::Failures;
 use plan::Experiment;
 use std::alloc::Global;
-use te_model::{Items, Network};
+use te_model::{Items, Memory, Network};
 use te_ports::Depot;
-use traffic_matrix::Series;
+use traffic_matrix::{Series, Traffic};
 
 /// A plan, and the network and the series of the files that it names.
 #[derive(Drop)]
@@ -54,6 +55,50 @@ pub fn inputs_in<D: Depot>(
         network,
         series,
     })
+}
+
+/// The predicted matrices of the file that the plan names for them, if it names one.
+///
+/// `Refused` comes only for what reads of the file gave, and `Read` only where a read of it failed in the call.
+pub fn predictions_in<D: Depot>(
+    alloc: Global,
+    depot: &mut D,
+    inputs: &Inputs,
+) -> Result<Option<Series>, Fault>
+    requires network { IsTrue (is_well_formed inputs.now.network) }
+    ensures predictions { IfOk result (λ predictions. IfSome predictions (IsSeries (node_count inputs.now.network))) }
+    ensures reads { ReadsPredictions inputs.now.network inputs.now.plan.predictions
+        (shown_by D.content D.gave D.faults depot.old) (shown_by D.content D.gave D.faults depot.new) result }
+{
+    let of = Matrices {
+        network: &inputs.network,
+        step: None,
+    };
+    match &inputs.plan.predictions {
+        None => Ok(None),
+        Some(file) => {
+            let predictions = value_in(alloc, depot, &of, file.as_str())?;
+            Ok(Some(predictions))
+        }
+    }
+}
+
+/// The traffic of these matrices and of their predictions, if there are some. `Memory` comes where memory is wanting.
+pub fn traffic_of(
+    alloc: Global,
+    network: &Network,
+    series: Series,
+    predictions: Option<Series>,
+) -> Result<Traffic, Memory>
+    requires network { IsTrue (is_well_formed network.now) }
+    requires series { IsSeries (node_count network.now) series }
+    requires predictions { IfSome predictions (IsSeries (node_count network.now)) }
+    ensures traffic { IfOk result (λ t. t ≡ traffic_of (node_count network.now) series predictions) }
+    ensures in_range { IfOk result (IsTraffic (node_count network.now)) }
+    ensures steps { IfOk result (λ t. length t.sent.steps ≡ length series.steps) }
+{
+    let nodes = network.names.as_slice().len();
+    Traffic::of(alloc, nodes, series, predictions)
 }
 
 /// The outages of the failure file that the plan names, of the links of its network in the steps of its series. A plan that

@@ -7,9 +7,10 @@ ghost use Rattle.fault_rates.specs.Answers.{verdict_line};
 ghost use Rattle.command_frame.specs.Files.{Span, span, given_files, told_files, known_files};
 ghost use Rattle.command_frame.specs.Reading.{IsTold, Means, MeansStatus, Proves, ReadFailed, RefusesUntold};
 ghost use Rattle.command_frame.specs.Order.{ReadsAlong, AsksNext};
-ghost use Rattle.te_command.specs.Commands.{Command, attack, bound_hose, check, check_hose, check_network, check_rates, check_witness, protect, reprice, update, reading_of, MeansOneText};
+ghost use Rattle.te_command.specs.Commands.{Command, attack, bound_hose, challenge, check, check_hose, check_network, check_rates, check_witness, protect, reprice, tighten, update, reading_of, MeansOneText};
 ghost use Rattle.te_command.specs.Attack.{SaysYesTo};
 ghost use Rattle.te_command.specs.BoundHose.{SaysYesToHose};
+ghost use Rattle.te_command.specs.Challenge.{ShowsNoLess};
 ghost use Rattle.te_command.specs.Run.{OfToldCommand};
 ghost use Rattle.te_command.specs.Converted.{AreConverted, SayYesAlike};
 
@@ -60,6 +61,13 @@ pub fn repriced_files_are_answered_yes()
         (line : List ℕ) × Means (reading_of (check_network made topology)) (told_files content) 0 line }
 {}
 
+/// `check` says yes to the file that `tighten` made of a certificate.
+pub fn tightened_files_are_answered_yes()
+    ensures { (content : List ℕ → Option (List ℕ)) → (file : List ℕ) → (made : List ℕ) → (text : List ℕ) →
+        content made ≡ Some text → Means (reading_of (tighten file)) (told_files content) 0 text →
+        (line : List ℕ) × Means (reading_of (check made)) (told_files content) 0 line }
+{}
+
 /// `check-witness` says of the file that `convert` made what it says of the one that was converted, of the same witness: the
 /// same status, and the same text to the byte.
 pub fn converted_files_are_witnessed_alike()
@@ -90,6 +98,24 @@ pub fn attacks_are_witnessed()
     ensures converted { (content : List ℕ → Option (List ℕ)) → (file : List ℕ) → (made : List ℕ) → (witness : List ℕ) → AreConverted content file made →
         (text : List ℕ) → Means (reading_of (attack file)) (told_files content) 0 text → content witness ≡ Some text →
         (line : List ℕ) × SaysYesTo text line × Means (reading_of (check_witness made witness)) (told_files content) 0 line }
+{}
+
+/// `check-witness` says yes to what `challenge` means of a told certificate, where it is told under any name: beside this certificate, and
+/// beside the one that `convert` makes of it.
+pub fn challenges_are_witnessed()
+    ensures yes { (content : List ℕ → Option (List ℕ)) → (file : List ℕ) → (made : List ℕ) → (text : List ℕ) →
+        Means (reading_of (challenge file)) (told_files content) 0 text → content made ≡ Some text →
+        (line : List ℕ) × SaysYesTo text line × Means (reading_of (check_witness file made)) (told_files content) 0 line }
+    ensures converted { (content : List ℕ → Option (List ℕ)) → (file : List ℕ) → (made : List ℕ) → (witness : List ℕ) → AreConverted content file made →
+        (text : List ℕ) → Means (reading_of (challenge file)) (told_files content) 0 text → content witness ≡ Some text →
+        (line : List ℕ) × SaysYesTo text line × Means (reading_of (check_witness made witness)) (told_files content) 0 line }
+{}
+
+/// What `challenge` means of a told certificate has no lesser bound than some text that `attack` means of it.
+pub fn challenges_show_no_less()
+    ensures { (content : List ℕ → Option (List ℕ)) → (file : List ℕ) → (text : List ℕ) →
+        Means (reading_of (challenge file)) (told_files content) 0 text →
+        (own : List ℕ) × Means (reading_of (attack file)) (told_files content) 0 own × ShowsNoLess own text }
 {}
 
 /// `protect` and `check-rates` say of the file that `convert` made what they say of the one that was converted: the same status, and the

@@ -16,7 +16,7 @@ use te_ports::{Depot, Sink};
 ///
 /// | Status | When | What is written |
 /// |---|---|---|
-/// | 0 | the answer is yes, a certificate is published or converted, the schemes are compared, a step of them is broken down, a drawn network is summed up, an update is planned, rates are made, or a hose is bounded | the line, the certificate's file, the report, the breakdown, the summary, the plan, the rates or the hose certificate, to `out` |
+/// | 0 | the answer is yes, a certificate is published or converted, the schemes are compared, a step of them is broken down, a drawn network is summed up, an update is planned, rates are made, a hose is bounded, links are bounded, or a certificate is repriced or tightened | the line, the certificate's file, the report, the breakdown, the summary, the plan, the rates, the hose certificate or the needs of the links, to `out` |
 /// | 1 | the answer is no, an update has no plan, or the declared pairs of rates are others | the line, to `out` |
 /// | 2 | the words are no form of a command | `usage`, to `err` |
 /// | 3 | a file is refused | the file and the reason, to `err` |
@@ -58,7 +58,7 @@ pub fn run<D: Depot, O: Sink, E: Sink>(
         Answered (reading_of command) (told_files (D.content depot.old)) result
         (change O.written O.faults out.old out.new) (change E.written E.faults err.old err.new)) }
 
-    // Whatever the files hold, the command may answer so: each file that is published is one to which `check` says yes, and each
+    // Whatever the files hold, the command may answer so: each file that is published, repriced or tightened is one to which `check` says yes, and each
     // that is converted is one of the second format.
     ensures form { OfCommand (texts words.now) (λ command.
         HasForm command result (change O.written O.faults out.old out.new) (change E.written E.faults err.old err.new)) }

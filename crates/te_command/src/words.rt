@@ -6,9 +6,9 @@ ghost use Rattle.te_command.specs.Asked.{command_meant};
 ghost use Rattle.te_command.specs.BreakDown.{step_number};
 
 use crate::commands::{
-    Attack, BoundHose, Bounds, BreakDown, Check, CheckHose, CheckNetwork, CheckRates, CheckWitness,
-    Convert, Generate, Protect, Publish, Reprice, RunPlan, Update, failures_of, generate_of,
-    step_of,
+    Attack, BoundHose, Bounds, BreakDown, Challenge, Check, CheckHose, CheckNetwork, CheckRates,
+    CheckWitness, Convert, Generate, Protect, Publish, Reprice, RunPlan, Tighten, Update,
+    failures_of, generate_of, step_of,
 };
 use command_frame::{Answer, Ask, Fault, Table};
 use std::alloc::Global;
@@ -19,6 +19,7 @@ use te_ports::Depot;
 #[derive(Clone, Copy)]
 pub enum Command<'a> {
     Attack(Attack<'a>),
+    Challenge(Challenge<'a>),
     Check(Check<'a>),
     CheckNetwork(CheckNetwork<'a>),
     CheckWitness(CheckWitness<'a>),
@@ -33,6 +34,7 @@ pub enum Command<'a> {
     CheckHose(CheckHose<'a>),
     Bounds(Bounds<'a>),
     Reprice(Reprice<'a>),
+    Tighten(Tighten<'a>),
     BreakDown(BreakDown<'a>),
 }
 
@@ -44,6 +46,7 @@ impl<'a> Ask for Command<'a> {
     fn answer<D: Depot>(&self, alloc: Global, depot: &mut D) -> Result<Answer, Fault> {
         match self {
             Command::Attack(command) => command.answer(alloc, depot),
+            Command::Challenge(command) => command.answer(alloc, depot),
             Command::Check(command) => command.answer(alloc, depot),
             Command::CheckNetwork(command) => command.answer(alloc, depot),
             Command::CheckWitness(command) => command.answer(alloc, depot),
@@ -58,6 +61,7 @@ impl<'a> Ask for Command<'a> {
             Command::CheckHose(command) => command.answer(alloc, depot),
             Command::Bounds(command) => command.answer(alloc, depot),
             Command::Reprice(command) => command.answer(alloc, depot),
+            Command::Tighten(command) => command.answer(alloc, depot),
             Command::BreakDown(command) => command.answer(alloc, depot),
         }
     }
@@ -110,6 +114,8 @@ fn command_with_file<'a>(word: &str, file: &'a str) -> Option<Command<'a>>
 {
     if word == "attack" {
         Some(Command::Attack(Attack { certificate: file }))
+    } else if word == "challenge" {
+        Some(Command::Challenge(Challenge { certificate: file }))
     } else if word == "check" {
         Some(Command::Check(Check { certificate: file }))
     } else if word == "convert" {
@@ -120,6 +126,8 @@ fn command_with_file<'a>(word: &str, file: &'a str) -> Option<Command<'a>>
         Some(Command::Run(RunPlan { plan: file }))
     } else if word == "bounds" {
         Some(Command::Bounds(Bounds { certificate: file }))
+    } else if word == "tighten" {
+        Some(Command::Tighten(Tighten { certificate: file }))
     } else {
         None
     }

@@ -1,13 +1,14 @@
 //! `publish PLAN`: the certificate of the routing for which a plan asks.
-ghost use Rattle.std.specs.Prelude.{◌≡◌, ◌≤◌, ◌<◌, IfOk, IfErr, IsTrue, string_bytes};
+ghost use Rattle.std.specs.Prelude.{◌≡◌, ◌≤◌, ◌<◌, IfOk, IfErr, IfSome, IsTrue, string_bytes};
 ghost use Rattle.te_model.specs.Network.{is_well_formed, link_count, node_count};
 ghost use Rattle.traffic_matrix.specs.Limits.{IsSeries};
+ghost use Rattle.traffic_matrix.specs.Traffic.{traffic_of};
 ghost use Rattle.plan.specs.Plan.{InRange};
 ghost use Rattle.command_frame.specs.declared.answer.Fault.TheVariants.{Memory as OutOfMemory};
 ghost use Rattle.te_command.specs.Publish.{IsPublication, no_path_line};
 ghost use Rattle.command_frame.specs.Outcome.{status_of, answer_text};
 
-use crate::inputs::inputs_in;
+use crate::inputs::{Inputs, inputs_in, predictions_in, traffic_of};
 use command_frame::{Answer, Ask, Fault};
 use plan::Experiment;
 use scheme::SchemeFault;
@@ -29,8 +30,33 @@ impl<'a> Ask for Publish<'a> {
 
     fn answer<D: Depot>(&self, alloc: Global, depot: &mut D) -> Result<Answer, Fault> {
         let inputs = inputs_in(alloc, depot, self.plan, None)?;
-        certify(alloc, &inputs.plan, &inputs.network, &inputs.series)
+        let predictions = predictions_in(alloc, depot, &inputs)?;
+        certify_declared(alloc, inputs, predictions)
     }
+}
+
+// The answer of these inputs, in which the predictions declare pairs.
+fn certify_declared(
+    alloc: Global,
+    inputs: Inputs,
+    predictions: Option<Series>,
+) -> Result<Answer, Fault>
+    requires plan { InRange inputs.plan }
+    requires network { IsTrue (is_well_formed inputs.network) }
+    requires links { 1 ≤ link_count inputs.network }
+    requires series { IsSeries (node_count inputs.network) inputs.series }
+    requires predictions { IfSome predictions (IsSeries (node_count inputs.network)) }
+    ensures answer { IfOk result (λ answer. IsPublication inputs.plan inputs.network
+        (traffic_of (node_count inputs.network) inputs.series predictions).sent (status_of answer) (answer_text answer)) }
+    ensures memory { IfErr result (λ fault. fault ≡ OutOfMemory) }
+{
+    let Inputs {
+        plan,
+        network,
+        series,
+    } = inputs;
+    let traffic = traffic_of(alloc, &network, series, predictions)?;
+    certify(alloc, &plan, &network, &traffic.sent)
 }
 
 // The line of a pair that has no path.

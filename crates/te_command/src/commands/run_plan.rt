@@ -1,7 +1,8 @@
 //! `run PLAN`: the report of the schemes that a plan compares.
-ghost use Rattle.std.specs.Prelude.{◌≡◌, IfErr, IfOk, IsTrue};
+ghost use Rattle.std.specs.Prelude.{◌≡◌, IfErr, IfOk, IfSome, IsTrue};
 ghost use Rattle.te_model.specs.Network.{is_well_formed, node_count};
 ghost use Rattle.traffic_matrix.specs.Limits.{IsSeries};
+ghost use Rattle.traffic_matrix.specs.Traffic.{traffic_of};
 ghost use Rattle.plan.specs.Plan.{InRange};
 ghost use Rattle.experiment.specs.Report.{IsReport};
 ghost use Rattle.command_frame.specs.declared.answer.Fault.TheVariants.{Memory as OutOfMemory};
@@ -11,11 +12,12 @@ ghost use Rattle.te_command.specs.Report.{report_of};
 ghost use Rattle.te_command.specs.PlanReading.{with_failures};
 ghost use Rattle.command_frame.specs.Outcome.{Follows, status_of, answer_text};
 
-use crate::inputs::{Inputs, inputs_in, outages_in};
+use crate::inputs::{Inputs, inputs_in, outages_in, predictions_in, traffic_of};
 use command_frame::{Answer, Ask, Fault};
 use failure::Failures;
 use std::alloc::Global;
 use te_ports::Depot;
+use traffic_matrix::Series;
 
 /// `run PLAN`.
 #[derive(Clone, Copy)]
@@ -30,38 +32,51 @@ impl<'a> Ask for RunPlan<'a> {
 
     fn answer<D: Depot>(&self, alloc: Global, depot: &mut D) -> Result<Answer, Fault> {
         let inputs = inputs_in(alloc, depot, self.plan, None)?;
-        report_on(alloc, depot, &inputs)
+        let predictions = predictions_in(alloc, depot, &inputs)?;
+        report_on(alloc, depot, inputs, predictions)
     }
 }
 
-// The report on these inputs and failures.
-fn report_with(alloc: Global, inputs: &Inputs, failures: &Failures) -> Result<Answer, Fault>
-    requires plan { InRange inputs.now.plan }
-    requires network { IsTrue (is_well_formed inputs.now.network) }
-    requires series { IsSeries (node_count inputs.now.network) inputs.now.series }
-    ensures answer { IfOk result (λ answer. (status_of answer ≡ 0)
-        × IsReport inputs.now.plan inputs.now.network inputs.now.series failures.now (answer_text answer)) }
+// The report on these inputs, predictions and failures.
+fn report_with(
+    alloc: Global,
+    inputs: Inputs,
+    predictions: Option<Series>,
+    failures: &Failures,
+) -> Result<Answer, Fault>
+    requires plan { InRange inputs.plan }
+    requires network { IsTrue (is_well_formed inputs.network) }
+    requires series { IsSeries (node_count inputs.network) inputs.series }
+    requires predictions { IfSome predictions (IsSeries (node_count inputs.network)) }
+    ensures answer { IfOk result (λ answer. (status_of answer ≡ 0) × IsReport inputs.plan inputs.network
+        (traffic_of (node_count inputs.network) inputs.series predictions) failures.now (answer_text answer)) }
     ensures memory { IfErr result (λ fault. fault ≡ OutOfMemory) }
 {
-    let text = experiment::report(
-        alloc,
-        &inputs.plan,
-        &inputs.network,
-        &inputs.series,
-        failures,
-    )?;
+    let Inputs {
+        plan,
+        network,
+        series,
+    } = inputs;
+    let traffic = traffic_of(alloc, &network, series, predictions)?;
+    let text = experiment::report(alloc, &plan, &network, &traffic, failures)?;
     Ok(Answer::Done(text))
 }
 
-// The report on these inputs, for which the failures are read.
-fn report_on<D: Depot>(alloc: Global, depot: &mut D, inputs: &Inputs) -> Result<Answer, Fault>
-    requires plan { InRange inputs.now.plan }
-    requires network { IsTrue (is_well_formed inputs.now.network) }
-    requires series { IsSeries (node_count inputs.now.network) inputs.now.series }
-    ensures { Follows (with_failures inputs.now.network inputs.now.series inputs.now.plan.failures
-        (λ failures. answers (report_of inputs.now.plan inputs.now.network inputs.now.series failures)))
+// The report on these inputs and predictions, for which the failures are read.
+fn report_on<D: Depot>(
+    alloc: Global,
+    depot: &mut D,
+    inputs: Inputs,
+    predictions: Option<Series>,
+) -> Result<Answer, Fault>
+    requires plan { InRange inputs.plan }
+    requires network { IsTrue (is_well_formed inputs.network) }
+    requires series { IsSeries (node_count inputs.network) inputs.series }
+    requires predictions { IfSome predictions (IsSeries (node_count inputs.network)) }
+    ensures { Follows (with_failures inputs.network inputs.series inputs.plan.failures
+        (λ failures. answers (report_of inputs.plan inputs.network (traffic_of (node_count inputs.network) inputs.series predictions) failures)))
         (shown_by D.content D.gave D.faults depot.old) (shown_by D.content D.gave D.faults depot.new) result }
 {
-    let failures = outages_in(alloc, depot, inputs)?;
-    report_with(alloc, inputs, &failures)
+    let failures = outages_in(alloc, depot, &inputs)?;
+    report_with(alloc, inputs, predictions, &failures)
 }

@@ -1,6 +1,6 @@
 use Rattle.std.proofs.lemmas.Result.{err_from_is_err_and}
 use Rattle.hose_bound.specs.declared.hose.Hose.{Hose}
-use Rattle.witness_search.proofs.Heads.{head_formed}
+use Rattle.ratio_checker.proofs.FormedHeads.{head_formed}
 use Rattle.command_frame.specs.Reading.{answers}
 use Rattle.te_command.specs.BoundHose.{bounding_of}
 use Rattle.te_command.specs.HoseFile.{bounds_files}

@@ -1,6 +1,7 @@
 use Rattle.update_plan.proofs.ValidHeads.{valid_routing}
-use Rattle.witness_search.proofs.Heads.{head_formed, head_pairs}
+use Rattle.witness_search.proofs.Heads.{head_pairs}
 use Rattle.te_command.proofs.HeadCounts.{head_has_few_pairs}
+use Rattle.ratio_checker.proofs.FormedHeads.{head_formed}
 use Rattle.te_command.proofs.commands.bound_hose.bound_within.Goals as goal
 
 pub hose_text-requires-clause-network : goal.hose_text-requires-clause-network

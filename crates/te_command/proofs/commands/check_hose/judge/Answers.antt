@@ -1,6 +1,7 @@
 use Rattle.update_plan.proofs.ValidHeads.{valid_routing}
-use Rattle.witness_search.proofs.Heads.{head_formed, head_pairs}
+use Rattle.witness_search.proofs.Heads.{head_pairs}
 use Rattle.te_command.proofs.CheckingHoses.{hose_small}
+use Rattle.ratio_checker.proofs.FormedHeads.{head_formed}
 use Rattle.te_command.proofs.commands.check_hose.judge.Goals as goal
 
 pub check_hose_text-requires-clause-network : goal.check_hose_text-requires-clause-network

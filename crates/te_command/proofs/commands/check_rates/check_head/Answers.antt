@@ -1,6 +1,6 @@
 use Rattle.std.proofs.lemmas.Result.{err_from_is_err_and}
 use Rattle.traffic_matrix.specs.declared.series.Series.{Series}
-use Rattle.witness_search.proofs.Heads.{head_formed}
+use Rattle.ratio_checker.proofs.FormedHeads.{head_formed}
 use Rattle.te_command.specs.CheckRates.{rates_reading}
 use Rattle.te_command.specs.MatrixFile.{matrices}
 use Rattle.command_frame.proofs.Following.{goes_on, stops}

@@ -4,7 +4,7 @@ use Rattle.te_model.specs.Network.{node_count}
 use Rattle.te_model.specs.Pairs.{AreDemands}
 use Rattle.traffic_matrix.proofs.FirstMatrix.{first_demands}
 use Rattle.update_plan.proofs.ValidHeads.{valid_routing}
-use Rattle.witness_search.proofs.Heads.{head_formed}
+use Rattle.ratio_checker.proofs.FormedHeads.{head_formed}
 use Rattle.te_command.proofs.CheckingRates.{rates_small}
 use Rattle.te_command.proofs.HeadCounts.{head_has_few_pairs, head_has_few_paths}
 use Rattle.te_command.proofs.commands.check_rates.check_under.Goals as goal

@@ -1,6 +1,6 @@
 use Rattle.std.proofs.lemmas.Result.{err_from_is_err_and}
 use Rattle.traffic_matrix.specs.declared.series.Series.{Series}
-use Rattle.witness_search.proofs.Heads.{head_formed}
+use Rattle.ratio_checker.proofs.FormedHeads.{head_formed}
 use Rattle.command_frame.specs.Reading.{answers}
 use Rattle.te_command.specs.MatrixFile.{matrices}
 use Rattle.te_command.specs.Update.{update_between}

@@ -2,7 +2,7 @@ use Rattle.std.proofs.Common.{Ok, Err}
 use Rattle.std.proofs.lemmas.Result.{err_from_is_err_and}
 use Rattle.te_model.specs.declared.certificate.Certificate.{Certificate}
 use Rattle.hose_bound.specs.declared.hose.HoseCert.{HoseCert}
-use Rattle.witness_search.proofs.Heads.{head_formed}
+use Rattle.ratio_checker.proofs.FormedHeads.{head_formed}
 use Rattle.command_frame.specs.declared.answer.Fault.TheVariants.{Memory}
 use Rattle.command_frame.specs.Reading.{answers}
 use Rattle.te_command.specs.CertificateFile.{certificates}
