@@ -38,6 +38,13 @@ def least_utilisation_on(links, demands, paths):
     return ("utilisation on paths", links, demands, paths)
 
 
+def least_ratio(links, pairs):
+    """The least ratio for all matrices that any routing of these pairs (source, target) has. `glpsol` does not solve its linear program in time
+    but for the smallest networks, so that its values are recorded ones.
+    """
+    return ("least ratio", links, pairs)
+
+
 def key(question):
     return hashlib.sha256(repr(question).encode()).hexdigest()[:16]
 
