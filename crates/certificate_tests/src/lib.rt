@@ -1,5 +1,5 @@
 //! Tests of certificates: their parts, their text, the verdict on one, the best blocks of one, updates from one to another,
-//! rates that survive failed links, and hose bounds. There is nothing else here.
+//! rates that survive failed links, hose bounds, and witnesses that are sought. There is nothing else here.
 #![tactic(auto)]
 
 #[cfg(test)]
@@ -26,3 +26,5 @@ mod te_model_tests;
 mod update_plan_tests;
 #[cfg(test)]
 mod window_tests;
+#[cfg(test)]
+mod witness_search_tests;
