@@ -10,7 +10,7 @@ use Rattle.te_model.specs.Counting.{or_else, first_below, unless}
 use Rattle.te_model.specs.Inequalities.{failure_at, of_link}
 use Rattle.te_model.specs.Network.{link_count}
 use Rattle.te_model.proofs.Tests.{unless_none, or_else_none, first_below_none_at, first_failing_none_at}
-use Rattle.te_model.proofs.Failures.{of_link_none}
+use Rattle.te_model.proofs.FeasibleBlocks.{of_link_none}
 use Rattle.te_model.proofs.Searches.{first_below_more, first_below_some, unless_some}
 use Rattle.hose_bound.specs.declared.hose.HoseBlock.{HoseBlock}
 use Rattle.hose_bound.specs.declared.hose.HoseCert.{HoseCert}

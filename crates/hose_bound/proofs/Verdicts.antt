@@ -9,7 +9,7 @@ use Rattle.te_model.specs.Counting.{or_else, first_below, unless, IsUpTo}
 use Rattle.te_model.specs.Inequalities.{LinkFailure, failure_at, of_link}
 use Rattle.te_model.specs.Laws.{PairsJoinNodes}
 use Rattle.te_model.specs.Network.{link_count}
-use Rattle.te_model.proofs.Failures.{of_link_none}
+use Rattle.te_model.proofs.FeasibleBlocks.{of_link_none}
 use Rattle.te_model.proofs.Searches.{first_below_found, first_below_none, first_below_some, or_else_some, unless_some}
 use Rattle.te_model.proofs.Tests.{or_else_none, unless_none, first_below_none_at, first_failing_none_at}
 use Rattle.hose_bound.specs.declared.hose.HoseCert.{HoseCert}

@@ -13,8 +13,8 @@ use Rattle.ratio_checker.specs.Ascending.{AscendsFrom}
 use Rattle.ratio_checker.specs.Shares.{AreShareNumbers}
 use Rattle.ratio_checker.proofs.Absent.{empty_failure_is, no_block}
 use Rattle.ratio_checker.proofs.FedBlocks.{shares_alone}
-use Rattle.link_bounds.specs.Feasible.{infeasibility}
-use Rattle.link_bounds.proofs.FeasibleBlocks.{block_failure-parts}
+use Rattle.te_model.specs.Feasible.{infeasibility}
+use Rattle.te_model.proofs.FeasibleBlocks.{block_failure-parts}
 
 -- nothing is to be paid
 pub empty_pays : (net : Network) (e ratio : ℕ) → pays_weights net (empty_block e) ratio ≡ true

@@ -7,7 +7,7 @@ use Rattle.te_model.specs.Counting.{first_below}
 use Rattle.te_model.specs.Inequalities.{of_link}
 use Rattle.te_model.specs.Network.{link_count}
 use Rattle.te_model.proofs.Searches.{first_below_found}
-use Rattle.link_bounds.specs.Feasible.{first_infeasibility, infeasibility}
+use Rattle.te_model.specs.Feasible.{first_infeasibility, infeasibility}
 
 pub infeasibility_found : (c : Certificate) (e : ℕ) (f : InequalityFault) → e < link_count c.head.network →
     first_below e (λ k. of_link k (infeasibility c.head (block_of c.blocks k))) ≡ None →

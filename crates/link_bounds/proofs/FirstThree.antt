@@ -6,8 +6,8 @@ use Rattle.te_model.specs.declared.inequality.InequalityFault.{InequalityFault}
 use Rattle.te_model.specs.Counting.{first_below, or_else, unless}
 use Rattle.te_model.specs.Inequalities.{block_failure, covers_share, failure_at, keeps_bounds, pays_weights, potentials_failure, rises_within_weight, row_failure, shares_failure, starts_at_zero}
 use Rattle.te_model.specs.Network.{link_count, node_count}
-use Rattle.link_bounds.specs.Feasible.{infeasibility}
-use Rattle.link_bounds.proofs.FeasibleBlocks.{block_failure-parts}
+use Rattle.te_model.specs.Feasible.{infeasibility}
+use Rattle.te_model.proofs.FeasibleBlocks.{block_failure-parts}
 
 -- what fails there has not this number
 abbrev IsOther : ℕ → Option InequalityFault → Type 0

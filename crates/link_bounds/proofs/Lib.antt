@@ -1,5 +1,3 @@
-pub mod LinkRatios
-pub mod FeasibleBlocks
 pub mod SameLinks
 pub mod SharesOn
 pub mod FirstThree

@@ -10,11 +10,12 @@ use Rattle.te_model.specs.Bounds.{HasSmallNumbers}
 use Rattle.te_model.specs.Certificate.{block_of}
 use Rattle.te_model.specs.Counting.{all_below, greatest_below}
 use Rattle.te_model.specs.Flow.{load}
-use Rattle.link_bounds.specs.LinkRatio.{IsLinkRatio, has_share}
+use Rattle.te_model.specs.LinkRatio.{IsLinkRatio}
+use Rattle.link_bounds.specs.Needs.{has_share}
 use Rattle.te_model.specs.Network.{capacity_of, link_count}
 use Rattle.te_model.specs.Path.{share}
 use Rattle.te_model.specs.Validity.{IsValid}
-use Rattle.link_bounds.proofs.LinkRatios.{block_of_has, block_of_link, feasible_bounds_link, greater_link_ratios, ratios_of_links, small_empty}
+use Rattle.te_model.proofs.LinkRatios.{block_of_has, block_of_link, feasible_bounds_link, greater_link_ratios, ratios_of_links, small_empty}
 use Rattle.te_model.proofs.Quotients.{below_greatest}
 use Rattle.te_model.proofs.Searches.{all_below_at}
 use Rattle.te_model.proofs.Sums.{sum_below-zero}

@@ -4,7 +4,7 @@ use Rattle.std.proofs.lemmas.List.{take_more}
 use Rattle.std.specs.Prelude.{IsTrue, map}
 use Rattle.te_model.specs.declared.certificate.Block.{Block}
 use Rattle.te_model.specs.declared.certificate.Head.{Head}
-use Rattle.link_bounds.specs.LinkRatio.{has_share}
+use Rattle.link_bounds.specs.Needs.{has_share}
 use Rattle.te_model.specs.Network.{is_well_formed}
 use Rattle.best_blocks.specs.Need.{need_of}
 use Rattle.link_bounds.specs.declared.needs.LinkNeed.{LinkNeed}

@@ -8,14 +8,14 @@ use Rattle.te_model.specs.declared.certificate.Certificate.{Certificate}
 use Rattle.te_model.specs.declared.network.Network.{Network}
 use Rattle.te_model.specs.Certificate.{block_of, empty_block}
 use Rattle.te_model.specs.Counting.{first_below, or_else, unless}
-use Rattle.link_bounds.specs.Feasible.{infeasibility}
+use Rattle.te_model.specs.Feasible.{infeasibility}
 use Rattle.te_model.specs.Inequalities.{block_failure, failure_at, of_link, pays_weights}
 use Rattle.te_model.specs.Network.{is_well_formed, link_count}
 use Rattle.link_bounds.specs.SameLinks.{AreSameLinks}
 use Rattle.te_model.specs.Validity.{IsValid, IsValidBlock, block_at, has_block_numbers}
 use Rattle.te_model.proofs.Failures.{holds_from_none}
-use Rattle.link_bounds.proofs.FeasibleBlocks.{block_failure-parts, feasible_or_fails}
-use Rattle.link_bounds.proofs.LinkRatios.{block_of_has}
+use Rattle.te_model.proofs.FeasibleBlocks.{block_failure-parts, feasible_or_fails}
+use Rattle.te_model.proofs.LinkRatios.{block_of_has}
 use Rattle.te_model.proofs.Quotients.{below_greatest, greatest_below-least}
 use Rattle.te_model.proofs.Searches.{first_below-same, or_else-none}
 use Rattle.te_model.proofs.Valid.{block_small}

@@ -8,7 +8,7 @@ use Rattle.te_model.specs.declared.certificate.Head.{Head}
 use Rattle.te_model.specs.declared.network.Network.{Network}
 use Rattle.te_model.specs.Certificate.{potential, weight_of}
 use Rattle.te_model.specs.Counting.{first_below, or_else, unless}
-use Rattle.link_bounds.specs.Feasible.{infeasibility}
+use Rattle.te_model.specs.Feasible.{infeasibility}
 use Rattle.te_model.specs.Inequalities.{failure_at, keeps_bounds, potentials_failure, rises_within_weight, row_failure, shares_failure, starts_at_zero}
 use Rattle.te_model.specs.Network.{head_of, link_count, node_count, tail_of}
 use Rattle.te_model.specs.Path.{chains, is_distinct, is_path, nodes_visited}

@@ -9,8 +9,8 @@ use Rattle.te_model.specs.declared.certificate.Certificate.{Certificate}
 use Rattle.te_model.specs.declared.certificate.Head.{Head}
 use Rattle.te_model.specs.declared.network.Network.{Network}
 use Rattle.te_model.specs.Certificate.{block_of, empty_block}
-use Rattle.link_bounds.specs.Feasible.{AreFeasible, IsFeasible}
-use Rattle.link_bounds.specs.LinkRatio.{has_share}
+use Rattle.te_model.specs.Feasible.{AreFeasible, IsFeasible}
+use Rattle.link_bounds.specs.Needs.{has_share}
 use Rattle.te_model.specs.Network.{link_count}
 use Rattle.te_model.specs.Path.{share}
 use Rattle.te_model.specs.Validity.{IsValid}

@@ -5,7 +5,7 @@ use Rattle.te_model.specs.declared.route.PairRoutes.{PairRoutes}
 use Rattle.te_model.specs.declared.inequality.InequalityFault.{InequalityFault}
 use Rattle.te_model.specs.Counting.{all_below, first_below, or_else, unless}
 use Rattle.te_model.specs.Inequalities.{failure_at}
-use Rattle.link_bounds.specs.LinkRatio.{has_share}
+use Rattle.link_bounds.specs.Needs.{has_share}
 use Rattle.te_model.specs.Path.{share}
 use Rattle.ratio_checker.specs.Shares.{AreShareNumbers}
 

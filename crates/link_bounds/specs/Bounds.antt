@@ -1,7 +1,7 @@
 -- What is found of a certificate: the table of the needs of its links, or which of the first three inequalities fails first.
 use Rattle.std.specs.Prelude.{◌≡◌, Some, None}
 use Rattle.te_model.specs.declared.certificate.Certificate.{Certificate}
-use Rattle.link_bounds.specs.Feasible.{first_infeasibility}
+use Rattle.te_model.specs.Feasible.{first_infeasibility}
 use Rattle.link_bounds.specs.Table.{bounds_text}
 use Rattle.link_bounds.specs.declared.bounds.Bounds.{Bounds}
 use Rattle.link_bounds.specs.declared.bounds.Bounds.TheVariants.{Table, Infeasible}

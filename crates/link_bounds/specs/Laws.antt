@@ -2,7 +2,7 @@
 use Rattle.std.specs.Prelude.{◌≡◌, ◌≤◌, IsTrue}
 use Rattle.te_model.specs.declared.certificate.Certificate.{Certificate}
 use Rattle.te_model.specs.declared.network.Network.{Network}
-use Rattle.link_bounds.specs.Feasible.{AreFeasible, first_infeasibility}
+use Rattle.te_model.specs.Feasible.{AreFeasible, first_infeasibility}
 use Rattle.te_model.specs.Inequalities.{Holds, first_failure}
 use Rattle.te_model.specs.Network.{is_well_formed}
 use Rattle.link_bounds.specs.SameLinks.{AreSameLinks}

@@ -1,5 +1,3 @@
-pub mod LinkRatio
-pub mod Feasible
 pub mod SameLinks
 pub mod Needs
 pub mod Table

@@ -1,14 +1,20 @@
 -- The needs of the links: of each link with a share the least ratio that its block allows.
-use Rattle.std.specs.Prelude.{ℕ, List, filter, map, if◌then◌else◌}
+use Rattle.std.specs.Prelude.{ℕ, Bool, not, List, length, filter, map, ◌==◌, if◌then◌else◌}
 use Rattle.std.specs.List.{range_with_len}
 use Rattle.te_model.specs.declared.certificate.Block.{Block}
 use Rattle.te_model.specs.declared.certificate.Certificate.{Certificate}
 use Rattle.te_model.specs.declared.certificate.Head.{Head}
+use Rattle.te_model.specs.declared.route.PairRoutes.{PairRoutes}
 use Rattle.te_model.specs.Certificate.{block_of}
+use Rattle.te_model.specs.Counting.{all_below}
 use Rattle.te_model.specs.Network.{link_count}
+use Rattle.te_model.specs.Path.{share}
 use Rattle.best_blocks.specs.Need.{need_of}
-use Rattle.link_bounds.specs.LinkRatio.{has_share}
 use Rattle.link_bounds.specs.declared.needs.LinkNeed.{LinkNeed}
+
+-- whether some pair sends over link e
+abbrev pub has_share : List PairRoutes → ℕ → Bool
+has_share routes e = not (all_below (length routes) (λ p. share routes p e == 0))
 
 -- the links over which some pair sends, ascending
 abbrev pub shared_links : Head → List ℕ

@@ -3,9 +3,10 @@ use Rattle.std.specs.Prelude.{ℕ, ◌<◌, ◌≤◌, IsTrue}
 use Rattle.te_model.specs.declared.certificate.Certificate.{Certificate}
 use Rattle.te_model.specs.Certificate.{block_of}
 use Rattle.te_model.specs.Counting.{greatest_below}
-use Rattle.link_bounds.specs.Feasible.{AreFeasible}
+use Rattle.te_model.specs.Feasible.{AreFeasible}
 use Rattle.te_model.specs.Inequalities.{Holds}
-use Rattle.link_bounds.specs.LinkRatio.{IsLinkRatio, has_share}
+use Rattle.te_model.specs.LinkRatio.{IsLinkRatio}
+use Rattle.link_bounds.specs.Needs.{has_share}
 use Rattle.te_model.specs.Network.{link_count}
 use Rattle.te_model.specs.Ratio.{IsObliviousRatio}
 use Rattle.te_model.specs.Validity.{IsValid}

@@ -4,7 +4,7 @@ ghost use Rattle.te_model.specs.Network.{link_count};
 ghost use Rattle.te_model.specs.Validity.{IsValid};
 ghost use Rattle.ratio_checker.specs.Shares.{HasShares};
 ghost use Rattle.link_bounds.specs.Bounds.{AreBoundsOf};
-ghost use Rattle.link_bounds.specs.Feasible.{AreFeasible};
+ghost use Rattle.te_model.specs.Feasible.{AreFeasible};
 ghost use Rattle.link_bounds.specs.Table.{bounds_text};
 
 use crate::feasibility::first_infeasibility;

@@ -8,7 +8,7 @@ ghost use Rattle.ratio_checker.specs.Ascending.{AscendsFrom};
 ghost use Rattle.ratio_checker.specs.Checked.{CanCheckBlock, CanCheckHead};
 ghost use Rattle.ratio_checker.specs.Finding.{finding_of};
 ghost use Rattle.ratio_checker.specs.Shares.{AreShareNumbers, HasShares};
-ghost use Rattle.link_bounds.specs.Feasible.{first_infeasibility, infeasibility};
+ghost use Rattle.te_model.specs.Feasible.{first_infeasibility, infeasibility};
 
 use ratio_checker::Finding;
 use ratio_checker::blocks::blocks_after;

@@ -1,23 +1,7 @@
-//! Laws of the bounds of links, of needs and of repriced certificates. Each is the contract of a function that does nothing.
-ghost use Rattle.link_bounds.specs.Feasible.{FeasibleBlocksBoundLinks, FeasibleWhereNoneFails, HoldsWhereRatioPays};
+//! Laws of needs and of repriced certificates. Each is the contract of a function that does nothing.
 ghost use Rattle.link_bounds.specs.Laws.{LastRepricingCounts, RepricedHolds, RepricingKeepsFailures, RepricingKeepsValidity, RepricingLowersRatio};
-ghost use Rattle.link_bounds.specs.LinkRatio.{GreaterLinkRatiosHold, RatiosAreOfLinks};
 ghost use Rattle.link_bounds.specs.Proved.{NeedsAreProved, NeedsAreWithinRatio};
 ghost use Rattle.link_bounds.specs.SameLinks.{SameLinksAreDecided};
-
-/// The bound of one link: a block of which the first three inequalities hold proves of its link each ratio that pays for its weights
-/// (Applegate and Cohen, 2003). An oblivious ratio is one of every link, so that the greatest over the links is one of the routing.
-pub fn feasible_blocks_bound_links()
-    ensures bound { FeasibleBlocksBoundLinks }
-    ensures all { RatiosAreOfLinks }
-    ensures greater { GreaterLinkRatiosHold }
-{}
-
-/// Where the first three inequalities hold of every link, none of them fails first; and all four hold where the ratio pays as well.
-pub fn feasible_blocks_hold_where_the_ratio_pays()
-    ensures none { FeasibleWhereNoneFails }
-    ensures holds { HoldsWhereRatioPays }
-{}
 
 /// The test of the same links decides whether two networks have the same nodes by name and the same links by their ends, in order.
 pub fn same_links_are_decided()

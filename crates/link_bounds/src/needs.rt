@@ -4,7 +4,7 @@ ghost use Rattle.te_model.specs.declared.route.PairRoutes.{PairRoutes};
 ghost use Rattle.te_model.specs.Network.{is_well_formed, link_count};
 ghost use Rattle.te_model.specs.Validity.{IsValidBlock};
 ghost use Rattle.ratio_checker.specs.Shares.{AreShareNumbers, HasShares};
-ghost use Rattle.link_bounds.specs.LinkRatio.{has_share};
+ghost use Rattle.link_bounds.specs.Needs.{has_share};
 ghost use Rattle.link_bounds.specs.Needs.{block_needs};
 
 use best_blocks::need;

@@ -11,7 +11,7 @@ use Rattle.te_model.specs.Network.{link_count}
 use Rattle.te_model.specs.Certificate.{block_of}
 use Rattle.te_model.specs.Inequalities.{covers_share, failure_at, potentials_failure, shares_failure, keeps_bounds, pays_weights, block_failure, of_link}
 use Rattle.te_model.proofs.Tests.{unless_none, or_else_none, first_below_none_at, first_failing_none_at}
-use Rattle.te_model.proofs.Failures.{of_link_none}
+use Rattle.te_model.proofs.FeasibleBlocks.{of_link_none}
 use Rattle.te_model.proofs.Searches.{first_below_more, first_below_some, unless_some}
 use Rattle.ratio_checker.specs.declared.shares.Uncovered.{Uncovered}
 use Rattle.ratio_checker.specs.Uncovered.{failure_among, IsFirstUncovered, fault_on}

@@ -14,9 +14,9 @@ use Rattle.te_model.specs.Network.{link_count, node_count}
 use Rattle.te_model.specs.Shape.{has_one_each, is_count, is_row_of, is_shaped_block, is_shaped_row, is_word}
 use Rattle.te_model.specs.Validity.{IsValid, IsValidBlock}
 use Rattle.te_model.proofs.ValidParts.{valid_parts}
-use Rattle.link_bounds.specs.Feasible.{IsFeasible}
+use Rattle.te_model.specs.Feasible.{IsFeasible}
 use Rattle.link_bounds.specs.SameLinks.{AreSameLinks}
-use Rattle.link_bounds.proofs.FeasibleBlocks.{feasible_from_none, feasible_of, none_from_feasible}
+use Rattle.te_model.proofs.FeasibleBlocks.{feasible_from_none, feasible_of, none_from_feasible}
 use Rattle.link_bounds.proofs.RepricedValid.{block_on}
 use Rattle.link_bounds.proofs.SameNetworks.{infeasibility_same}
 use Rattle.ratio_certificate.specs.Form.{made_format}

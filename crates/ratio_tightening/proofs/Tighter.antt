@@ -26,10 +26,10 @@ use Rattle.ratio_checker.proofs.MoreBlocks.{link_is_there}
 use Rattle.best_blocks.specs.Best.{IsBestBlock}
 use Rattle.best_blocks.specs.Need.{HasNumbers, need_of}
 use Rattle.best_blocks.specs.Sharing.{HasShare}
-use Rattle.link_bounds.specs.Feasible.{AreFeasible, IsFeasible}
+use Rattle.te_model.specs.Feasible.{AreFeasible, IsFeasible}
 use Rattle.link_bounds.specs.Laws.{CanReprice}
 use Rattle.link_bounds.specs.Repriced.{greatest_need}
-use Rattle.link_bounds.proofs.FeasibleBlocks.{holds_where_pays}
+use Rattle.te_model.proofs.FeasibleBlocks.{holds_where_pays}
 use Rattle.ratio_checker.proofs.FormedHeads.{head_formed}
 use Rattle.link_bounds.proofs.RepricedHolds.{greatest_need_once, is_greatest_need, ratio_lowered, repriced_holds}
 use Rattle.link_bounds.proofs.RepricedValid.{block_numbers, repriced_valid}

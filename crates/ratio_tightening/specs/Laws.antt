@@ -3,7 +3,7 @@ use Rattle.std.specs.Prelude.{◌≡◌, ℕ, ◌≤◌, All}
 use Rattle.te_model.specs.declared.certificate.Certificate.{Certificate}
 use Rattle.te_model.specs.Inequalities.{Holds}
 use Rattle.te_model.specs.Validity.{IsValid, block_at}
-use Rattle.link_bounds.specs.Feasible.{AreFeasible}
+use Rattle.te_model.specs.Feasible.{AreFeasible}
 use Rattle.ratio_certificate.specs.Made.{IsMade, IsOwnBest}
 use Rattle.ratio_certificate.specs.Polished.{IsPolished, IsWorstBlock}
 use Rattle.ratio_certificate.specs.Weighting.{AreWeights}

@@ -4,7 +4,7 @@ ghost use Rattle.te_model.specs.Network.{is_well_formed, link_count};
 ghost use Rattle.te_model.specs.Validity.{IsValid};
 ghost use Rattle.best_blocks.specs.Conditions.{IsRoutingWithin, IsSetWithin};
 ghost use Rattle.best_blocks.specs.Need.{HasNumbers};
-ghost use Rattle.link_bounds.specs.Feasible.{AreFeasible};
+ghost use Rattle.te_model.specs.Feasible.{AreFeasible};
 ghost use Rattle.ratio_certificate.specs.Form.{made_set};
 ghost use Rattle.ratio_certificate.specs.Made.{IsMade};
 ghost use Rattle.ratio_tightening.specs.Tightened.{AreWithinGiven, IsTightened, IsTighter};

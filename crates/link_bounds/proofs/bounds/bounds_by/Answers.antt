@@ -1,6 +1,6 @@
 use Rattle.std.proofs.Common.{◌∙◌, sym}
-use Rattle.link_bounds.specs.Feasible.{first_infeasibility}
-use Rattle.link_bounds.proofs.FeasibleBlocks.{feasible_or_fails}
+use Rattle.te_model.specs.Feasible.{first_infeasibility}
+use Rattle.te_model.proofs.FeasibleBlocks.{feasible_or_fails}
 use Rattle.ratio_checker.proofs.Verdicts.{none_from_yes, failure_from_no}
 use Rattle.link_bounds.proofs.bounds.bounds_by.Goals as goal
 

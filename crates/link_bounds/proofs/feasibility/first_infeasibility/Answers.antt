@@ -8,7 +8,7 @@ use Rattle.ratio_checker.specs.Ascending.{AscendsFrom}
 use Rattle.ratio_checker.specs.Checked.{CanCheckBlock}
 use Rattle.ratio_checker.specs.Finding.{finding_of}
 use Rattle.ratio_checker.proofs.Validity.{valid_head, valid_blocks, blocks_in_order}
-use Rattle.link_bounds.specs.Feasible.{infeasibility}
+use Rattle.te_model.specs.Feasible.{infeasibility}
 use Rattle.link_bounds.proofs.FirstInfeasible.{infeasibility_found}
 use Rattle.link_bounds.proofs.feasibility.first_infeasibility.Goals as goal
 

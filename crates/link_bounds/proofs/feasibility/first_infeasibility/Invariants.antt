@@ -5,7 +5,7 @@ use Rattle.te_model.specs.Certificate.{block_of}
 use Rattle.te_model.specs.Inequalities.{of_link}
 use Rattle.ratio_checker.specs.Ascending.{AscendsFrom}
 use Rattle.ratio_checker.specs.Checked.{CanCheckBlock}
-use Rattle.link_bounds.specs.Feasible.{infeasibility}
+use Rattle.te_model.specs.Feasible.{infeasibility}
 use Rattle.link_bounds.proofs.feasibility.first_infeasibility.Given as goal
 
 abbrev pub invariant-loop-e : goal.invariant-loop-e

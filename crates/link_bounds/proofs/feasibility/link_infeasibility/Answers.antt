@@ -1,7 +1,7 @@
 use Rattle.std.proofs.Common.{◌≡◌, ◌∙◌, sym, ap, subst, Some, None}
 use Rattle.ratio_checker.specs.Shares.{AreShareNumbers}
 use Rattle.ratio_checker.proofs.Absent.{first_block}
-use Rattle.link_bounds.specs.Feasible.{infeasibility}
+use Rattle.te_model.specs.Feasible.{infeasibility}
 use Rattle.link_bounds.proofs.AbsentBlocks.{absent_infeasibility}
 use Rattle.link_bounds.proofs.feasibility.link_infeasibility.Goals as goal
 use Rattle.link_bounds.proofs.feasibility.link_infeasibility.Goals.{in_default-via-in-Some+else-block-link, in_default-via-in_default}

@@ -1,5 +1,5 @@
-use Rattle.link_bounds.proofs.LinkRatios.{feasible_bounds_link, ratios_of_links, greater_link_ratios}
-use Rattle.link_bounds.proofs.laws.feasible_blocks_bound_links.Goals as goal
+use Rattle.te_model.proofs.LinkRatios.{feasible_bounds_link, ratios_of_links, greater_link_ratios}
+use Rattle.te_model.proofs.laws.feasible_blocks_bound_links.Goals as goal
 
 pub returns-clause-bound : goal.returns-clause-bound
 returns-clause-bound c = feasible_bounds_link

@@ -10,7 +10,7 @@ use Rattle.te_model.specs.Counting.{or_else, first_below, unless}
 use Rattle.te_model.specs.Network.{node_count, link_count}
 use Rattle.te_model.specs.Certificate.{block_of, potential}
 use Rattle.te_model.specs.Inequalities.{starts_at_zero, rises_within_weight, covers_share, keeps_bounds, pays_weights, failure_at, row_failure, potentials_failure, shares_failure, block_failure, of_link, BlockHolds}
-use Rattle.link_bounds.specs.Feasible.{IsFeasible, AreFeasible, infeasibility, first_infeasibility, FeasibleWhereNoneFails, HoldsWhereRatioPays}
+use Rattle.te_model.specs.Feasible.{IsFeasible, AreFeasible, infeasibility, first_infeasibility, FeasibleWhereNoneFails, HoldsWhereRatioPays}
 use Rattle.te_model.proofs.Tests.{or_else_none, unless_none, first_below_none_at, first_failing_none_at}
 use Rattle.te_model.proofs.Searches.{first_below_none, or_else-none}
 

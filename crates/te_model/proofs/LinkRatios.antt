@@ -16,8 +16,8 @@ use Rattle.te_model.specs.Inequalities.{keeps_bounds, weighted_capacity, pays_we
 use Rattle.te_model.specs.Flow.{load}
 use Rattle.te_model.specs.Demand.{IsBetween, IsMember, lower_of, upper_of}
 use Rattle.te_model.specs.Laws.{LinksJoinNodes, PairsJoinNodes}
-use Rattle.link_bounds.specs.Feasible.{IsFeasible}
-use Rattle.link_bounds.specs.LinkRatio.{IsLinkRatio, RatiosAreOfLinks, GreaterLinkRatiosHold}
+use Rattle.te_model.specs.Feasible.{IsFeasible}
+use Rattle.te_model.specs.LinkRatio.{IsLinkRatio, RatiosAreOfLinks, GreaterLinkRatiosHold}
 use Rattle.te_model.specs.declared.limits.Limits.{Limits}
 use Rattle.te_model.specs.Formats.{limits_of}
 use Rattle.te_model.specs.Shape.{is_shaped, is_shaped_block, has_one_each}

@@ -9,7 +9,7 @@ use Rattle.te_model.specs.Counting.{first_some, first_below, unless}
 use Rattle.te_model.specs.Network.{node_count, link_count, tail_of, head_of}
 use Rattle.te_model.specs.Certificate.{block_of, potential, weight_of}
 use Rattle.te_model.specs.Inequalities.{covers_share, keeps_bounds, pays_weights, potentials_failure, shares_failure, failure_at, of_link, LinkFailure, Holds}
-use Rattle.link_bounds.specs.LinkRatio.{IsLinkRatio}
+use Rattle.te_model.specs.LinkRatio.{IsLinkRatio}
 use Rattle.te_model.specs.Validity.{IsValid}
 
 -- I1 to I3 are true of what the block says of its link

@@ -1,20 +1,15 @@
 -- The ratio of one link: how much more a routing may use it than any other routing of the same matrix uses its most used link. The
 -- oblivious ratio is the greatest over the links (Applegate and Cohen, 2003, whose linear program is solved once for each link).
-use Rattle.std.specs.Prelude.{ℕ, ◌*◌, ◌<◌, ◌≤◌, ◌↔◌, Bool, not, List, length, ◌==◌}
+use Rattle.std.specs.Prelude.{ℕ, ◌*◌, ◌<◌, ◌≤◌, ◌↔◌, List, length}
 use Rattle.te_model.specs.declared.network.Network.{Network}
 use Rattle.te_model.specs.declared.route.PairRoutes.{PairRoutes}
 use Rattle.te_model.specs.declared.demand.DemandSet.{DemandSet}
 use Rattle.te_model.specs.declared.units.TheConstants.{RATIO_UNIT, SHARE_UNIT}
-use Rattle.te_model.specs.Counting.{all_below}
 use Rattle.te_model.specs.Network.{link_count, capacity_of}
 use Rattle.te_model.specs.Path.{share}
 use Rattle.te_model.specs.Flow.{IsRouting, Within, load}
 use Rattle.te_model.specs.Demand.{IsMember}
 use Rattle.te_model.specs.Ratio.{IsObliviousRatio}
-
--- whether some pair sends over link e
-abbrev pub has_share : List PairRoutes → ℕ → Bool
-has_share routes e = not (all_below (length routes) (λ p. share routes p e == 0))
 
 -- link e is used at most u / v of its capacity, by flows of this amount for one unit of demand
 abbrev pub IsUsedWithin : Network → ℕ → (ℕ → ℕ) → (ℕ → ℕ → ℕ) → ℕ → ℕ → ℕ → ℕ → Type 0
