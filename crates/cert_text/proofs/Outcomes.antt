@@ -113,3 +113,10 @@ pub rules_answer : (bytes : List ℕ) (x : Certificate) (r : Result Certificate 
     → IsAnswerOfReading r (read_of bytes)
 rules_answer bytes x (Ok c) h m = subst (λ (y : Certificate). IsAnswerOfReading (Ok y) (read_of bytes)) (sym m.0) (h.0, h.1, m.1)
 rules_answer bytes x (Err e) h m = subst (λ (y : CertFault). IsAnswerOfReading (Err y) (read_of bytes)) (sym m.1) (x, h.0, h.1, m.2)
+
+-- ---- who does more with what was read
+
+-- a refusal of one is a refusal of the other
+pub same_refusal : (X Y : Type 0) (e due : CertFault) → IsDueOrMemory {X = X} (Err e) (Err due) → IsDueOrMemory {X = Y} (Err e) (Err due)
+same_refusal X Y e due (inl same) = let is : e ≡ due = cc in inl (ap (λ (f : CertFault). Err f) is)
+same_refusal X Y e due (inr short) = let is : e ≡ faults.Memory = cc in inr (ap (λ (f : CertFault). Err f) is)

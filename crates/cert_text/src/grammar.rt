@@ -44,6 +44,7 @@ fn line_end_after<C: Cursor, T: Drop>(r: &mut Reader<C>, value: T) -> Result<T, 
 #[tactic(auto, unfolding(crate::specs::Grammar::read_counted, crate::specs::LineEnds::read_line_end_after))]
 pub fn counted<C: Cursor>(r: &mut Reader<C>, word: &[u8], low: u64, high: u64) -> Result<u64, Stop>
     ensures fits { IfOk result (λ x. is_count low high x ≡ true) }
+    ensures room { result ≢ Err Stop.Memory }
     ensures takes { Takes r.old r.new (Reads result) (read_counted word.now low high) }
 {
     r.word(word)?;
@@ -321,6 +322,7 @@ pub fn set<C: Cursor>(
 /// `Stop::Shape` with the line that is not so.
 #[tactic(auto, unfolding(crate::specs::Grammar::read_ratio, crate::specs::LineEnds::read_line_end_after))]
 pub fn ratio<C: Cursor>(r: &mut Reader<C>) -> Result<u64, Stop>
+    ensures room { result ≢ Err Stop.Memory }
     ensures takes { Takes r.old r.new (Reads result) read_ratio }
 {
     r.word(b"ratio ")?;
@@ -478,6 +480,7 @@ impl<'a> Item for BlockLines<'a> {
 /// `Stop::Shape` with the line that is not so.
 #[tactic(auto, unfolding(crate::specs::Grammar::read_closing))]
 pub fn closing<C: Cursor>(r: &mut Reader<C>) -> Result<(), Stop>
+    ensures room { result ≢ Err Stop.Memory }
     ensures takes { Takes r.old r.new (Passes result) read_closing }
 {
     r.word(b"end")?;
@@ -489,6 +492,7 @@ pub fn closing<C: Cursor>(r: &mut Reader<C>) -> Result<(), Stop>
 #[tactic(auto, unfolding(crate::specs::Grammar::read_digit, crate::specs::LineEnds::read_line_end_after))]
 fn digit<C: Cursor>(r: &mut Reader<C>, format: u8) -> Result<u32, Stop>
     requires { format < 10 }
+    ensures room { result ≢ Err Stop.Memory }
     ensures takes { Takes r.old r.new (Reads result) (read_digit format) }
 {
     r.byte(b'0' + format)?;
@@ -502,6 +506,7 @@ fn digit<C: Cursor>(r: &mut Reader<C>, format: u8) -> Result<u32, Stop>
 /// `Stop::Shape` with the line that is not so.
 #[tactic(auto, unfolding(crate::specs::Grammar::read_format))]
 pub fn format<C: Cursor>(r: &mut Reader<C>) -> Result<u32, Stop>
+    ensures room { result ≢ Err Stop.Memory }
     ensures takes { Takes r.old r.new (Reads result) read_format }
 {
     r.word(b"yates-ratio ")?;

@@ -1,5 +1,5 @@
 //! Laws of the texts of certificates. A law of the definitions is the contract of a function that does nothing.
-ghost use Rattle.std.specs.Prelude.{◌≡◌, ℕ, ◌++◌, ◌⊎◌, List, [], IsTrue, IfOk, Ok};
+ghost use Rattle.std.specs.Prelude.{◌≡◌, ℕ, ◌++◌, ◌⊎◌, List, [], IsTrue, IfOk, MatchResult, Ok, Err};
 ghost use Rattle.te_model.specs.Formats.{limits_of};
 ghost use Rattle.te_model.specs.declared.certificate.Certificate.{Certificate};
 ghost use Rattle.te_model.specs.declared.certificate.RuleFault.{RuleFault};
@@ -54,14 +54,26 @@ pub fn print_and_read(alloc: Global, cert: &Certificate) -> Result<Certificate, 
 
 // Prints the certificate, with the error of a reader.
 fn print_of_read(alloc: Global, cert: &Certificate) -> Result<Vec<u8>, CertFault>
-    ensures { IfOk result (λ file. file.items ≡ text cert.now) }
+    ensures { MatchResult result (λ file. file.items ≡ text cert.now) (λ fault. fault ≡ CertFault.Memory) }
 {
     Ok(print(alloc, cert)?)
 }
 
 /// Reads the file and prints it again: what [`read`] takes, [`print`] writes byte for byte.
+///
+/// # Errors
+///
+/// `Shape` and `Rule` exactly where [`read`] answers them, at the same line and of the same rule; `Memory` where memory
+/// runs out.
 pub fn read_and_print(alloc: Global, bytes: &[u8]) -> Result<Vec<u8>, CertFault>
     ensures same { IfOk result (λ file. file.items ≡ bytes.now) }
+    ensures spelled { IfOk result (λ _. (c : Certificate) × Spells bytes.now c) }
+    ensures shape { (k : ℕ) → result ≡ Err (CertFault.Shape k) → IsShapeFault bytes.now k }
+    ensures misshaped { (k : ℕ) → IsShapeFault bytes.now k →
+        IsDueOrMemory result (Err (CertFault.Shape k)) }
+    ensures rule { (f : RuleFault) → result ≡ Err (CertFault.Rule f) → IsRuleFault bytes.now f }
+    ensures invalid { (f : RuleFault) → IsRuleFault bytes.now f →
+        IsDueOrMemory result (Err (CertFault.Rule f)) }
 {
     match read(alloc, bytes) {
         Ok(cert) => print_of_read(alloc, &cert),

@@ -51,12 +51,13 @@ impl<'a> Rows<'a> {
     }
 
     /// Reads the next record, and says whether there was one. After the last one, and after want of memory, no record is
-    /// left.
+    /// left; after want of memory the one that was read last has no fields.
     pub fn advance(&mut self) -> Result<bool, Memory>
         ensures found { IfOk result (λ found. found ≡ true → self.old.rest ≡ self.new.current ∷ self.new.rest) }
         ensures ended { IfOk result (λ found. found ≡ false → self.old.rest ≡ []) }
         ensures stays_ended { IfOk result (λ found. found ≡ false → self.new.rest ≡ []) }
         ensures failed { IfErr result (λ _. self.new.rest ≡ []) }
+        ensures cleared { IfErr result (λ _. self.new.current ≡ []) }
     {
         if self.ended {
             return Ok(false);
@@ -69,6 +70,7 @@ impl<'a> Rows<'a> {
             }
             Err(e) => {
                 self.ended = true;
+                self.fields.clear();
                 Err(memory_of(e))
             }
         }

@@ -87,7 +87,7 @@ pub after_end : (bytes : List ℕ) → begins_with_end bytes ≡ true → bytes 
 after_end bytes is =
     sym (take-append-drop 4 bytes) ∙ ap (λ (y : List ℕ). y ++ drop 4 bytes) ((bytes_eq-Decides (take 4 bytes) (codes "end\n")).0 is)
 
-end_stands : (bytes left : List ℕ) → bytes ≡ codes "end" ++ 10 ∷ left → begins_with_end bytes ≡ true
+pub end_stands : (bytes left : List ℕ) → bytes ≡ codes "end" ++ 10 ∷ left → begins_with_end bytes ≡ true
 end_stands bytes left e = ap begins_with_end e
 
 -- a line that is none

@@ -7,6 +7,7 @@ pub mod Whole
 pub mod Printing
 pub mod FirstUndue
 pub mod PassingLines
+pub mod TakingNext
 pub mod EachFile
 pub mod TakingDue
 pub mod FirstRules

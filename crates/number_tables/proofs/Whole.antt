@@ -23,7 +23,7 @@ use Rattle.number_tables.proofs.Texts.{line_is_one, not_the_end, one_line_text}
 
 -- ---- the first line
 
-first_line_on : (first : List ℕ) (p : Place) (k : ℕ) → (read_word first p >>= read_line_end) ≡ Err k → k ≡ p.line
+pub first_line_on : (first : List ℕ) (p : Place) (k : ℕ) → (read_word first p >>= read_line_end) ≡ Err k → k ≡ p.line
 first_line_on first p k e = from (read_word first p) (word_on first p p.line refl) e
   where
     end_of : (q : Place) → (r : Result Place ℕ) → PassesOn p.line r → (r >>= λ q. Ok (place (q.line + 1) q.rest)) ≡ Err k → k ≡ p.line
@@ -162,3 +162,8 @@ err_answers A first bytes (stops.Shape j) one reads =
       shape = λ k e. let same : j ≡ k = cc in subst (λ (n : ℕ). LeavesAt AreLines (table_text first) bytes n) same at;
       misshaped = λ k leaves. inl (ap (λ (n : ℕ). Err (faults.Shape n)) (one_leaving AreLines (table_text first) bytes j k at leaves));
     }
+
+-- who does more with the lines that were read refuses as who reads does
+pub same_refusal : (X Y : Type 0) (e due : TableFault) → IsFaultOrMemory {X = X} (Err e) due → IsFaultOrMemory {X = Y} (Err e) due
+same_refusal X Y e due (inl same) = let is : e ≡ due = cc in inl (ap (λ (f : TableFault). Err f) is)
+same_refusal X Y e due (inr short) = let is : e ≡ faults.Memory = cc in inr (ap (λ (f : TableFault). Err f) is)

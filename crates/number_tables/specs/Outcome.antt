@@ -18,5 +18,5 @@ GivesLinesOrMemory (Ok v) ls = v.items ≡ ls
 GivesLinesOrMemory (Err fault) ls = fault ≡ faults.Memory
 
 -- the answer is this fault, or memory ran out
-abbrev pub IsFaultOrMemory : {A : Type 0} → Result (Vec NumLine A) TableFault → TableFault → Type 0
+abbrev pub IsFaultOrMemory : {X : Type 0} → Result X TableFault → TableFault → Type 0
 IsFaultOrMemory result fault = (result ≡ Err fault) ⊎ (result ≡ Err faults.Memory)

@@ -2,7 +2,7 @@
 ghost use Rattle.std.specs.Prelude.{◌≡◌, ℕ, ◌⊎◌, List, Ok, Err, IfOk};
 ghost use Rattle.te_model.specs.Faults.{line_ends, LeavesAt};
 ghost use Rattle.number_tables.specs.Leaving.{place_of, body_lines};
-ghost use Rattle.number_tables.specs.Passing.{PassesLines, StandsBefore, GivesNext, next_number};
+ghost use Rattle.number_tables.specs.Passing.{PassesFirst, PassesLines, StandsBefore, GivesNext, TakesNext, next_number};
 ghost use Rattle.number_tables.specs.Table.{AreLines, table_lines, table_text};
 
 use crate::fault::TableFault;
@@ -65,9 +65,10 @@ impl<'a> TableLines<'a> {
     ///
     /// # Errors
     ///
-    /// `Shape(1)` where the bytes have another first line; they may be no table all the same.
+    /// `Shape(1)` exactly where the bytes have another first line; they may be no table all the same.
     pub fn new(first: &[u8], bytes: &'a [u8]) -> Result<TableLines<'a>, TableFault>
-        ensures { (ls : List NumLine) → bytes.now ≡ table_text first.now ls →
+        ensures first { PassesFirst result first.now bytes.now }
+        ensures table { (ls : List NumLine) → bytes.now ≡ table_text first.now ls →
             (lines : TableLines) × (result ≡ Ok lines) × StandsBefore lines ls × (next_number lines ≡ 2) }
     {
         let mut reader = Reader::new(Bytes::new(bytes));
@@ -83,13 +84,15 @@ impl<'a> TableLines<'a> {
         self.reader.line()
     }
 
-    /// The next line, or `None` at the end.
+    /// The next line, or `None` where the line `end` stands next.
     ///
     /// # Errors
     ///
-    /// Of a table only `Memory`, where memory runs out.
+    /// `Shape(line)` of the next line exactly where neither a line of a table nor `end` stands next, so never of a table;
+    /// `Memory` where memory runs out.
     pub fn next_line(&mut self, alloc: Global) -> Result<Option<NumLine>, TableFault>
-        ensures { (ls : List NumLine) → AreLines ls → StandsBefore self.old ls → GivesNext result self.old self.new ls }
+        ensures next { TakesNext result self.old self.new }
+        ensures table { (ls : List NumLine) → AreLines ls → StandsBefore self.old ls → GivesNext result self.old self.new ls }
     {
         if is_end_next(self.reader.source().left()) {
             return Ok(None);
