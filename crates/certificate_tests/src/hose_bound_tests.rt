@@ -8,11 +8,14 @@ ghost use Rattle.hose_bound.specs.Rules.{IsValidHose, IsValidHoseCert};
 use crate::cases::{Case, all_hold};
 use crate::ratio_certificate_tests::straight_routing;
 use hose_bound::spelling::{print_and_read, read_and_print};
-use hose_bound::{Hose, HoseCert, HoseFault, HoseVerdict, judge, make, print, read, read_bounds};
+use hose_bound::{
+    Hose, HoseBlock, HoseCert, HoseFault, HoseVerdict, hose_cert_fault, hose_fault, judge, make,
+    print, read, read_bounds,
+};
 use routing::Routing;
 use sample_networks::three_nodes;
 use std::alloc::Global;
-use te_model::{Memory, Network, RuleFault};
+use te_model::{Items, Memory, Network, RuleFault};
 
 // A hose certificate's file behind its first line, and the verdict on it, or why it is refused.
 struct Judged<'a>(&'a str, Result<HoseVerdict, HoseFault>);
@@ -172,6 +175,82 @@ impl Case for Bounded<'_> {
     fn holds(&self, alloc: Global) -> bool {
         matches!(is_bounded(alloc, self), Ok(true))
     }
+}
+
+// What the nodes send and receive, the bound, the links of the blocks and each of their numbers, and the first rule that fails, with its place.
+struct Ruled<'a>(&'a [u64], &'a [u64], u64, &'a [u32], u64, Option<(u8, u64)>);
+
+const RULED: &[Ruled] = &[
+    Ruled(&[5, 9, 0], &[0, 0, 10], 900_000, &[0, 3], 1_000_000, None),
+    Ruled(&[1 << 32, 0, 0], &[0, 0, 1 << 32], 0, &[], 0, None),
+    Ruled(&[5, (1 << 32) + 1, 0], &[0, 0, 10], 0, &[], 0, Some((1, 1))),
+    Ruled(&[5, 9, 0], &[0, 0, (1 << 32) + 1], 0, &[], 0, Some((1, 5))),
+    Ruled(
+        &[5, 9, 0],
+        &[0, 0, 10],
+        10_000_000_000_000_000_000,
+        &[],
+        0,
+        Some((2, 0)),
+    ),
+    Ruled(&[5, 9, 0], &[0, 0, 10], 0, &[0, 4], 0, Some((3, 1))),
+    Ruled(&[5, 9, 0], &[0, 0, 10], 0, &[1, 1], 0, Some((3, 1))),
+    Ruled(&[5, 9, 0], &[0, 0, 10], 0, &[3], 1_000_001, Some((4, 0))),
+    // Two rules, of which the first one is named.
+    Ruled(&[5, 9, 0], &[0, 0, 10], 0, &[3, 0], 1_000_001, Some((3, 1))),
+];
+
+// Blocks of these links, all of whose numbers are one.
+fn blocks_of(alloc: Global, links: &[u32], number: u64) -> Result<Vec<HoseBlock>, Memory> {
+    let mut blocks = Vec::new(alloc);
+    for link in links {
+        let tails = Items::new(vec![in alloc; number; 3]?);
+        let heads = Items::new(vec![in alloc; number; 3]?);
+        let link = *link;
+        blocks.push(HoseBlock { link, tails, heads })?;
+    }
+    Ok(blocks)
+}
+
+// The hose certificate of the row.
+fn ruled_cert(alloc: Global, ruled: &Ruled) -> Result<HoseCert, Memory> {
+    let hose = Hose {
+        sent: Items::new(Vec::from_slice(alloc, ruled.0)?),
+        received: Items::new(Vec::from_slice(alloc, ruled.1)?),
+    };
+    let blocks = Items::new(blocks_of(alloc, ruled.3, ruled.4)?);
+    Ok(HoseCert {
+        hose,
+        bound: ruled.2,
+        blocks,
+    })
+}
+
+// Whether the rule of the row is the first that fails, and of the hose by itself where it is the rule of hoses.
+fn is_first_fault(net: &Network, cert: &HoseCert, ruled: &Ruled) -> bool
+    requires { net.now ≡ three_nodes }
+{
+    let due = ruled.5.map(|(number, place)| RuleFault { number, place });
+    let due_of_hose = due.filter(|fault| fault.number == 1);
+    hose_cert_fault(net, cert) == due && hose_fault(3, &cert.hose) == due_of_hose
+}
+
+// Whether the row holds.
+fn is_ruled(alloc: Global, ruled: &Ruled) -> Result<bool, Memory> {
+    let net = three_nodes(alloc)?;
+    let cert = ruled_cert(alloc, ruled)?;
+    Ok(is_first_fault(&net, &cert, ruled))
+}
+
+impl Case for Ruled<'_> {
+    fn holds(&self, alloc: Global) -> bool {
+        matches!(is_ruled(alloc, self), Ok(true))
+    }
+}
+
+#[test]
+fn first_rule_of_a_hose_is_named(rt: HostRuntime) {
+    all_hold(&rt, rt.alloc(), RULED);
 }
 
 #[test]

@@ -1,8 +1,13 @@
 //! Small files of words and numbers: what is taken as a table, and at which line other bytes leave the tables.
+ghost use Rattle.number_tables.specs.Table.{AreLines};
+
 use crate::cases::{Case, all_hold};
-use number_tables::spelling::read_and_print;
-use number_tables::{DueLines, TableFault, TableLines, pass_over_table, table};
+use number_tables::spelling::{print_and_read, read_and_print};
+use number_tables::{
+    DueLines, NumLine, TableFault, TableLines, pass_over_table, print_table, table,
+};
 use std::alloc::Global;
+use te_model::Memory;
 
 // The first line of these tables.
 const FIRST: &[u8] = b"yates-x 1";
@@ -144,6 +149,96 @@ fn is_printed_again(alloc: Global, bytes: &[u8]) -> bool {
     }
 }
 
+// The fault of a table that was to be printed again.
+fn fault_of_printing(alloc: Global, bytes: &[u8]) -> Option<TableFault> {
+    match read_and_print(alloc, FIRST, bytes) {
+        Ok(_) => None,
+        Err(fault) => Some(fault),
+    }
+}
+
+// Whether these are the lines of the table.
+fn are_lines_of(alloc: Global, lines: &[NumLine], bytes: &[u8]) -> bool {
+    match print_table(alloc, FIRST, lines) {
+        Ok(file) => file.as_slice() == bytes,
+        Err(_) => false,
+    }
+}
+
+// Whether the lines are read again from what is printed of them.
+fn are_read_again(alloc: Global, lines: &[NumLine], bytes: &[u8]) -> bool
+    requires { AreLines lines.now }
+{
+    match print_and_read(alloc, FIRST, lines) {
+        Ok(again) => are_lines_of(alloc, &again, bytes),
+        Err(_) => false,
+    }
+}
+
+// Whether the lines of the table are read again from what is printed of them.
+fn is_read_again(alloc: Global, bytes: &[u8]) -> bool {
+    match table(alloc, FIRST, bytes) {
+        Ok(lines) => are_read_again(alloc, &lines, bytes),
+        Err(_) => false,
+    }
+}
+
+// Whether a table is printed and read as it was read, and another file is refused for the same reason.
+fn is_spelled(alloc: Global, bytes: &[u8], fault: Option<u64>) -> bool {
+    match fault {
+        Some(line) => fault_of_printing(alloc, bytes) == Some(TableFault::Shape(line)),
+        None => is_printed_again(alloc, bytes) && is_read_again(alloc, bytes),
+    }
+}
+
+// The bytes after the first line, how many lines of a table stand before those that are none, and where these begin, if the end is not there.
+struct LinesOf<'a>(&'a str, usize, Option<u64>);
+
+const LINES: &[LinesOf] = &[
+    LinesOf("end\n", 0, None),
+    LinesOf("1\n2 3\nend\n", 2, None),
+    // What stands behind the end is not looked at.
+    LinesOf("1\nend\nend\n", 1, None),
+    LinesOf("1\nend 2\n", 1, Some(3)),
+    LinesOf("1\n2 \n03\nend\n4", 1, Some(3)),
+    LinesOf("1\n2", 1, Some(3)),
+    LinesOf("", 0, Some(2)),
+];
+
+// How many lines are handed out one after the other, and the fault after them, if there is one.
+fn lines_and_fault(
+    alloc: Global,
+    lines: &mut TableLines,
+    most: usize,
+) -> (usize, Option<TableFault>) {
+    for count in 0..most {
+        match lines.next_line(alloc) {
+            Ok(Some(_)) => {}
+            Ok(None) => return (count, None),
+            Err(fault) => return (count, Some(fault)),
+        }
+    }
+    (most, None)
+}
+
+// The same, of a file with its first line; and the fault of another first line.
+fn lines_of(alloc: Global, bytes: &[u8]) -> (usize, Option<TableFault>) {
+    match TableLines::new(FIRST, bytes) {
+        Ok(mut lines) => lines_and_fault(alloc, &mut lines, bytes.len()),
+        Err(fault) => (0, Some(fault)),
+    }
+}
+
+impl<'a> Case for LinesOf<'a> {
+    fn holds(&self, alloc: Global) -> bool {
+        let Ok(file) = format!(in alloc; "yates-x 1\n{}", self.0) else {
+            return false;
+        };
+        let (count, fault) = lines_of(alloc, file.as_bytes());
+        count == self.1 && fault == self.2.map(|line| TableFault::Shape(line))
+    }
+}
+
 impl<'a> Case for Body<'a> {
     fn holds(&self, alloc: Global) -> bool {
         let Ok(file) = format!(in alloc; "yates-x 1\n{}", self.0) else {
@@ -153,7 +248,8 @@ impl<'a> Case for Body<'a> {
         let due = Some(self.1.unwrap_or(0));
         let is_taken = faulty_line(alloc, bytes) == due && line_that_stops(alloc, bytes) == due;
         is_taken
-            && (self.1.is_some() || is_printed_again(alloc, bytes) && has_its_lines(alloc, bytes))
+            && is_spelled(alloc, bytes, self.1)
+            && (self.1.is_some() || has_its_lines(alloc, bytes))
     }
 }
 
@@ -172,8 +268,14 @@ impl<'a> Case for DueBody<'a> {
 
 impl<'a> Case for File<'a> {
     fn holds(&self, alloc: Global) -> bool {
+        let bytes = self.0.as_bytes();
         let line = if self.1 { 0 } else { 1 };
-        faulty_line(alloc, self.0.as_bytes()) == Some(line)
+        let fault = if self.1 {
+            None
+        } else {
+            Some(TableFault::Shape(1))
+        };
+        faulty_line(alloc, bytes) == Some(line) && lines_of(alloc, bytes) == (0, fault)
     }
 }
 
@@ -185,6 +287,25 @@ fn files_have_their_first_line(rt: HostRuntime) {
 #[test]
 fn bodies_are_taken_or_left_at_their_line(rt: HostRuntime) {
     all_hold(&rt, rt.alloc(), BODIES);
+}
+
+#[test]
+fn lines_are_handed_out_up_to_one_that_is_none(rt: HostRuntime) {
+    all_hold(&rt, rt.alloc(), LINES);
+}
+
+// Lines that are made, and the text of their table.
+fn are_made_lines_printed(alloc: Global) -> Result<bool, Memory> {
+    let mut lines = Vec::new(alloc);
+    lines.push(NumLine::new(alloc, "scale", vec![in alloc; 1, 2]?)?)?;
+    lines.push(NumLine::new(alloc, "", vec![in alloc; 0, 7, 0]?)?)?;
+    let file = print_table(alloc, FIRST, &lines)?;
+    Ok(file.as_slice() == b"yates-x 1\nscale 1 2\n0 7 0\nend\n".as_slice())
+}
+
+#[test]
+fn lines_that_are_made_are_printed(rt: HostRuntime) {
+    assert!(rt; matches!(are_made_lines_printed(rt.alloc()), Ok(true)));
 }
 
 #[test]

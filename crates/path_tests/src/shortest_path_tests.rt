@@ -1,12 +1,12 @@
 //! Least distances, and the paths that have them, by lengths of 1, 1, 1, 3 and 3.
-ghost use Rattle.std.specs.Prelude.{◌≡◌, ◌≢◌, ◌<◌};
+ghost use Rattle.std.specs.Prelude.{◌≡◌, ◌≢◌, ◌<◌, length};
 ghost use Rattle.te_model.specs.Network.{node_count};
 ghost use Rattle.sample_networks.specs.Networks.{four_nodes};
 
 use sample_networks::four_nodes;
 use shortest_path::*;
 use std::alloc::Global;
-use te_model::Network;
+use te_model::{Memory, Network};
 
 /// Whether these are the least distances of the nodes from this one.
 fn are_distances(alloc: Global, net: &Network, src: u32, expected: &[Option<u64>]) -> bool
@@ -58,6 +58,66 @@ fn leads_nowhere(alloc: Global, net: &Network) -> bool
     }
 }
 
+/// The walk between two nodes along the first links toward the second, where these links are open.
+fn walk_over(
+    alloc: Global,
+    net: &Network,
+    marks: &[bool],
+    src: u32,
+    dst: u32,
+) -> Result<Option<Vec<u32>>, Memory>
+    requires net { net.now ≡ four_nodes }
+    requires marks { length marks.now ≡ 5 }
+    requires src { src < 4 }
+    requires dst { dst < 4 }
+{
+    let lengths = [1, 1, 1, 3, 3];
+    let sums = toward(alloc, net, &lengths, marks, dst)?;
+    let firsts = first_links(alloc, net, &lengths, marks, &sums)?;
+    walk_along(alloc, net, &sums, &firsts, src, dst)
+}
+
+/// Whether there is no walk between the nodes over the open links.
+fn has_no_walk(alloc: Global, net: &Network, marks: &[bool], src: u32, dst: u32) -> bool
+    requires net { net.now ≡ four_nodes }
+    requires marks { length marks.now ≡ 5 }
+    requires src { src < 4 }
+    requires dst { dst < 4 }
+{
+    match walk_over(alloc, net, marks, src, dst) {
+        Ok(walk) => walk.is_none(),
+        Err(_) => false,
+    }
+}
+
+/// Whether the walk from s to t leads over these links.
+fn has_walk(alloc: Global, net: &Network, marks: &[bool], links: &[u32]) -> bool
+    requires net { net.now ≡ four_nodes }
+    requires marks { length marks.now ≡ 5 }
+{
+    match walk_over(alloc, net, marks, 0, 1) {
+        Ok(Some(walk)) => walk.as_slice() == links,
+        _ => false,
+    }
+}
+
+/// Whether walks from s to t lead over x and y where links are closed, and none is left where both links to t are.
+fn are_walks_of_open_links(alloc: Global, net: &Network) -> bool
+    requires { net.now ≡ four_nodes }
+{
+    let over_x = has_walk(alloc, net, &[false, true, true, true, true], &[1, 2]);
+    let over_y = has_walk(alloc, net, &[false, false, true, true, true], &[3, 4, 2]);
+    let is_cut = has_no_walk(alloc, net, &[false, true, false, true, true], 0, 1);
+    over_x & over_y & is_cut & has_no_walk(alloc, net, &[true; 5], 1, 0)
+}
+
+fn walks_lead_over_open_links(alloc: Global) -> bool {
+    match four_nodes(alloc) {
+        Ok(net) => are_walks_of_open_links(alloc, &net),
+        Err(_) => false,
+    }
+}
+
 fn sums_are_least(alloc: Global) -> bool {
     match four_nodes(alloc) {
         Ok(net) => are_sums_least(alloc, &net),
@@ -84,4 +144,5 @@ fn sums_and_paths_are_least(rt: HostRuntime) {
     assert!(rt; sums_are_least(rt.alloc()));
     assert!(rt; potentials_out_of_reach_are_greatest(rt.alloc()));
     assert!(rt; paths_are_least(rt.alloc()));
+    assert!(rt; walks_lead_over_open_links(rt.alloc()));
 }
