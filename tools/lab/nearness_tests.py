@@ -17,7 +17,7 @@ MARGINS = (("fat-tree", "racke"),)
 OF_RATIOS = 1.02
 # The greatest quotient of a published ratio over the bound of the witness that `challenge` writes of it.
 OF_BRACKETS = 1.05
-OF_STEPS = {("mcf", "parts / optimum"): 1.003, ("mcf", "optimum / low"): 1.02, ("smore", "parts / optimum on paths"): 1.01}
+OF_STEPS = {("mcf", "parts / optimum"): 1.001, ("mcf", "optimum / low"): 1.005, ("smore", "parts / optimum on paths"): 1.002}
 
 
 def nearness():

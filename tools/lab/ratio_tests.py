@@ -83,6 +83,6 @@ def rates(demand, least, most, low):
 
 CASES = [
     *((f"{network}, {name}", lambda network=network, name=name: ratios(network, name)) for network in NETWORKS for name in SETS),
-    ("two parallel links are filled evenly", lambda: rates(40, 1000000, 1000200, 1000000)),
+    ("two parallel links are filled evenly", lambda: rates(40, 1000000, 1000300, 1000000)),
     ("no demand", lambda: rates(0, 0, 0, 0)),
 ]

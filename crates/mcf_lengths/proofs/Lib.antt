@@ -6,3 +6,4 @@ mod Balancing
 mod Sweeping
 mod RoundsMade
 pub mod Existence
+mod WayLoads

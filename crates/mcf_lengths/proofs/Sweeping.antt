@@ -14,8 +14,8 @@ use Rattle.routing.proofs.InOrder.{routes_count}
 use Rattle.scheme.specs.Reach.{pair_at}
 use Rattle.centred_steps.proofs.Weights.{weights_positive, weights_small}
 use Rattle.rate_sweeps.specs.declared.mix.Sweep.{Sweep}
-use Rattle.rate_sweeps.specs.declared.rates.Rates.{Rates}
-use Rattle.rate_sweeps.specs.Sweeps.{paths_in, AreOnLinks, ArePathsOfPairs, AreRates, IsWeight}
+use Rattle.rate_sweeps.specs.declared.dual_state.DualState.{DualState}
+use Rattle.rate_sweeps.specs.Sweeps.{paths_in, AreOnLinks, ArePathsOfPairs, IsDualState, IsWeight}
 use Rattle.mcf_lengths.specs.Rounds.{AreLeastPaths, AreLengths}
 use Rattle.mcf_lengths.specs.Sweeps.{AreLeastSweeps, IsLeastSweep}
 
@@ -57,9 +57,9 @@ pub taken_keeps : (P : List PairRoutes → Type 0) (first second taken : List Pa
 taken_keeps P first second taken either of_first of_second = elim either [ inl is ↦ subst P (sym is) of_first | inr is ↦ subst P (sym is) of_second ]
 
 -- the lengths that sweeps have kept
-pub offered_lengths : (net : Network) (rates : Rates) → AreRates net rates → AreLengths net rates.lengths.items
-offered_lengths net rates are = record {
+pub offered_lengths : (net : Network) (state : DualState) → IsDualState net state → AreLengths net state.lengths.items
+offered_lengths net state are = record {
   count = are.lengths_count;
-  some = weights_positive rates.lengths.items are.lengths;
-  limit = weights_small rates.lengths.items are.lengths;
+  some = weights_positive state.lengths.items are.lengths;
+  limit = weights_small state.lengths.items are.lengths;
 }

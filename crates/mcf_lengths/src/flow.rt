@@ -62,9 +62,9 @@ fn starting_routing(
     ensures count { IfOk result (λ r. All (λ l. length l ≡ link_count net.now) r.1.items) }
     ensures limit { IfOk result (λ r. All (λ l. All (λ x. x ≤ 2 ^ 28) l) r.1.items) }
 {
-    let (rounds, offered) = rounds_routing(alloc, net, &plan.pairs, matrix)?;
+    let (rounds, _) = rounds_routing(alloc, net, &plan.pairs, matrix)?;
     let (start, swept) = sweep(alloc, net, &plan.pairs, matrix, rounds)?;
-    let mut lengths = offered;
+    let mut lengths = Vec::with_capacity(alloc, 1)?;
     lengths.push(swept)?;
     Ok((start, lengths))
 }

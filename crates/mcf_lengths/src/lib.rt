@@ -13,6 +13,7 @@ mod round;
 mod rounds;
 mod split;
 mod sweeps;
+mod trees;
 
 pub use flow::{Mcf, McfPlan};
 pub use law::{balanced_routings_exist, flow_plans_exist, rounds_are_28};

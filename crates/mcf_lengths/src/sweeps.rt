@@ -4,19 +4,23 @@ ghost use Rattle.te_model.specs.declared.route.PairRoutes.{PairRoutes};
 ghost use Rattle.te_model.specs.Network.{is_well_formed, link_count};
 ghost use Rattle.routing.specs.Routes.{AreDemands, HasFewPaths, IsRoutingOf};
 ghost use Rattle.routing.specs.Utilisation.{parts};
+ghost use Rattle.shortest_path.specs.declared.rows.Direction.TheVariants.{Forward};
+ghost use Rattle.shortest_path.specs.Rows.{IsSearchGraph};
 ghost use Rattle.scheme.specs.Reach.{AllReached, ArePairsOf};
 ghost use Rattle.centred_steps.specs.Weights.{AreWeightsUpTo};
 ghost use Rattle.rate_sweeps.specs.Descents.{BothKeep, IsDescent};
-ghost use Rattle.rate_sweeps.specs.Sweeps.{ArePathsOfPairs, AreRates, links_in};
+ghost use Rattle.rate_sweeps.specs.Sweeps.{ArePathsOfPairs, IsDualState, links_in};
 ghost use Rattle.mcf_lengths.specs.Rounds.{AreLengths};
 ghost use Rattle.mcf_lengths.specs.Sweeps.{AreCommodities, AreLeastSweeps, IsFewRouting, IsNoWorse};
 
 use crate::paths::{destinations, least_paths, least_paths_with};
+use crate::trees::load_least_ways;
 use path_budget::trim;
 use rate_sweeps::{
-    COUNTED, Descent, MAX_PARTS, Rates, STAGES, Sweep, TURNS, UNCOUNTED, add_counted,
-    first_descent, first_rates, is_over, lesser, next_lengths, offer, routing_by, take_sweep,
-    take_turn,
+    BOUND_STAGES, COUNTED, Descent, DualState, FIRST_BOUND_DIVISOR, FIRST_KEPT_DIVISOR,
+    FIRST_STAGE_DIVISOR, MAX_DIVISOR, SECOND_KEPT_DIVISOR, STAGES, SWEEPS, Sweep, TURNS, UNCOUNTED,
+    add_counted, end_sweep, first_descent, first_dual_state, is_over, lesser, next_lengths, offer,
+    routing_by, take_sweep, take_turn,
 };
 use routing::Routing;
 use shortest_path::{Direction, Searches};
@@ -40,17 +44,22 @@ struct Commodities<'a> {
 
 impl<'a> Commodities<'a> {
     /// The sweeps of a stage that count. In each the pairs take their least paths.
-    fn stage(&self, alloc: Global, rates: &mut Rates, parts: u64) -> Result<Vec<Sweep>, Memory>
+    fn stage(
+        &self,
+        alloc: Global,
+        state: &mut DualState,
+        step_divisor: u64,
+    ) -> Result<Vec<Sweep>, Memory>
         requires commodities { AreCommodities self.now }
-        requires rates { AreRates self.now.net.now rates.old }
-        requires parts { (1 ≤ parts) × (parts ≤ 128) }
+        requires state { IsDualState self.now.net.now state.old }
+        requires step_divisor { (1 ≤ step_divisor) × (step_divisor ≤ 128) }
         ensures sweeps { IfOk result (λ s. AreLeastSweeps 30 self.now.net.now self.now.pairs.now.list s.items) }
-        ensures rates { AreRates self.now.net.now rates.new }
+        ensures state { IsDualState self.now.net.now state.new }
     {
         let mut searches = Searches::with_orders(alloc, self.net, Direction::Backward)?;
         let mut sweeps = Vec::with_capacity(alloc, COUNTED)?;
         for i in 0..UNCOUNTED + COUNTED {
-            let lengths = &rates.weights;
+            let lengths = &state.weights;
             let paths = least_paths_with(
                 alloc,
                 self.net,
@@ -59,29 +68,102 @@ impl<'a> Commodities<'a> {
                 &mut searches,
                 lengths,
             )?;
-            let weight = take_sweep(alloc, self.net, self.matrix, &paths, rates, parts)?;
+            let weight = take_sweep(alloc, self.net, self.matrix, &paths, state, step_divisor)?;
             add_counted(&mut sweeps, i, weight, paths)?;
         }
         Ok(sweeps)
     }
 
-    /// The routing of the least greatest utilisation among the given one and those of the stages of sweeps.
-    fn best_mix(&self, alloc: Global, start: Routing, rates: &mut Rates) -> Result<Routing, Memory>
+    /// Sweeps of a stage of which only the loads are made: each pair goes over a least way.
+    fn sweep_loads(
+        &self,
+        alloc: Global,
+        searches: &mut Searches,
+        state: &mut DualState,
+        step_divisor: u64,
+    ) -> Result<(), Memory>
         requires commodities { AreCommodities self.now }
-        requires start { IsFewRouting self.now start.routes }
-        requires rates { AreRates self.now.net.now rates.old }
-        ensures routing { IfOk result (λ r. IsNoWorse self.now start.routes r.routes) }
-        ensures rates { AreRates self.now.net.now rates.new }
+        requires along { IsSearchGraph self.now.net.now Forward searches.old }
+        requires state { IsDualState self.now.net.now state.old }
+        requires step_divisor { (1 ≤ step_divisor) × (step_divisor ≤ 128) }
+        ensures state { IsDualState self.now.net.now state.new }
+        ensures same { searches.new ≡ searches.old }
     {
-        let mut best = start;
-        let mut parts = 1;
-        for _ in 0..STAGES {
-            let sweeps = self.stage(alloc, rates, parts)?;
-            let mixed = routing_by(alloc, self.net, &sweeps, &best)?;
-            let other = trim(alloc, &mixed, self.limit)?;
-            best = lesser(alloc, self.net, self.matrix, best, other)?;
-            parts = (2 * parts).min(MAX_PARTS);
+        for _ in 0..SWEEPS {
+            load_least_ways(
+                alloc,
+                self.net,
+                self.pairs,
+                self.matrix,
+                searches,
+                &state.weights,
+                &mut state.loads,
+            )?;
+            end_sweep(alloc, self.net, state, step_divisor)?;
         }
+        Ok(())
+    }
+
+    /// So many stages of such sweeps, in the first of which steps are divided by `first_divisor`.
+    fn sweep_stages(
+        &self,
+        alloc: Global,
+        state: &mut DualState,
+        stages: usize,
+        first_divisor: u64,
+    ) -> Result<(), Memory>
+        requires commodities { AreCommodities self.now }
+        requires state { IsDualState self.now.net.now state.old }
+        requires first_divisor { (1 ≤ first_divisor) × (first_divisor ≤ 128) }
+        ensures { IsDualState self.now.net.now state.new }
+    {
+        let mut searches = Searches::with_orders(alloc, self.net, Direction::Forward)?;
+        let mut step_divisor = first_divisor;
+        for _ in 0..stages {
+            self.sweep_loads(alloc, &mut searches, state, step_divisor)?;
+            step_divisor = (2 * step_divisor).min(MAX_DIVISOR);
+        }
+        Ok(())
+    }
+
+    /// The routing of a stage of sweeps, of the pairs of the given one.
+    fn mix_of_stage(
+        &self,
+        alloc: Global,
+        like: &Routing,
+        state: &mut DualState,
+        step_divisor: u64,
+    ) -> Result<Routing, Memory>
+        requires commodities { AreCommodities self.now }
+        requires like { IsFewRouting self.now like.now.routes }
+        requires state { IsDualState self.now.net.now state.old }
+        requires step_divisor { (1 ≤ step_divisor) × (step_divisor ≤ 128) }
+        ensures routing { IfOk result (λ r. IsFewRouting self.now r.routes) }
+        ensures state { IsDualState self.now.net.now state.new }
+    {
+        let sweeps = self.stage(alloc, state, step_divisor)?;
+        let mixed = routing_by(alloc, self.net, &sweeps, like)?;
+        let heaviest = trim(alloc, &mixed, self.limit)?;
+        Ok(heaviest)
+    }
+
+    /// The better one of the routings of two stages of sweeps, of the pairs of the given one. A stage may go astray.
+    fn mix_of_sweeps(
+        &self,
+        alloc: Global,
+        like: &Routing,
+        state: &mut DualState,
+    ) -> Result<Routing, Memory>
+        requires commodities { AreCommodities self.now }
+        requires like { IsFewRouting self.now like.now.routes }
+        requires state { IsDualState self.now.net.now state.old }
+        ensures routing { IfOk result (λ r. IsFewRouting self.now r.routes) }
+        ensures state { IsDualState self.now.net.now state.new }
+    {
+        self.sweep_stages(alloc, state, STAGES, FIRST_STAGE_DIVISOR)?;
+        let first = self.mix_of_stage(alloc, like, state, FIRST_KEPT_DIVISOR)?;
+        let second = self.mix_of_stage(alloc, like, state, SECOND_KEPT_DIVISOR)?;
+        let best = lesser(alloc, self.net, self.matrix, first, second)?;
         Ok(best)
     }
 
@@ -90,33 +172,38 @@ impl<'a> Commodities<'a> {
         &self,
         alloc: Global,
         descent: &Descent,
-        rates: &mut Rates,
+        state: &mut DualState,
     ) -> Result<(Vec<u64>, Vec<Path>), Memory>
         requires commodities { AreCommodities self.now }
         requires routing { IsRoutingOf self.now.net.now self.now.pairs.now.list descent.now.routing.routes }
-        requires rates { AreRates self.now.net.now rates.old }
+        requires state { IsDualState self.now.net.now state.old }
         ensures count { IfOk result (λ x. length x.0.items ≡ link_count self.now.net.now) }
         ensures lengths { IfOk result (λ x. AreWeightsUpTo (2 ^ 27) x.0.items) }
         ensures paths { IfOk result (λ x. ArePathsOfPairs self.now.net.now descent.now.routing.routes (map links_in x.1.items)) }
-        ensures rates { AreRates self.now.net.now rates.new }
+        ensures state { IsDualState self.now.net.now state.new }
     {
         let lengths = next_lengths(alloc, self.net, self.matrix, descent)?;
         let paths = least_paths(alloc, self.net, self.pairs, self.wanted, &lengths)?;
-        offer(alloc, self.net, self.matrix, &paths, &lengths, rates)?;
+        offer(alloc, self.net, self.matrix, &paths, &lengths, state)?;
         Ok((lengths, paths))
     }
 
     /// The descent after a turn to the least paths. Their lengths are offered.
-    fn turn(&self, alloc: Global, descent: Descent, rates: &mut Rates) -> Result<Descent, Memory>
+    fn turn(
+        &self,
+        alloc: Global,
+        descent: Descent,
+        state: &mut DualState,
+    ) -> Result<Descent, Memory>
         requires commodities { AreCommodities self.now }
         requires descent { (start : List PairRoutes) × IsRoutingOf self.now.net.now self.now.pairs.now.list start × IsDescent self.now.net.now self.now.matrix.now.demand start descent }
-        requires rates { AreRates self.now.net.now rates.old }
+        requires state { IsDualState self.now.net.now state.old }
         ensures descent { (start : List PairRoutes) → IsDescent self.now.net.now self.now.matrix.now.demand start descent → IfOk result (IsDescent self.now.net.now self.now.matrix.now.demand start) }
         ensures few { BothKeep (HasFewPaths 28) descent → IfOk result (BothKeep (HasFewPaths 28)) }
-        ensures rates { AreRates self.now.net.now rates.new }
+        ensures state { IsDualState self.now.net.now state.new }
     {
         let limit = self.limit as usize;
-        let (lengths, paths) = self.least_turn(alloc, &descent, rates)?;
+        let (lengths, paths) = self.least_turn(alloc, &descent, state)?;
         take_turn(
             alloc,
             self.net,
@@ -128,39 +215,50 @@ impl<'a> Commodities<'a> {
         )
     }
 
-    /// The best routing of a descent from the given one, by turns to the least paths.
-    fn descend(&self, alloc: Global, start: Routing, rates: &mut Rates) -> Result<Routing, Memory>
+    /// The end of a descent from the given routing, by turns to the least paths.
+    fn end_of_descent(
+        &self,
+        alloc: Global,
+        start: Routing,
+        state: &mut DualState,
+    ) -> Result<Descent, Memory>
         requires commodities { AreCommodities self.now }
         requires start { IsFewRouting self.now start.routes }
-        requires rates { AreRates self.now.net.now rates.old }
-        ensures routing { IfOk result (λ r. IsNoWorse self.now start.routes r.routes) }
-        ensures rates { AreRates self.now.net.now rates.new }
+        requires state { IsDualState self.now.net.now state.old }
+        ensures descent { IfOk result (IsDescent self.now.net.now self.now.matrix.now.demand start.routes) }
+        ensures few { IfOk result (BothKeep (HasFewPaths 28)) }
+        ensures state { IsDualState self.now.net.now state.new }
     {
         let mut descent = first_descent(alloc, self.net, self.matrix, start)?;
         for _ in 0..TURNS {
             if is_over(descent.pace) {
-                return Ok(descent.best);
+                return Ok(descent);
             }
-            descent = self.turn(alloc, descent, rates)?;
+            descent = self.turn(alloc, descent, state)?;
         }
-        Ok(descent.best)
+        Ok(descent)
     }
 
-    /// The given routing, or a better one by sweeps and a descent.
+    /// The given routing, or a better one by sweeps and a descent. The sweeps after the descent begin with the lengths of its end,
+    /// which are great on the links that bound the utilisation.
     fn best_routing(
         &self,
         alloc: Global,
         start: Routing,
-        rates: &mut Rates,
+        state: &mut DualState,
     ) -> Result<Routing, Memory>
         requires commodities { AreCommodities self.now }
         requires start { IsFewRouting self.now start.routes }
-        requires rates { AreRates self.now.net.now rates.old }
+        requires state { IsDualState self.now.net.now state.old }
         ensures routing { IfOk result (λ r. IsNoWorse self.now start.routes r.routes) }
-        ensures rates { AreRates self.now.net.now rates.new }
+        ensures state { IsDualState self.now.net.now state.new }
     {
-        let best = self.best_mix(alloc, start, rates)?;
-        self.descend(alloc, best, rates)
+        let mixed = self.mix_of_sweeps(alloc, &start, state)?;
+        let descent = self.end_of_descent(alloc, mixed, state)?;
+        state.weights = next_lengths(alloc, self.net, self.matrix, &descent)?;
+        self.sweep_stages(alloc, state, BOUND_STAGES, FIRST_BOUND_DIVISOR)?;
+        let best = lesser(alloc, self.net, self.matrix, start, descent.best)?;
+        Ok(best)
     }
 
     /// The given routing, or a better one, and lengths to bound the utilisation of every routing.
@@ -175,13 +273,13 @@ impl<'a> Commodities<'a> {
         ensures lengths { IfOk result (λ r. AreLengths self.now.net.now r.1) }
     {
         let most = start.greatest_utilisation(alloc, self.net, self.matrix)?;
-        let mut rates = first_rates(alloc, self.net)?;
+        let mut state = first_dual_state(alloc, self.net)?;
         // Where no link is used there is nothing to better.
         if most == 0 {
-            return Ok((start, Items::new(rates.lengths)));
+            return Ok((start, Items::new(state.lengths)));
         }
-        let routing = self.best_routing(alloc, start, &mut rates)?;
-        Ok((routing, Items::new(rates.lengths)))
+        let routing = self.best_routing(alloc, start, &mut state)?;
+        Ok((routing, Items::new(state.lengths)))
     }
 }
 

@@ -7,3 +7,4 @@ pub mod Squares
 pub mod SweepLoads
 pub mod Turning
 pub mod Bounding
+mod CheapestLoads

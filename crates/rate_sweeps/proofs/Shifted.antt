@@ -72,22 +72,22 @@ shifted lengths limit old new from to offered units pair target shift =
     }
 
 -- a part of a weight is no more than the weight
-part_le : (weight parts : ℕ) → 1 ≤ parts → quotient_up weight parts ≤ weight
-part_le weight parts some = elim (cases_lt weight (quotient_up weight parts)) [
+part_le : (weight step_divisor : ℕ) → 1 ≤ step_divisor → quotient_up weight step_divisor ≤ weight
+part_le weight step_divisor some = elim (cases_lt weight (quotient_up weight step_divisor)) [
   | inl more ↦
-      let times : parts * (weight + 1) ≤ parts * quotient_up weight parts = mul-le-mul_left parts (omega (arith, more)) in
-      let once : weight * 1 ≤ weight * parts = mul-le-mul_left weight some in
+      let times : step_divisor * (weight + 1) ≤ step_divisor * quotient_up weight step_divisor = mul-le-mul_left step_divisor (omega (arith, more)) in
+      let once : weight * 1 ≤ weight * step_divisor = mul-le-mul_left weight some in
       absurd (omega (arith, times, once, some))
   | inr le ↦ le
 ]
 
 -- a part of the weight of a path has gone from it, where the paths are taken out of the pair first
-pub shift_after : (old new : PairRoutes) (paths made : List PathShare) (from size parts : ℕ) (to target : List ℕ) → 1 ≤ parts → paths ≡ old.paths → to ≡ target →
-    new.paths ≡ made → size ≡ quotient_up (path_at old.paths from).weight parts → IsShift paths (links_at paths from) to (min size (path_at paths from).weight) made →
-    IsShift old.paths (links_at old.paths from) target (quotient_up (path_at old.paths from).weight parts) new.paths
-shift_after old new paths made from size parts to target some taken same after is shift =
+pub shift_after : (old new : PairRoutes) (paths made : List PathShare) (from size step_divisor : ℕ) (to target : List ℕ) → 1 ≤ step_divisor → paths ≡ old.paths → to ≡ target →
+    new.paths ≡ made → size ≡ quotient_up (path_at old.paths from).weight step_divisor → IsShift paths (links_at paths from) to (min size (path_at paths from).weight) made →
+    IsShift old.paths (links_at old.paths from) target (quotient_up (path_at old.paths from).weight step_divisor) new.paths
+shift_after old new paths made from size step_divisor to target some taken same after is shift =
     let weight = (path_at old.paths from).weight in
-    let units : min size weight ≡ quotient_up weight parts = omega (arith, is, part_le weight parts some) in
+    let units : min size weight ≡ quotient_up weight step_divisor = omega (arith, is, part_le weight step_divisor some) in
     subst (λ n. IsShift old.paths (links_at old.paths from) target n new.paths) units
     (subst (λ (l : List PathShare). IsShift l (links_at l from) target (min size (path_at l from).weight) new.paths) taken
     (subst (λ (l : List ℕ). IsShift paths (links_at paths from) l (min size (path_at paths from).weight) new.paths) same

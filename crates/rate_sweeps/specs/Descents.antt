@@ -11,22 +11,22 @@ use Rattle.rate_sweeps.specs.Shifts.{AreShifts, UsesOnlyWays}
 
 -- numbers of a pace
 pub record IsPace (pace : Pace) : Type 0 where
-  pub some : 1 ≤ pace.parts
-  pub parts : pace.parts ≤ 4096
+  pub some : 1 ≤ pace.step_divisor
+  pub step_divisor : pace.step_divisor ≤ 4096
   pub times : pace.times ≤ 9
-  pub idle : pace.idle ≤ 10
+  pub idle : pace.idle ≤ 5
 
--- the pace at the start of a descent, where a turn takes an eighth of a weight and usages are squared six times
+-- the pace at the start of a descent, where a turn takes a 128th of a weight and usages are squared six times
 abbrev pub first_pace : ℕ → Pace
-first_pace most = record { parts = 8; times = 6; idle = 0; least = most }
+first_pace most = record { step_divisor = 128; times = 6; idle = 0; least = most }
 
 -- The pace after a turn to this greatest utilisation. A gain, which is a fall by more than one of 2000 parts, is kept. A turn without one is
--- idle, and after ten idle ones shares become half as great, and usages are squared once more, up to nine times.
+-- idle, and after five idle ones shares become half as great, and usages are squared once more, up to nine times.
 pub record IsNextPace (old : Pace) (most : ℕ) (new : Pace) : Type 0 where
   pub gain : most < old.least - old.least / 2000 → new ≡ record old { least = most; idle = 0 }
-  pub idle : old.least - old.least / 2000 ≤ most → old.idle < 10 → new ≡ record old { idle = old.idle + 1 }
-  pub smaller : old.least - old.least / 2000 ≤ most → 10 ≤ old.idle →
-      new ≡ record old { parts = 2 * min old.parts 2048; times = min (old.times + 1) 9; idle = 0 }
+  pub idle : old.least - old.least / 2000 ≤ most → old.idle < 5 → new ≡ record old { idle = old.idle + 1 }
+  pub smaller : old.least - old.least / 2000 ≤ most → 5 ≤ old.idle →
+      new ≡ record old { step_divisor = 2 * min old.step_divisor 2048; times = min (old.times + 1) 9; idle = 0 }
 
 -- two routings of the pairs of the start, the better of which is no worse than the start
 pub record IsDescent (net : Network) (demand : List ℕ) (start : List PairRoutes) (d : Descent) : Type 0 where
@@ -53,10 +53,10 @@ pub record IsTurnTo (net : Network) (demand : List ℕ) (made : List PairRoutes)
   pub pace : IsNextPace old.pace (parts net made demand) new.pace
   pub better : parts net made demand < old.least → new.best.routes ≡ made
   pub no_better : old.least ≤ parts net made demand → new.best.routes ≡ old.best.routes
-  pub goes_on : new.pace.parts ≤ old.pace.parts → new.routing.routes ≡ made
-  pub goes_back : old.pace.parts < new.pace.parts → new.routing.routes ≡ new.best.routes
+  pub goes_on : new.pace.step_divisor ≤ old.pace.step_divisor → new.routing.routes ≡ made
+  pub goes_back : old.pace.step_divisor < new.pace.step_divisor → new.routing.routes ≡ new.best.routes
 
 -- a turn makes a routing by shifts to the offered paths, in the parts of the pace
 abbrev pub MakesTurn : Network → List ℕ → List ℕ → ℕ → List (List ℕ) → Descent → Descent → Type 0
 MakesTurn net demand lengths limit offered old new =
-    (made : List PairRoutes) × AreShifts lengths old.pace.parts limit demand old.routing.routes offered made × IsTurnTo net demand made old new
+    (made : List PairRoutes) × AreShifts lengths old.pace.step_divisor limit demand old.routing.routes offered made × IsTurnTo net demand made old new

@@ -22,26 +22,26 @@ IsDearer lengths dear cheap = sum_along lengths cheap + sum_along lengths cheap 
 
 -- one of so many parts of the weight of the pair's dearest path, rounded up, goes to the target, where that is cheaper by enough; else the
 -- pair stays as it is
-pub record IsDearestShift (lengths : List ℕ) (parts limit : ℕ) (old : PairRoutes) (offered : List ℕ) (new : PairRoutes) : Type 0 where
+pub record IsDearestShift (lengths : List ℕ) (step_divisor limit : ℕ) (old : PairRoutes) (offered : List ℕ) (new : PairRoutes) : Type 0 where
   pub from : ℕ
   pub inside : from < length old.paths
   pub dearest : IsFirstGreatest (cost_at lengths old.paths) (length old.paths) from
   pub to : List ℕ
   pub target : IsTarget lengths limit old.paths offered to
   pub shift : IsDearer lengths (links_at old.paths from) to →
-      IsShift old.paths (links_at old.paths from) to (quotient_up (path_at old.paths from).weight parts) new.paths
+      IsShift old.paths (links_at old.paths from) to (quotient_up (path_at old.paths from).weight step_divisor) new.paths
   pub stays : (IsDearer lengths (links_at old.paths from) to → ⊥) → new ≡ old
 
 -- the same for a pair of this demand: without any it stays
 abbrev pub IsShiftForDemand : List ℕ → ℕ → ℕ → ℕ → PairRoutes → List ℕ → PairRoutes → Type 0
-IsShiftForDemand lengths parts limit demand old offered new =
-    (0 < demand → IsDearestShift lengths parts limit old offered new) × (demand ≡ 0 → new ≡ old)
+IsShiftForDemand lengths step_divisor limit demand old offered new =
+    (0 < demand → IsDearestShift lengths step_divisor limit old offered new) × (demand ≡ 0 → new ≡ old)
 
 -- and for each pair of a routing
-pub record AreShifts (lengths : List ℕ) (parts limit : ℕ) (demand : List ℕ) (old : List PairRoutes) (offered : List (List ℕ)) (new : List PairRoutes) : Type 0 where
+pub record AreShifts (lengths : List ℕ) (step_divisor limit : ℕ) (demand : List ℕ) (old : List PairRoutes) (offered : List (List ℕ)) (new : List PairRoutes) : Type 0 where
   pub count : length new ≡ length old
   pub each : (p : ℕ) → p < length old →
-      IsShiftForDemand lengths parts limit (slice_index demand p) (routes_at old p) (slice_index_or offered p []) (routes_at new p)
+      IsShiftForDemand lengths step_divisor limit (slice_index demand p) (routes_at old p) (slice_index_or offered p []) (routes_at new p)
 
 -- other weights of the same pair, which sum to the same, over ascending paths that it had or that was offered, no more than it had
 -- or may have

@@ -10,7 +10,7 @@ use Rattle.routing.specs.Merge.{HasLinks}
 use Rattle.centred_steps.specs.Loads.{AreLoadsWithin}
 use Rattle.centred_steps.specs.Weights.{AreWeightsUpTo}
 use Rattle.rate_sweeps.specs.declared.mix.Sweep.{Sweep}
-use Rattle.rate_sweeps.specs.declared.rates.Rates.{Rates}
+use Rattle.rate_sweeps.specs.declared.dual_state.DualState.{DualState}
 
 -- what a sweep may count
 abbrev pub IsWeight : ℕ → Type 0
@@ -51,7 +51,7 @@ abbrev pub HaveLinks : ℕ → List PathShare → Type 0
 HaveLinks m paths = All (λ s. All (λ h. h < m) s.links) paths
 
 -- lengths that a step may move, loads of each link, and lengths that may be offered
-pub record AreRates (net : Network) (r : Rates) : Type 0 where
+pub record IsDualState (net : Network) (r : DualState) : Type 0 where
   pub count : length r.weights.items ≡ link_count net
   pub weights : AreWeightsUpTo (2 ^ 27) r.weights.items
   pub loads : AreLoadsWithin net r.loads.items
@@ -59,7 +59,7 @@ pub record AreRates (net : Network) (r : Rates) : Type 0 where
   pub lengths : AreWeightsUpTo (2 ^ 27) r.lengths.items
 
 -- what bounds better is kept: the bound and the lengths of before, or a greater bound and the offered lengths
-abbrev pub KeepsBetter : List ℕ → Rates → Rates → Type 0
+abbrev pub KeepsBetter : List ℕ → DualState → DualState → Type 0
 KeepsBetter offered old new =
     ((new.low ≡ old.low) × (new.lengths.items ≡ old.lengths.items))
     ⊎ ((old.low < new.low) × (new.lengths.items ≡ offered))

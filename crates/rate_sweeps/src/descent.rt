@@ -96,7 +96,7 @@ pub fn take_turn(
     ensures turn { IfOk result (IsTurn limit (map links_in offered.now) descent) }
     ensures made { IfOk result (MakesTurn net.now matrix.now.demand lengths.now limit (map links_in offered.now) descent) }
 {
-    let (old, parts) = (descent.pace, descent.pace.parts);
+    let (old, step_divisor) = (descent.pace, descent.pace.step_divisor);
     let mut routing = shift_dearest(
         alloc,
         net,
@@ -104,7 +104,7 @@ pub fn take_turn(
         descent.routing,
         offered,
         lengths,
-        parts,
+        step_divisor,
         limit,
     )?;
     let most = routing.greatest_utilisation(alloc, net, matrix)?;
@@ -114,7 +114,7 @@ pub fn take_turn(
         least = most;
     }
     let pace = next_pace(old, most);
-    if pace.parts > old.parts {
+    if pace.step_divisor > old.step_divisor {
         routing = best.copy(alloc)?;
     }
     Ok(Descent {

@@ -4,7 +4,7 @@ ghost use Rattle.te_model.specs.declared.route.Pair.{Pair};
 ghost use Rattle.routing.specs.Routes.{HasFewPaths, IsRoutingOf};
 ghost use Rattle.rate_sweeps.specs.Sweeps.{ArePathsOfPairs, IsOfSweeps, IsWeight, paths_in, paths_of_pair};
 
-use crate::rates::UNCOUNTED;
+use crate::schedule::UNCOUNTED;
 use routing::{Routing, merge, normalize};
 use std::alloc::Global;
 use te_model::{Items, Memory, Network, PairRoutes, Path, PathShare};

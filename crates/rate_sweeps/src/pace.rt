@@ -6,7 +6,7 @@ ghost use Rattle.rate_sweeps.specs.Descents.{IsNextPace, IsPace, first_pace};
 pub const TURNS: usize = 400;
 
 /// How many turns without a gain come before the shares become smaller.
-const IDLE_TURNS: u32 = 10;
+const IDLE_TURNS: u32 = 5;
 
 /// How often usages are squared at the start.
 const FIRST_TIMES: u32 = 6;
@@ -14,17 +14,17 @@ const FIRST_TIMES: u32 = 6;
 /// How often usages are squared at most.
 const MAX_TIMES: u32 = 9;
 
-/// In how many parts weights are taken at the start.
-const FIRST_PARTS: u64 = 8;
+/// By what weights are divided at the start.
+const FIRST_DIVISOR: u64 = 128;
 
-/// The descent ends where weights would be taken in more parts than this.
-const LAST_PARTS: u64 = 2048;
+/// The descent ends where weights would be divided by more than this.
+const LAST_DIVISOR: u64 = 2048;
 
 /// How a descent goes on.
 #[derive(Clone, Copy)]
 pub struct Pace {
-    /// A turn takes one of so many parts of a weight.
-    pub parts: u64,
+    /// By what a turn divides a weight, of which it takes one part.
+    pub step_divisor: u64,
     /// How often usages are squared.
     pub times: u32,
     /// How many turns brought no gain.
@@ -39,18 +39,18 @@ pub fn first_pace(most: u128) -> Pace
     ensures first { result ≡ first_pace most }
 {
     Pace {
-        parts: FIRST_PARTS,
+        step_divisor: FIRST_DIVISOR,
         times: FIRST_TIMES,
         idle: 0,
         least: most,
     }
 }
 
-/// Whether the descent is at its end: in more parts than that no weight is taken.
+/// Whether the descent is at its end: by more than that no weight is divided.
 pub fn is_over(pace: Pace) -> bool
-    ensures { IsTrue result ↔ (LAST_PARTS < pace.parts) }
+    ensures { IsTrue result ↔ (LAST_DIVISOR < pace.step_divisor) }
 {
-    pace.parts > LAST_PARTS
+    pace.step_divisor > LAST_DIVISOR
 }
 
 /// The pace after a turn to this greatest utilisation. A gain is a fall by more than one of 2000 parts; where none comes for long,
@@ -68,7 +68,7 @@ pub fn next_pace(pace: Pace, most: u128) -> Pace
         next.idle = pace.idle + 1;
     } else {
         next.idle = 0;
-        next.parts = 2 * pace.parts.min(LAST_PARTS);
+        next.step_divisor = 2 * pace.step_divisor.min(LAST_DIVISOR);
         next.times = (pace.times + 1).min(MAX_TIMES);
     }
     next

@@ -52,13 +52,13 @@ fn target_of(
     Ok(copy)
 }
 
-/// Takes one of so many `parts` of the weight of the pair's dearest path to the cheap one, where that is cheaper by enough.
+/// Takes the weight of the pair's dearest path, divided by `step_divisor`, to the cheap one, where that is cheaper by enough.
 fn shift_pair(
     alloc: Global,
     route: &mut PairRoutes,
     offered: &Path,
     lengths: &[u64],
-    parts: u64,
+    step_divisor: u64,
     limit: usize,
 ) -> Result<(), Memory>
     requires some { 0 < length route.old.paths }
@@ -68,9 +68,9 @@ fn shift_pair(
     requires lengths { All (λ l. l ≤ 2 ^ 28) lengths.now }
     requires links { HaveLinks (length lengths.now) route.old.paths }
     requires offered { All (λ h. h < length lengths.now) offered.now.links }
-    requires parts { (1 ≤ parts) × (parts ≤ 4096) }
+    requires step_divisor { (1 ≤ step_divisor) × (step_divisor ≤ 4096) }
     ensures shifted { OnOk result (IsShifted limit route.old offered.now.links route.new) }
-    ensures dearest { OnOk result (IsDearestShift lengths.now parts limit route.old offered.now.links route.new) }
+    ensures dearest { OnOk result (IsDearestShift lengths.now step_divisor limit route.old offered.now.links route.new) }
 {
     let to = target_of(alloc, route, offered, lengths, limit)?;
     let paths = route.paths.as_slice();
@@ -78,7 +78,7 @@ fn shift_pair(
     if !is_dearer(lengths, paths[from].links.as_slice(), &to) {
         return Ok(());
     }
-    let units = (paths[from].weight + (parts - 1)) / parts;
+    let units = (paths[from].weight + (step_divisor - 1)) / step_divisor;
     let old = mem::replace(&mut route.paths, Items::new(Vec::new(alloc)));
     let next = paths_after(alloc, old.into_vec(), from, &to, units)?;
     route.paths = Items::new(next);
@@ -97,7 +97,7 @@ pub fn shift_dearest(
     routing: Routing,
     offered: &[Path],
     lengths: &[u64],
-    parts: u64,
+    step_divisor: u64,
     limit: usize,
 ) -> Result<Routing, Memory>
     requires routing { IsPathRouting net.now routing.routes }
@@ -105,18 +105,25 @@ pub fn shift_dearest(
     requires offered { ArePathsOfPairs net.now routing.routes (map links_in offered.now) }
     requires count { length lengths.now ≡ link_count net.now }
     requires lengths { All (λ l. l ≤ 2 ^ 28) lengths.now }
-    requires parts { (1 ≤ parts) × (parts ≤ 4096) }
+    requires step_divisor { (1 ≤ step_divisor) × (step_divisor ≤ 4096) }
     requires limit { 1 ≤ limit }
     ensures routing { (pairs : List Pair) → IsRoutingOf net.now pairs routing.routes → IfOk result (λ r. IsRoutingOf net.now pairs r.routes) }
     ensures only { IfOk result (λ r. UsesOnlyWays routing.routes (map links_in offered.now) r.routes) }
     ensures few { HasFewPaths limit routing.routes → IfOk result (λ r. HasFewPaths limit r.routes) }
-    ensures shifts { IfOk result (λ r. AreShifts lengths.now parts limit matrix.now.demand routing.routes (map links_in offered.now) r.routes) }
+    ensures shifts { IfOk result (λ r. AreShifts lengths.now step_divisor limit matrix.now.demand routing.routes (map links_in offered.now) r.routes) }
 {
     let demand = matrix.demand.as_slice();
     let mut routes = routing.routes.into_vec();
     for p in 0..routes.len() {
         if demand[p] > 0 {
-            shift_pair(alloc, &mut routes[p], &offered[p], lengths, parts, limit)?;
+            shift_pair(
+                alloc,
+                &mut routes[p],
+                &offered[p],
+                lengths,
+                step_divisor,
+                limit,
+            )?;
         }
     }
     Ok(Routing {

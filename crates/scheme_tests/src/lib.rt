@@ -16,6 +16,8 @@ mod mcf_lengths_tests;
 #[cfg(test)]
 mod multiplicative_lengths_tests;
 #[cfg(test)]
+mod pathless_tests;
+#[cfg(test)]
 mod racke_mix_tests;
 #[cfg(test)]
 mod semi_oblivious_tests;

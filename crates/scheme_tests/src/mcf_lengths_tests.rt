@@ -114,12 +114,12 @@ fn rounds_take_large_link(alloc: Global, commodities: &Commodities) -> bool
     }
 }
 
-/// Whether there is one pair, and no routing is better by more than a part in 5,000.
+/// Whether there is one pair, and no routing is better by more than three parts in 10,000.
 fn fills_evenly(routing: &Routing, note: &Bracket) -> bool
     requires { HasLow note.now }
 {
     let pairs = routing.routes.as_slice().len() == 1;
-    pairs & is_between(note, 1_000_000, 1_000_200)
+    pairs & is_between(note, 1_000_000, 1_000_300)
 }
 
 /// Whether the scheme fills both links evenly.

@@ -28,7 +28,7 @@ fn fills_both_links(fixed: &Routing, routing: &Routing, note: &Bracket) -> bool
 {
     let paths = count_of_paths(fixed) == Some(2);
     let pairs = routing.routes.as_slice().len() == 1;
-    paths & pairs & is_between(note, 1_000_000, 1_000_200)
+    paths & pairs & is_between(note, 1_000_000, 1_000_300)
 }
 
 /// Whether the rates over the fixed paths of eight trees follow the matrix.

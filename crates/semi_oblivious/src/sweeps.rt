@@ -4,21 +4,22 @@ ghost use Rattle.te_model.specs.Network.{is_well_formed, link_count};
 ghost use Rattle.te_model.specs.PathRouting.{IsPathRouting};
 ghost use Rattle.routing.specs.Routes.{AreDemands};
 ghost use Rattle.rate_sweeps.specs.Descents.{BothKeep, IsDescent};
-ghost use Rattle.rate_sweeps.specs.Sweeps.{AreRates};
+ghost use Rattle.rate_sweeps.specs.Sweeps.{IsDualState};
 ghost use Rattle.semi_oblivious.specs.Semi.{KeepsTo};
 ghost use Rattle.semi_oblivious.specs.Sweeps.{AreFixedSweeps, IsOverFixed};
 
 use rate_sweeps::{
-    COUNTED, Descent, MAX_PARTS, Rates, STAGES, Sweep, TURNS, UNCOUNTED, add_counted,
-    cheapest_paths, first_descent, first_rates, is_over, lesser, next_lengths, offer, routing_by,
-    take_sweep, take_turn,
+    BOUND_STAGES, COUNTED, Descent, DualState, FIRST_BOUND_DIVISOR, FIRST_KEPT_DIVISOR,
+    FIRST_STAGE_DIVISOR, MAX_DIVISOR, SECOND_KEPT_DIVISOR, STAGES, SWEEPS, Sweep, TURNS, UNCOUNTED,
+    add_counted, cheapest_paths, end_sweep, first_descent, first_dual_state, is_over, lesser,
+    load_cheapest, next_lengths, offer, routing_by, take_sweep, take_turn,
 };
 use routing::Routing;
 use std::alloc::Global;
 use te_model::{Items, Matrix, Memory, Network};
 
 /// More paths than a pair has: the paths of a descent are fixed.
-const LIMIT: usize = 33;
+const DESCENT_PATH_LIMIT: usize = 33;
 
 /// The sweeps of a stage that count. In each the pairs take their cheapest fixed paths.
 fn stage(
@@ -26,52 +27,132 @@ fn stage(
     net: &Network,
     fixed: &Routing,
     matrix: &Matrix,
-    rates: &mut Rates,
-    parts: u64,
+    state: &mut DualState,
+    step_divisor: u64,
 ) -> Result<Vec<Sweep>, Memory>
     requires network { IsTrue (is_well_formed net.now) }
     requires fixed { IsPathRouting net.now fixed.now.routes }
     requires pairs { length fixed.now.routes < 2 ^ 32 }
     requires demands { AreDemands (length fixed.now.routes) matrix.now.demand }
-    requires rates { AreRates net.now rates.old }
-    requires parts { (1 ≤ parts) × (parts ≤ 128) }
+    requires state { IsDualState net.now state.old }
+    requires step_divisor { (1 ≤ step_divisor) × (step_divisor ≤ 128) }
     ensures sweeps { IfOk result (λ s. AreFixedSweeps 30 net.now fixed.now.routes s.items) }
-    ensures rates { AreRates net.now rates.new }
+    ensures state { IsDualState net.now state.new }
 {
     let mut sweeps = Vec::with_capacity(alloc, COUNTED)?;
     for i in 0..UNCOUNTED + COUNTED {
-        let paths = cheapest_paths(alloc, net, fixed, &rates.weights)?;
-        let weight = take_sweep(alloc, net, matrix, &paths, rates, parts)?;
+        let paths = cheapest_paths(alloc, net, fixed, &state.weights)?;
+        let weight = take_sweep(alloc, net, matrix, &paths, state, step_divisor)?;
         add_counted(&mut sweeps, i, weight, paths)?;
     }
     Ok(sweeps)
 }
 
-/// The routing of the least greatest utilisation among the fixed one and those of the stages of sweeps.
-fn best_stage(
+/// Sweeps of a stage of which only the loads are made. In each the pairs take their cheapest fixed paths.
+fn sweep_loads(
     alloc: Global,
     net: &Network,
     fixed: &Routing,
     matrix: &Matrix,
-    rates: &mut Rates,
+    state: &mut DualState,
+    step_divisor: u64,
+) -> Result<(), Memory>
+    requires network { IsTrue (is_well_formed net.now) }
+    requires fixed { IsPathRouting net.now fixed.now.routes }
+    requires pairs { length fixed.now.routes < 2 ^ 32 }
+    requires demands { AreDemands (length fixed.now.routes) matrix.now.demand }
+    requires state { IsDualState net.now state.old }
+    requires step_divisor { (1 ≤ step_divisor) × (step_divisor ≤ 128) }
+    ensures state { IsDualState net.now state.new }
+{
+    for _ in 0..SWEEPS {
+        load_cheapest(net, fixed, matrix, &state.weights, &mut state.loads);
+        end_sweep(alloc, net, state, step_divisor)?;
+    }
+    Ok(())
+}
+
+/// So many stages of such sweeps, in the first of which steps are divided by `first_divisor`.
+fn sweep_stages(
+    alloc: Global,
+    net: &Network,
+    fixed: &Routing,
+    matrix: &Matrix,
+    state: &mut DualState,
+    stages: usize,
+    first_divisor: u64,
+) -> Result<(), Memory>
+    requires network { IsTrue (is_well_formed net.now) }
+    requires fixed { IsPathRouting net.now fixed.now.routes }
+    requires pairs { length fixed.now.routes < 2 ^ 32 }
+    requires demands { AreDemands (length fixed.now.routes) matrix.now.demand }
+    requires state { IsDualState net.now state.old }
+    requires first_divisor { (1 ≤ first_divisor) × (first_divisor ≤ 128) }
+    ensures state { IsDualState net.now state.new }
+{
+    let mut step_divisor = first_divisor;
+    for _ in 0..stages {
+        sweep_loads(alloc, net, fixed, matrix, state, step_divisor)?;
+        step_divisor = (2 * step_divisor).min(MAX_DIVISOR);
+    }
+    Ok(())
+}
+
+/// The better one of the given routing and that of a stage of sweeps.
+fn better_mix(
+    alloc: Global,
+    net: &Network,
+    fixed: &Routing,
+    matrix: &Matrix,
+    best: Routing,
+    state: &mut DualState,
+    step_divisor: u64,
 ) -> Result<Routing, Memory>
     requires network { IsTrue (is_well_formed net.now) }
     requires fixed { IsPathRouting net.now fixed.now.routes }
     requires pairs { length fixed.now.routes < 2 ^ 32 }
     requires demands { AreDemands (length fixed.now.routes) matrix.now.demand }
-    requires rates { AreRates net.now rates.old }
+    requires best { IsOverFixed net.now matrix.now.demand fixed.now.routes best.routes }
+    requires state { IsDualState net.now state.old }
+    requires step_divisor { (1 ≤ step_divisor) × (step_divisor ≤ 128) }
     ensures routing { IfOk result (λ r. IsOverFixed net.now matrix.now.demand fixed.now.routes r.routes) }
-    ensures rates { AreRates net.now rates.new }
+    ensures state { IsDualState net.now state.new }
 {
-    let mut best = fixed.copy(alloc)?;
-    let mut parts = 1;
-    for _ in 0..STAGES {
-        let sweeps = stage(alloc, net, fixed, matrix, rates, parts)?;
-        let mixed = routing_by(alloc, net, &sweeps, fixed)?;
-        best = lesser(alloc, net, matrix, best, mixed)?;
-        parts = (2 * parts).min(MAX_PARTS);
-    }
-    Ok(best)
+    let sweeps = stage(alloc, net, fixed, matrix, state, step_divisor)?;
+    let mixed = routing_by(alloc, net, &sweeps, fixed)?;
+    let better = lesser(alloc, net, matrix, best, mixed)?;
+    Ok(better)
+}
+
+/// The best one of the fixed routing and those of two stages of sweeps. A stage may go astray.
+fn best_mix(
+    alloc: Global,
+    net: &Network,
+    fixed: &Routing,
+    matrix: &Matrix,
+    state: &mut DualState,
+) -> Result<Routing, Memory>
+    requires network { IsTrue (is_well_formed net.now) }
+    requires fixed { IsPathRouting net.now fixed.now.routes }
+    requires pairs { length fixed.now.routes < 2 ^ 32 }
+    requires demands { AreDemands (length fixed.now.routes) matrix.now.demand }
+    requires state { IsDualState net.now state.old }
+    ensures routing { IfOk result (λ r. IsOverFixed net.now matrix.now.demand fixed.now.routes r.routes) }
+    ensures state { IsDualState net.now state.new }
+{
+    sweep_stages(
+        alloc,
+        net,
+        fixed,
+        matrix,
+        state,
+        STAGES,
+        FIRST_STAGE_DIVISOR,
+    )?;
+    let own = fixed.copy(alloc)?;
+    let first = better_mix(alloc, net, fixed, matrix, own, state, FIRST_KEPT_DIVISOR)?;
+    let second = better_mix(alloc, net, fixed, matrix, first, state, SECOND_KEPT_DIVISOR)?;
+    Ok(second)
 }
 
 /// The descent after a turn to the cheapest fixed paths. Their lengths are offered.
@@ -81,7 +162,7 @@ fn turn(
     fixed: &Routing,
     matrix: &Matrix,
     descent: Descent,
-    rates: &mut Rates,
+    state: &mut DualState,
 ) -> Result<Descent, Memory>
     requires network { IsTrue (is_well_formed net.now) }
     requires fixed { IsPathRouting net.now fixed.now.routes }
@@ -89,42 +170,83 @@ fn turn(
     requires demands { AreDemands (length fixed.now.routes) matrix.now.demand }
     requires descent { IsDescent net.now matrix.now.demand fixed.now.routes descent }
     requires keeps { BothKeep (KeepsTo fixed.now.routes) descent }
-    requires rates { AreRates net.now rates.old }
+    requires state { IsDualState net.now state.old }
     ensures descent { IfOk result (IsDescent net.now matrix.now.demand fixed.now.routes) }
     ensures keeps { IfOk result (BothKeep (KeepsTo fixed.now.routes)) }
-    ensures rates { AreRates net.now rates.new }
+    ensures state { IsDualState net.now state.new }
 {
     let lengths = next_lengths(alloc, net, matrix, &descent)?;
     let paths = cheapest_paths(alloc, net, fixed, &lengths)?;
-    offer(alloc, net, matrix, &paths, &lengths, rates)?;
-    take_turn(alloc, net, matrix, descent, &paths, &lengths, LIMIT)
+    offer(alloc, net, matrix, &paths, &lengths, state)?;
+    take_turn(
+        alloc,
+        net,
+        matrix,
+        descent,
+        &paths,
+        &lengths,
+        DESCENT_PATH_LIMIT,
+    )
 }
 
-/// The best routing of a descent from the given one, by turns to the cheapest fixed paths.
-fn descend(
+/// The end of a descent from the given routing, by turns to the cheapest fixed paths.
+fn end_of_descent(
     alloc: Global,
     net: &Network,
     fixed: &Routing,
     matrix: &Matrix,
     start: Routing,
-    rates: &mut Rates,
-) -> Result<Routing, Memory>
+    state: &mut DualState,
+) -> Result<Descent, Memory>
     requires network { IsTrue (is_well_formed net.now) }
     requires fixed { IsPathRouting net.now fixed.now.routes }
     requires pairs { length fixed.now.routes < 2 ^ 32 }
     requires demands { AreDemands (length fixed.now.routes) matrix.now.demand }
     requires start { IsOverFixed net.now matrix.now.demand fixed.now.routes start.routes }
-    requires rates { AreRates net.now rates.old }
-    ensures routing { IfOk result (λ r. IsOverFixed net.now matrix.now.demand fixed.now.routes r.routes) }
-    ensures rates { AreRates net.now rates.new }
+    requires state { IsDualState net.now state.old }
+    ensures descent { IfOk result (IsDescent net.now matrix.now.demand fixed.now.routes) }
+    ensures keeps { IfOk result (BothKeep (KeepsTo fixed.now.routes)) }
+    ensures state { IsDualState net.now state.new }
 {
     let mut descent = first_descent(alloc, net, matrix, start)?;
     for _ in 0..TURNS {
         if is_over(descent.pace) {
-            return Ok(descent.best);
+            return Ok(descent);
         }
-        descent = turn(alloc, net, fixed, matrix, descent, rates)?;
+        descent = turn(alloc, net, fixed, matrix, descent, state)?;
     }
+    Ok(descent)
+}
+
+/// The fixed routing, or a better one over its paths by sweeps and a descent. The sweeps after the descent begin with the lengths of
+/// its end, which are great on the links that bound the utilisation.
+fn best_routing(
+    alloc: Global,
+    net: &Network,
+    fixed: &Routing,
+    matrix: &Matrix,
+    state: &mut DualState,
+) -> Result<Routing, Memory>
+    requires network { IsTrue (is_well_formed net.now) }
+    requires fixed { IsPathRouting net.now fixed.now.routes }
+    requires pairs { length fixed.now.routes < 2 ^ 32 }
+    requires demands { AreDemands (length fixed.now.routes) matrix.now.demand }
+    requires state { IsDualState net.now state.old }
+    ensures routing { IfOk result (λ r. IsOverFixed net.now matrix.now.demand fixed.now.routes r.routes) }
+    ensures state { IsDualState net.now state.new }
+{
+    let best = best_mix(alloc, net, fixed, matrix, state)?;
+    let descent = end_of_descent(alloc, net, fixed, matrix, best, state)?;
+    state.weights = next_lengths(alloc, net, matrix, &descent)?;
+    sweep_stages(
+        alloc,
+        net,
+        fixed,
+        matrix,
+        state,
+        BOUND_STAGES,
+        FIRST_BOUND_DIVISOR,
+    )?;
     Ok(descent.best)
 }
 
@@ -146,12 +268,11 @@ pub fn sweep(
     ensures count { IfOk result (λ r. length r.1 ≡ link_count net.now) }
     ensures small { IfOk result (λ r. All (λ x. x ≤ 2 ^ 28) r.1) }
 {
-    let mut rates = first_rates(alloc, net)?;
+    let mut state = first_dual_state(alloc, net)?;
     // Where no link is used there is nothing to better.
     if fixed.greatest_utilisation(alloc, net, matrix)? == 0 {
-        return Ok((fixed.copy(alloc)?, Items::new(rates.lengths)));
+        return Ok((fixed.copy(alloc)?, Items::new(state.lengths)));
     }
-    let best = best_stage(alloc, net, fixed, matrix, &mut rates)?;
-    let routing = descend(alloc, net, fixed, matrix, best, &mut rates)?;
-    Ok((routing, Items::new(rates.lengths)))
+    let routing = best_routing(alloc, net, fixed, matrix, &mut state)?;
+    Ok((routing, Items::new(state.lengths)))
 }

@@ -1,12 +1,10 @@
-use Rattle.std.proofs.Common.{◌≡◌, ℕ, ◌≤◌, ◌^◌, List, All, length, arith, sym, subst}
-use Rattle.std.proofs.lemmas.List.Elements.{All-push, All-weaker}
+use Rattle.std.proofs.Common.{List, length, arith, sym, subst}
 use Rattle.te_model.specs.declared.route.Pair.{Pair}
-use Rattle.te_model.specs.Network.{link_count}
 use Rattle.routing.specs.Routes.{AreDemands, IsRoutingOf}
 use Rattle.routing.proofs.InOrder.{routes_count}
 use Rattle.scheme.specs.Reach.{AllReached, ArePairsOf}
 use Rattle.mcf_lengths.specs.declared.round.TheConstants.{ROUNDS}
-use Rattle.mcf_lengths.specs.Rounds.{AreLengths, IsRoundsRouting}
+use Rattle.mcf_lengths.specs.Rounds.{IsRoundsRouting}
 use Rattle.mcf_lengths.proofs.Balancing.{few_more}
 use Rattle.mcf_lengths.proofs.flow.starting_routing.Goals as goal
 
@@ -75,21 +73,3 @@ returns-clause-no_greater c = λ pairs is. (
   subst (λ (l : List Pair). IsRoundsRouting c.args.net.now l c.args.matrix.now.demand c.in_ok-rounds.rounds.routes) is.own c.in_ok-rounds.ensures.rounds,
   c.in_ok-start.ensures.no_greater,
 )
-
-pub returns-clause-count : goal.returns-clause-count
-returns-clause-count c =
-    let net = c.args.net.now in
-    let all =
-    subst (All (AreLengths net)) (sym {A = List (List ℕ)} c.in_ok-push.ensures.items)
-    (All-push (AreLengths net) c.in_ok-rounds.offered.items c.in_ok-start.swept c.in_ok-rounds.ensures.limits c.in_ok-start.ensures.lengths)
-    in
-    All-weaker (AreLengths net) (λ (l : List ℕ). length l ≡ link_count net) (λ l are. are.count) c.push.new.self.items all
-
-pub returns-clause-limit : goal.returns-clause-limit
-returns-clause-limit c =
-    let net = c.args.net.now in
-    let all =
-    subst (All (AreLengths net)) (sym {A = List (List ℕ)} c.in_ok-push.ensures.items)
-    (All-push (AreLengths net) c.in_ok-rounds.offered.items c.in_ok-start.swept c.in_ok-rounds.ensures.limits c.in_ok-start.ensures.lengths)
-    in
-    All-weaker (AreLengths net) (λ (l : List ℕ). All (λ (x : ℕ). x ≤ 2 ^ 28) l) (λ l are. are.limit) c.push.new.self.items all

@@ -115,5 +115,5 @@ shift_dearest-requires-clause-demands c =
     subst (λ n. AreDemands n c.args.matrix.now.demand) (sym (same_count c.args.descent.routing.routes c.requires.descent.0 c.requires.descent.3.routing_pairs))
     c.requires.descent.2
 
-pub shift_dearest-requires-clause-parts : goal.shift_dearest-requires-clause-parts
-shift_dearest-requires-clause-parts c = (c.requires.descent.3.pace.some, c.requires.descent.3.pace.parts)
+pub shift_dearest-requires-clause-step_divisor : goal.shift_dearest-requires-clause-step_divisor
+shift_dearest-requires-clause-step_divisor c = (c.requires.descent.3.pace.some, c.requires.descent.3.pace.step_divisor)

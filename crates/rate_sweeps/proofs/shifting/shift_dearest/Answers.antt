@@ -67,7 +67,7 @@ loop-p-preserved c =
     let left : routes_at now p ≡ routes_at old p = c.loop-p.invariant.0.left p (omega arith) in
     let far = λ (q : ℕ) (under : q < p). c.loop-p.invariant.1 q under in
     let demands : get_or c.as_slice-demand.result.now p 0 ≡ get_or demand p 0 = ap (λ (l : List ℕ). get_or l p 0) c.as_slice-demand.ensures in
-    let Shift : ℕ → PairRoutes → Type 0 = λ q r. IsShiftForDemand lengths c.args.parts limit (get_or demand q 0) (routes_at old q) (get_or offered q []) r in
+    let Shift : ℕ → PairRoutes → Type 0 = λ q r. IsShiftForDemand lengths c.args.step_divisor limit (get_or demand q 0) (routes_at old q) (get_or offered q []) r in
     elim c.if-demand-p-gt0.branch [
       | then-demand-p-gt0+in_ok-shift_pair w ↦
           let none : Path = record { links = [] } in
@@ -81,9 +81,9 @@ loop-p-preserved c =
           subst (λ (l : List ℕ). IsShifted limit (routes_at now p) l new) offer
           (subst (λ (r : PairRoutes). IsShifted limit r w.index-offered-p.result.links new) route w.in_ok-shift_pair.ensures.shifted)
           in
-          let by : IsDearestShift lengths c.args.parts limit (routes_at old p) (get_or offered p []) new =
-          subst (λ (l : List ℕ). IsDearestShift lengths c.args.parts limit (routes_at old p) l new) offer
-          (subst (λ (r : PairRoutes). IsDearestShift lengths c.args.parts limit r w.index-offered-p.result.links new) (route ∙ left) w.in_ok-shift_pair.ensures.dearest)
+          let by : IsDearestShift lengths c.args.step_divisor limit (routes_at old p) (get_or offered p []) new =
+          subst (λ (l : List ℕ). IsDearestShift lengths c.args.step_divisor limit (routes_at old p) l new) offer
+          (subst (λ (r : PairRoutes). IsDearestShift lengths c.args.step_divisor limit r w.index-offered-p.result.links new) (route ∙ left) w.in_ok-shift_pair.ensures.dearest)
           in
           let of : Shift p new = (λ some. by, λ none. absurd (omega (arith, w.if-demand-p-gt0.true, demands, none))) in
           rw w.routes-is (passed_shifted limit old offered p now new c.loop-p.invariant.0 below is, each_set Shift p now new inside far of)
@@ -132,7 +132,7 @@ returns-clause-shifts c =
     let offered = map links_in c.args.offered.now in
     record {
       count = (done at).count;
-      each = λ q below. subst (λ (l : List PairRoutes). IsShiftForDemand lengths c.args.parts c.args.limit (get_or demand q 0) (routes_at old q) (get_or offered q []) (routes_at l q))
+      each = λ q below. subst (λ (l : List PairRoutes). IsShiftForDemand lengths c.args.step_divisor c.args.limit (get_or demand q 0) (routes_at old q) (get_or offered q []) (routes_at l q))
           (sym c.new.ensures) (c.loop-p.invariant.1 q (omega (arith, below, every at)));
     }
 

@@ -15,7 +15,7 @@ use Rattle.rate_sweeps.proofs.shifting.shift_pair.Goals.{After-drop-to-2}
 
 -- the part of the weight of the dearest path that goes
 abbrev units : After-drop-to-2 → ℕ
-units c = quotient_up (path_at c.args.route.now.paths c.dearest-from.result).weight c.args.parts
+units c = quotient_up (path_at c.args.route.now.paths c.dearest-from.result).weight c.args.step_divisor
 
 -- it has gone to the target
 moved : (c : After-drop-to-2) →
@@ -27,8 +27,8 @@ moved c =
     let weight = ap (λ (s : PathShare). s.weight) (get_or_default c.as_slice-paths.result.now from c.index-paths-from-2.result no_path c.dearest-from.ensures.inside)
     ∙ ap (λ (l : List PathShare). (path_at l from).weight) c.as_slice-paths.ensures
     in
-    shift_after old new c.into_vec.result.items c.in_ok-next.next.items from _ c.args.parts c.deref-2.result.now c.in_ok-to.to.items c.requires.parts.0
-    (c.into_vec.ensures ∙ c.replace-old.ensures.value) c.deref-2.ensures.value c.new-3.ensures (ap (λ n. quotient_up n c.args.parts) weight) c.in_ok-next.ensures
+    shift_after old new c.into_vec.result.items c.in_ok-next.next.items from _ c.args.step_divisor c.deref-2.result.now c.in_ok-to.to.items c.requires.step_divisor.0
+    (c.into_vec.ensures ∙ c.replace-old.ensures.value) c.deref-2.ensures.value c.new-3.ensures (ap (λ n. quotient_up n c.args.step_divisor) weight) c.in_ok-next.ensures
 
 pub returns-clause-shifted : goal.returns-clause-shifted
 returns-clause-shifted c =

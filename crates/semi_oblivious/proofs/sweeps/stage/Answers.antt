@@ -17,7 +17,7 @@ cheapest_paths-requires-clause-lengths c = ap (λ (l : List ℕ). length l) c.de
 
 pub cheapest_paths-requires-clause-limit : goal.cheapest_paths-requires-clause-limit
 cheapest_paths-requires-clause-limit c =
-    subst (All (λ (l : ℕ). l ≤ 2 ^ 28)) (sym c.deref.ensures.value) (weights_small c.loop-i.rates.weights.items c.loop-i.invariant.0.weights)
+    subst (All (λ (l : ℕ). l ≤ 2 ^ 28)) (sym c.deref.ensures.value) (weights_small c.loop-i.state.weights.items c.loop-i.invariant.0.weights)
 
 pub take_sweep-requires-clause-demands : goal.take_sweep-requires-clause-demands
 take_sweep-requires-clause-demands c =
@@ -39,17 +39,17 @@ loop-i-preserved c =
     let sweeps = c.loop-i.sweeps.items in
     let s : Sweep = record { weight = c.in_ok-weight.weight; paths = c.in_ok-paths.paths.items } in
     let taken = c.in_ok-paths.ensures in
-    let rates = c.loop-i.invariant.0 in
+    let state = c.loop-i.invariant.0 in
     let far = c.loop-i.invariant.1 in
     let cheapest : IsCheapestSweep net fixed s =
     record {
-      lengths = c.loop-i.rates.weights.items;
-      count = rates.count;
-      positive = weights_positive c.loop-i.rates.weights.items rates.weights;
+      lengths = c.loop-i.state.weights.items;
+      count = state.count;
+      positive = weights_positive c.loop-i.state.weights.items state.weights;
       cheapest = subst (λ (l : List ℕ). AreCheapest l fixed (paths_in s)) c.deref.ensures.value taken.cheapest;
     }
     in (
-      c.take_sweep.ensures.rates,
+      c.take_sweep.ensures.state,
       elim (cases_lt i 10) [
         | inl lt ↦
             let same : i - 10 ≡ i + 1 - 10 = omega (arith, lt) in

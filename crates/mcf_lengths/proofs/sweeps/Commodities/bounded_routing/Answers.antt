@@ -18,9 +18,9 @@ greatest_utilisation-requires-clause-demands c =
 pub returns-then-most-eq0-clause-lengths : goal.returns-then-most-eq0-clause-lengths
 returns-then-most-eq0-clause-lengths c =
     let net = c.args.self.now.net.now in
-    subst (AreLengths net) (sym c.new.ensures) (offered_lengths net c.in_ok-rates.rates c.in_ok-rates.ensures)
+    subst (AreLengths net) (sym c.new.ensures) (offered_lengths net c.in_ok-state.state c.in_ok-state.ensures)
 
 pub returns-clause-lengths : goal.returns-clause-lengths
 returns-clause-lengths c =
     let net = c.args.self.now.net.now in
-    subst (AreLengths net) (sym c.new-2.ensures) (offered_lengths net c.best_routing.new.rates c.best_routing.ensures.rates)
+    subst (AreLengths net) (sym c.new-2.ensures) (offered_lengths net c.best_routing.new.state c.best_routing.ensures.state)

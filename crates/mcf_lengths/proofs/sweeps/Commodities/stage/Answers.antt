@@ -51,7 +51,7 @@ loop-i-preserved c =
     let sweeps = c.loop-i.sweeps.items in
     let s : Sweep = record { weight = c.in_ok-weight.weight; paths = c.in_ok-paths.paths.items } in
     let far = c.loop-i.invariant.1 in (
-      c.take_sweep.ensures.rates,
+      c.take_sweep.ensures.state,
       elim (cases_lt i 10) [
         | inl lt ↦
             let same : i - 10 ≡ i + 1 - 10 = omega (arith, lt) in

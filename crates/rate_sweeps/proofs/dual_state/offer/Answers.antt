@@ -1,0 +1,72 @@
+use Rattle.std.proofs.Common.{inl, inr, ℕ, ◌^◌, List, length, arith, refl, ap, sym, ◌∙◌, subst}
+use Rattle.std.proofs.lemmas.List.{with_items_is}
+use Rattle.centred_steps.specs.Loads.{AreLoadsWithin}
+use Rattle.centred_steps.specs.Weights.{AreWeightsUpTo}
+use Rattle.rate_sweeps.proofs.dual_state.offer.Goals as goal
+
+pub returns-in_err-state-clause-state : goal.returns-in_err-state-clause-state
+returns-in_err-state-clause-state c =
+    let is = with_items_is c.args.state.now.loads c.centre_under-centre.new.loads (omega (arith, c.centre_under-centre.auto.loads, c.deref_mut.ensures.len)) in
+    record {
+      count = c.requires.state.count;
+      weights = c.requires.state.weights;
+      loads = subst (AreLoadsWithin c.args.net.now) (sym is) c.centre_under-centre.ensures.within;
+      lengths_count = c.requires.state.lengths_count;
+      lengths = c.requires.state.lengths;
+    }
+
+pub returns-in_err-state-clause-better : goal.returns-in_err-state-clause-better
+returns-in_err-state-clause-better c = inl (refl, refl)
+
+pub returns-in_err-state-clause-loads : goal.returns-in_err-state-clause-loads
+returns-in_err-state-clause-loads c =
+    with_items_is c.args.state.now.loads c.centre_under-centre.new.loads (omega (arith, c.centre_under-centre.auto.loads, c.deref_mut.ensures.len))
+    ∙ c.centre_under-centre.ensures.loads
+
+pub returns-in_err-state-clause-weights : goal.returns-in_err-state-clause-weights
+returns-in_err-state-clause-weights c = refl
+
+pub returns-in_ok-state-clause-state : goal.returns-in_ok-state-clause-state
+returns-in_ok-state-clause-state c =
+    let is = with_items_is c.args.state.now.loads c.centre_under-centre.new.loads (omega (arith, c.centre_under-centre.auto.loads, c.deref_mut.ensures.len)) in
+    let kept = sym {A = List ℕ} c.in_ok-state.ensures.items in
+    record {
+      count = c.requires.state.count;
+      weights = c.requires.state.weights;
+      loads = subst (AreLoadsWithin c.args.net.now) (sym is) c.centre_under-centre.ensures.within;
+      lengths_count = ap (λ (l : List ℕ). length l) (sym kept) ∙ c.requires.count;
+      lengths = subst (AreWeightsUpTo (2 ^ 27)) kept c.requires.lengths;
+    }
+
+pub returns-in_ok-state-clause-better : goal.returns-in_ok-state-clause-better
+returns-in_ok-state-clause-better c = inr (c.if-centre-state.true, c.in_ok-state.ensures.items)
+
+pub returns-in_ok-state-clause-loads : goal.returns-in_ok-state-clause-loads
+returns-in_ok-state-clause-loads c =
+    with_items_is c.args.state.now.loads c.centre_under-centre.new.loads (omega (arith, c.centre_under-centre.auto.loads, c.deref_mut.ensures.len))
+    ∙ c.centre_under-centre.ensures.loads
+
+pub returns-in_ok-state-clause-weights : goal.returns-in_ok-state-clause-weights
+returns-in_ok-state-clause-weights c = refl
+
+pub returns-else-centre-state-clause-state : goal.returns-else-centre-state-clause-state
+returns-else-centre-state-clause-state c =
+    let is = with_items_is c.args.state.now.loads c.centre_under-centre.new.loads (omega (arith, c.centre_under-centre.auto.loads, c.deref_mut.ensures.len)) in
+    record {
+      count = c.requires.state.count;
+      weights = c.requires.state.weights;
+      loads = subst (AreLoadsWithin c.args.net.now) (sym is) c.centre_under-centre.ensures.within;
+      lengths_count = c.requires.state.lengths_count;
+      lengths = c.requires.state.lengths;
+    }
+
+pub returns-else-centre-state-clause-better : goal.returns-else-centre-state-clause-better
+returns-else-centre-state-clause-better c = inl (refl, refl)
+
+pub returns-else-centre-state-clause-loads : goal.returns-else-centre-state-clause-loads
+returns-else-centre-state-clause-loads c =
+    with_items_is c.args.state.now.loads c.centre_under-centre.new.loads (omega (arith, c.centre_under-centre.auto.loads, c.deref_mut.ensures.len))
+    ∙ c.centre_under-centre.ensures.loads
+
+pub returns-else-centre-state-clause-weights : goal.returns-else-centre-state-clause-weights
+returns-else-centre-state-clause-weights c = refl
