@@ -9,13 +9,13 @@ use Rattle.cert_text.proofs.Laws.{one_spelling}
 use Rattle.text_size.proofs.ValidSizes.{fits_file}
 use Rattle.command_frame.specs.Files.{told_files, told_passes}
 use Rattle.command_frame.specs.Reading.{Means, MeansAfter, Reading, reads}
-use Rattle.te_command.specs.CertificateFile.{certificates, GivesCertificate}
-use Rattle.te_command.specs.Check.{IsVerdict, yes_line}
+use Rattle.command_files.specs.CertificateFile.{certificates, GivesCertificate}
+use Rattle.command_files.specs.Check.{IsVerdict, yes_line}
 use Rattle.te_command.specs.Commands.{check, convert, reading_of}
 use Rattle.te_command.specs.Converted.{SayYesAlike}
 use Rattle.command_frame.proofs.Ending.{some_once}
-use Rattle.te_command.proofs.Converting.{spells_upgraded}
-use Rattle.te_command.proofs.Regular.{spelled_accepted}
+use Rattle.certificate_commands.proofs.Converting.{spells_upgraded}
+use Rattle.command_files.proofs.Regular.{spelled_accepted}
 
 no_kept : (c : Certificate) (line : List ℕ) → IsVerdict c 1 line → IsVerdict (upgraded_certificate c) 1 line
 no_kept c line (inl holds) = absurd (omega (arith, holds.0))

@@ -15,12 +15,12 @@ use Rattle.hose_bound.proofs.ShortTexts.{hose_texts_are_short}
 use Rattle.ratio_checker.proofs.FormedHeads.{head_formed}
 use Rattle.command_frame.specs.Files.{told_files, told_passes}
 use Rattle.command_frame.specs.Reading.{Means, MeansAfter}
-use Rattle.te_command.specs.BoundHose.{bounds_reading, SaysYesToHose}
-use Rattle.te_command.specs.CheckHose.{hose_cert_reading}
+use Rattle.routing_commands.specs.BoundHose.{bounds_reading, SaysYesToHose}
+use Rattle.routing_commands.specs.CheckHose.{hose_cert_reading}
 use Rattle.te_command.specs.Commands.{bound_hose, check_hose, convert, reading_of}
-use Rattle.te_command.specs.InputFile.{input_limit}
+use Rattle.command_files.specs.InputFile.{input_limit}
 use Rattle.te_command.proofs.Alike.{after_conversion, before_conversion}
-use Rattle.te_command.proofs.Streaming.{spelled_head}
+use Rattle.command_files.proofs.Streaming.{spelled_head}
 
 -- of a head no more counts than its network and its routes
 

@@ -17,14 +17,14 @@ use Rattle.fault_rates.proofs.Answered.{protection_is_yes, text_means}
 use Rattle.fault_rates.proofs.ShortTexts.{rate_texts_are_short}
 use Rattle.command_frame.specs.Files.{told_files, told_passes}
 use Rattle.command_frame.specs.Reading.{Means, MeansAfter}
-use Rattle.te_command.specs.CheckRates.{rates_reading}
+use Rattle.routing_commands.specs.CheckRates.{rates_reading}
 use Rattle.te_command.specs.Commands.{check_rates, convert, protect, reading_of}
-use Rattle.te_command.specs.DemandReading.{with_matrices}
-use Rattle.te_command.specs.InputFile.{input_limit}
-use Rattle.te_command.specs.Protect.{grants_reading}
+use Rattle.command_files.specs.DemandReading.{with_matrices}
+use Rattle.command_files.specs.InputFile.{input_limit}
+use Rattle.routing_commands.specs.Protect.{grants_reading}
 use Rattle.te_command.proofs.Alike.{after_conversion}
-use Rattle.te_command.proofs.HeadCounts.{head_has_few_pairs, head_has_few_paths}
-use Rattle.te_command.proofs.Streaming.{spelled_head}
+use Rattle.routing_commands.proofs.HeadCounts.{head_has_few_pairs, head_has_few_paths}
+use Rattle.command_files.proofs.Streaming.{spelled_head}
 
 -- ---- of a head no more counts than its network and its routes
 

@@ -6,28 +6,28 @@ use Rattle.std.proofs.lemmas.Bool.{leb-true}
 use Rattle.command_frame.specs.Table.{OfWords, IsSoundEntry, IsSoundTable}
 use Rattle.step_detail.specs.declared.breakdown.Breakdown.{Breakdown}
 use Rattle.step_detail.specs.declared.breakdown.Breakdown.TheVariants.{Links, Pairs, Paths}
-use Rattle.te_command.specs.BreakDown.{step_number}
-use Rattle.te_command.specs.DecimalNumber.{decimal_number}
-use Rattle.te_command.specs.Generate.{drawn_of, nodes_and_seed}
-use Rattle.te_command.specs.Protect.{failures_of, few_failures}
+use Rattle.plan_commands.specs.BreakDown.{step_number}
+use Rattle.command_files.specs.DecimalNumber.{decimal_number}
+use Rattle.plan_commands.specs.Generate.{drawn_of, nodes_and_seed}
+use Rattle.routing_commands.specs.Protect.{failures_of, few_failures}
 use Rattle.te_command.specs.Commands.{Command, attack, bound_hose, bound_links, break_down, challenge, check, check_hose, check_network, check_rates, check_witness, convert, protect, publish, reprice, run, generate, tighten, update, command_of, entry_of, commands}
-use Rattle.te_command.proofs.Attacking.{attack_is_sound}
-use Rattle.te_command.proofs.Challenging.{challenge_is_sound}
-use Rattle.te_command.proofs.Checking.{check_is_sound, check_network_is_sound}
-use Rattle.te_command.proofs.BoundingHoses.{bound_hose_is_sound}
-use Rattle.te_command.proofs.Bounding.{bounds_is_sound}
-use Rattle.te_command.proofs.CheckingHoses.{check_hose_is_sound}
-use Rattle.te_command.proofs.CheckingRates.{check_rates_is_sound}
-use Rattle.te_command.proofs.CheckingWitnesses.{check_witness_is_sound}
-use Rattle.te_command.proofs.Converting.{convert_is_sound}
-use Rattle.te_command.proofs.Publishing.{publish_is_sound}
-use Rattle.te_command.proofs.Reporting.{run_is_sound}
-use Rattle.te_command.proofs.Repricing.{reprice_is_sound}
-use Rattle.te_command.proofs.Drawing.{generate_is_sound, nodes_drawn}
-use Rattle.te_command.proofs.Protecting.{protect_is_sound}
-use Rattle.te_command.proofs.Tightening.{tighten_is_sound}
-use Rattle.te_command.proofs.Updating.{update_is_sound}
-use Rattle.te_command.proofs.BreakingDown.{break_down_is_sound}
+use Rattle.certificate_commands.proofs.Attacking.{attack_is_sound}
+use Rattle.certificate_commands.proofs.Challenging.{challenge_is_sound}
+use Rattle.certificate_commands.proofs.Checking.{check_is_sound, check_network_is_sound}
+use Rattle.routing_commands.proofs.BoundingHoses.{bound_hose_is_sound}
+use Rattle.certificate_commands.proofs.Bounding.{bounds_is_sound}
+use Rattle.routing_commands.proofs.CheckingHoses.{check_hose_is_sound}
+use Rattle.routing_commands.proofs.CheckingRates.{check_rates_is_sound}
+use Rattle.certificate_commands.proofs.CheckingWitnesses.{check_witness_is_sound}
+use Rattle.certificate_commands.proofs.Converting.{convert_is_sound}
+use Rattle.plan_commands.proofs.Publishing.{publish_is_sound}
+use Rattle.plan_commands.proofs.Reporting.{run_is_sound}
+use Rattle.certificate_commands.proofs.Repricing.{reprice_is_sound}
+use Rattle.plan_commands.proofs.Drawing.{generate_is_sound, nodes_drawn}
+use Rattle.routing_commands.proofs.Protecting.{protect_is_sound}
+use Rattle.certificate_commands.proofs.Tightening.{tighten_is_sound}
+use Rattle.routing_commands.proofs.Updating.{update_is_sound}
+use Rattle.plan_commands.proofs.BreakingDown.{break_down_is_sound}
 
 entry_is_sound : (command : Command) → IsSoundEntry (entry_of command)
 entry_is_sound (attack file) = attack_is_sound file

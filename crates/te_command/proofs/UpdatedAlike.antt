@@ -10,7 +10,7 @@ use Rattle.update_plan.specs.Answer.{IsUpdateText}
 use Rattle.command_frame.specs.Files.{told_files, told_passes}
 use Rattle.command_frame.specs.Reading.{Means, MeansAfter}
 use Rattle.te_command.specs.Commands.{convert, reading_of, update}
-use Rattle.te_command.specs.Update.{matrices_reading, newer_reading}
+use Rattle.routing_commands.specs.Update.{matrices_reading, newer_reading}
 use Rattle.te_command.proofs.Alike.{after_conversion}
 
 -- of a head no more counts than its network and its routes

@@ -16,9 +16,9 @@ use Rattle.ratio_witness.specs.Text.{IsWitnessOf, IsWitnessRuleFault}
 use Rattle.ratio_witness.specs.Verdict.{is_between, is_in_set, shows_bound, verdict_fault, verdict_of}
 use Rattle.command_frame.specs.Files.{told_files, told_passes}
 use Rattle.command_frame.specs.Reading.{Means, MeansAfter}
-use Rattle.te_command.specs.CheckWitness.{witness_reading}
+use Rattle.certificate_commands.specs.CheckWitness.{witness_reading}
 use Rattle.te_command.specs.Commands.{check_witness, convert, reading_of}
-use Rattle.te_command.specs.WitnessFile.{GivesWitness}
+use Rattle.command_files.specs.WitnessFile.{GivesWitness}
 use Rattle.te_command.proofs.Alike.{after_conversion}
 
 -- ---- the verdict is that by the box of the set

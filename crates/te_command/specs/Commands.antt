@@ -6,23 +6,23 @@ use Rattle.command_frame.specs.Reading.{Reading}
 use Rattle.command_frame.specs.Table.{Entry, TableOf}
 use Rattle.step_detail.specs.declared.breakdown.Breakdown.{Breakdown}
 use Rattle.step_detail.specs.declared.breakdown.Breakdown.TheVariants.{Links, Pairs, Paths}
-use Rattle.te_command.specs.Attack.{attack_entry}
-use Rattle.te_command.specs.BoundHose.{bound_hose_entry}
-use Rattle.te_command.specs.Bounds.{bounds_entry}
-use Rattle.te_command.specs.BreakDown.{break_down_entry, step_number}
-use Rattle.te_command.specs.Challenge.{challenge_entry}
-use Rattle.te_command.specs.Check.{check_entry, check_network_entry}
-use Rattle.te_command.specs.CheckHose.{check_hose_entry}
-use Rattle.te_command.specs.CheckRates.{check_rates_entry}
-use Rattle.te_command.specs.CheckWitness.{check_witness_entry}
-use Rattle.te_command.specs.Convert.{convert_entry}
-use Rattle.te_command.specs.Generate.{drawn_of, generate_entry}
-use Rattle.te_command.specs.Protect.{failures_of, protect_entry}
-use Rattle.te_command.specs.Publish.{publish_entry}
-use Rattle.te_command.specs.Report.{run_entry}
-use Rattle.te_command.specs.Reprice.{reprice_entry}
-use Rattle.te_command.specs.Tighten.{tighten_entry}
-use Rattle.te_command.specs.Update.{update_entry}
+use Rattle.certificate_commands.specs.Attack.{attack_entry}
+use Rattle.routing_commands.specs.BoundHose.{bound_hose_entry}
+use Rattle.certificate_commands.specs.Bounds.{bounds_entry}
+use Rattle.plan_commands.specs.BreakDown.{break_down_entry, step_number}
+use Rattle.certificate_commands.specs.Challenge.{challenge_entry}
+use Rattle.command_files.specs.Check.{check_entry, check_network_entry}
+use Rattle.routing_commands.specs.CheckHose.{check_hose_entry}
+use Rattle.routing_commands.specs.CheckRates.{check_rates_entry}
+use Rattle.certificate_commands.specs.CheckWitness.{check_witness_entry}
+use Rattle.certificate_commands.specs.Convert.{convert_entry}
+use Rattle.plan_commands.specs.Generate.{drawn_of, generate_entry}
+use Rattle.routing_commands.specs.Protect.{failures_of, protect_entry}
+use Rattle.plan_commands.specs.Publish.{publish_entry}
+use Rattle.plan_commands.specs.Report.{run_entry}
+use Rattle.certificate_commands.specs.Reprice.{reprice_entry}
+use Rattle.certificate_commands.specs.Tighten.{tighten_entry}
+use Rattle.routing_commands.specs.Update.{update_entry}
 
 -- what is asked for: of `attack`, `challenge`, `check`, `check-witness` and `convert`, the name of the certificate, and of `check` that of the topology
 -- where one is given, of `check-witness` that of the witness; of `publish` and `run`, the name of the plan; of `gen`, the number of nodes and

@@ -4,7 +4,7 @@ use Rattle.te_model.specs.declared.demand.DemandSet.{DemandSet}
 use Rattle.te_model.specs.Upgrade.{box_of}
 use Rattle.command_frame.specs.Files.{told_files}
 use Rattle.command_frame.specs.Reading.{Means}
-use Rattle.te_command.specs.Check.{yes_line}
+use Rattle.command_files.specs.Check.{yes_line}
 use Rattle.te_command.specs.Commands.{convert, reading_of}
 
 -- both are told, the second as what `convert` answers of the first

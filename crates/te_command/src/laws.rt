@@ -8,9 +8,9 @@ ghost use Rattle.command_frame.specs.Files.{Span, span, given_files, told_files,
 ghost use Rattle.command_frame.specs.Reading.{IsTold, Means, MeansStatus, Proves, ReadFailed, RefusesUntold};
 ghost use Rattle.command_frame.specs.Order.{ReadsAlong, AsksNext};
 ghost use Rattle.te_command.specs.Commands.{Command, attack, bound_hose, challenge, check, check_hose, check_network, check_rates, check_witness, protect, reprice, tighten, update, reading_of, MeansOneText};
-ghost use Rattle.te_command.specs.Attack.{SaysYesTo};
-ghost use Rattle.te_command.specs.BoundHose.{SaysYesToHose};
-ghost use Rattle.te_command.specs.Challenge.{ShowsNoLess};
+ghost use Rattle.certificate_commands.specs.Attack.{SaysYesTo};
+ghost use Rattle.routing_commands.specs.BoundHose.{SaysYesToHose};
+ghost use Rattle.certificate_commands.specs.Challenge.{ShowsNoLess};
 ghost use Rattle.te_command.specs.Run.{OfToldCommand};
 ghost use Rattle.te_command.specs.Converted.{AreConverted, SayYesAlike};
 

@@ -1,14 +1,7 @@
-//! The commands of the program, from the arguments to the status.
+//! The program's table of commands, and the top call over it, from the arguments to the status.
 #![tactic(auto)]
 
-mod answer;
-mod certificates;
-mod commands;
-mod inputs;
-mod kind;
 pub mod laws;
-mod number;
-mod reasons;
 mod serving;
 mod top;
 mod words;

@@ -3,14 +3,14 @@ ghost use Rattle.std.specs.Prelude.{◌≡◌, [], ◌∷◌, map, string_bytes}
 ghost use Rattle.std.specs.Option.{option_map};
 ghost use Rattle.te_command.specs.Commands.{break_down, command_of};
 ghost use Rattle.te_command.specs.Asked.{command_meant};
-ghost use Rattle.te_command.specs.BreakDown.{step_number};
+ghost use Rattle.plan_commands.specs.BreakDown.{step_number};
 
-use crate::commands::{
-    Attack, BoundHose, Bounds, BreakDown, Challenge, Check, CheckHose, CheckNetwork, CheckRates,
-    CheckWitness, Convert, Generate, Protect, Publish, Reprice, RunPlan, Tighten, Update,
-    failures_of, generate_of, step_of,
+use certificate_commands::{
+    Attack, Bounds, Challenge, Check, CheckNetwork, CheckWitness, Convert, Reprice, Tighten,
 };
 use command_frame::{Answer, Ask, Fault, Table};
+use plan_commands::{BreakDown, Generate, Publish, RunPlan, generate_of, step_of};
+use routing_commands::{BoundHose, CheckHose, CheckRates, Protect, Update, failures_of};
 use std::alloc::Global;
 use step_detail::Breakdown;
 use te_ports::Depot;

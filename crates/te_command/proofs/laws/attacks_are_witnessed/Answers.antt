@@ -1,4 +1,4 @@
-use Rattle.te_command.proofs.Attacking.{attacks_are_witnessed}
+use Rattle.certificate_commands.proofs.Attacking.{attacks_are_witnessed}
 use Rattle.te_command.proofs.WitnessedAlike.{witnessed_alike}
 use Rattle.te_command.proofs.laws.attacks_are_witnessed.Goals as goal
 

@@ -1,4 +1,4 @@
-use Rattle.te_command.proofs.Challenging.{challenges_are_witnessed}
+use Rattle.certificate_commands.proofs.Challenging.{challenges_are_witnessed}
 use Rattle.te_command.proofs.WitnessedAlike.{witnessed_alike}
 use Rattle.te_command.proofs.laws.challenges_are_witnessed.Goals as goal
 

@@ -1,4 +1,4 @@
-use Rattle.te_command.proofs.Repricing.{yes_alone, yes_of_topology}
+use Rattle.certificate_commands.proofs.Repricing.{yes_alone, yes_of_topology}
 use Rattle.te_command.proofs.laws.repriced_files_are_answered_yes.Goals as goal
 
 pub returns-clause-alone : goal.returns-clause-alone

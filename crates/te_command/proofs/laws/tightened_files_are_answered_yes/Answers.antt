@@ -1,4 +1,4 @@
-use Rattle.te_command.proofs.Tightening.{tightened_yes}
+use Rattle.certificate_commands.proofs.Tightening.{tightened_yes}
 use Rattle.te_command.proofs.laws.tightened_files_are_answered_yes.Goals as goal
 
 pub returns : goal.returns

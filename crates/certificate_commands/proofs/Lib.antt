@@ -1,0 +1,10 @@
+pub mod Verdict
+pub mod Checking
+pub mod CheckingWitnesses
+pub mod Converting
+pub mod Bounding
+pub mod BoundsAnswers
+pub mod Repricing
+pub mod Tightening
+pub mod Attacking
+pub mod Challenging

@@ -1,0 +1,24 @@
+use Rattle.std.proofs.Common.{Ok, Err}
+use Rattle.std.proofs.lemmas.Result.{err_from_is_err_and}
+use Rattle.te_model.specs.declared.certificate.Certificate.{Certificate}
+use Rattle.command_frame.specs.declared.answer.Fault.TheVariants.{Memory}
+use Rattle.command_frame.specs.Reading.{answers}
+use Rattle.command_files.specs.CertificateFile.{certificates}
+use Rattle.certificate_commands.specs.Tighten.{tightening_of}
+use Rattle.command_frame.proofs.Following.{goes_on, ends, falls_short}
+use Rattle.certificate_commands.proofs.tighten.TightenAsk.answer.Goals as goal
+
+pub returns-in_err-tightened_answer : goal.returns-in_err-tightened_answer
+returns-in_err-tightened_answer g c =
+    let p = err_from_is_err_and c.from_residual-in_err-tightened_answer.result c.from_residual-in_err-tightened_answer.ensures.1 in
+    let spelled = c.in_ok-spelled.spelled in
+    rw (p.1, p.2)
+    (goes_on Certificate certificates c.args.self.now.certificate.now (λ spelled. answers (tightening_of spelled)) spelled _ _ _ (Err Memory)
+    c.in_ok-spelled.ensures.reads (falls_short (answers (tightening_of spelled)) _))
+
+pub returns : goal.returns
+returns g c =
+    let spelled = c.in_ok-spelled.spelled in
+    goes_on Certificate certificates c.args.self.now.certificate.now (λ spelled. answers (tightening_of spelled)) spelled _ _ _
+    (Ok c.in_ok-tightened_answer.field-0) c.in_ok-spelled.ensures.reads
+    (ends (tightening_of spelled) _ c.in_ok-tightened_answer.field-0 c.in_ok-tightened_answer.ensures)

@@ -1,0 +1,4 @@
+pub mod Publishing
+pub mod Reporting
+pub mod BreakingDown
+pub mod Drawing

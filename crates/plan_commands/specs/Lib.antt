@@ -1,0 +1,4 @@
+pub mod Generate
+pub mod Publish
+pub mod Report
+pub mod BreakDown

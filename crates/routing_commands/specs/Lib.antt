@@ -1,0 +1,5 @@
+pub mod CheckRates
+pub mod Protect
+pub mod CheckHose
+pub mod BoundHose
+pub mod Update

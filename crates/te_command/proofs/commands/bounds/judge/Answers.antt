@@ -1,4 +1,0 @@
-use Rattle.te_command.proofs.commands.bounds.judge.Goals as goal
-
-pub returns : goal.returns
-returns c = c.answer_to.ensures c.args.certificate c.in_ok-bounds.ensures

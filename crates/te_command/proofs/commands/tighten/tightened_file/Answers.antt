@@ -1,5 +1,0 @@
-use Rattle.std.proofs.Common.{refl}
-use Rattle.te_command.proofs.commands.tighten.tightened_file.Goals as goal
-
-pub returns : goal.returns
-returns c = (refl, (c.in_ok-tighter.tighter, c.in_ok-tighter.ensures.tightened, c.in_ok-file.ensures.spelling))
