@@ -31,10 +31,52 @@ pub const CHECK: Command<'static> = Command {
     publishes: false,
 };
 
+pub const CHECK_NETWORK: Command<'static> = Command {
+    words: &["check", "c", "t"],
+    names: &["c", "t"],
+    publishes: false,
+};
+
 pub const CHECK_WITNESS: Command<'static> = Command {
     words: &["check-witness", "c", "w"],
     names: &["c", "w"],
     publishes: false,
+};
+
+pub const ATTACK: Command<'static> = Command {
+    words: &["attack", "c"],
+    names: &["c"],
+    publishes: false,
+};
+
+pub const CHALLENGE: Command<'static> = Command {
+    words: &["challenge", "c"],
+    names: &["c"],
+    publishes: false,
+};
+
+pub const CONVERT: Command<'static> = Command {
+    words: &["convert", "c"],
+    names: &["c"],
+    publishes: false,
+};
+
+pub const LINK_BOUNDS: Command<'static> = Command {
+    words: &["bounds", "c"],
+    names: &["c"],
+    publishes: false,
+};
+
+pub const REPRICE: Command<'static> = Command {
+    words: &["reprice", "c", "t"],
+    names: &["c", "t"],
+    publishes: false,
+};
+
+pub const TIGHTEN: Command<'static> = Command {
+    words: &["tighten", "c"],
+    names: &["c"],
+    publishes: true,
 };
 
 pub const UPDATE: Command<'static> = Command {
@@ -79,9 +121,26 @@ pub const RUN: Command<'static> = Command {
     publishes: false,
 };
 
+pub const LINKS: Command<'static> = Command {
+    words: &["links", "p", "1"],
+    names: &["p", "t", "m", "f"],
+    publishes: false,
+};
+
+pub const PAIRS: Command<'static> = Command {
+    words: &["pairs", "p", "1"],
+    ..LINKS
+};
+
 pub const PATHS: Command<'static> = Command {
     words: &["paths", "p", "1"],
-    names: &["p", "t", "m", "f"],
+    ..LINKS
+};
+
+/// A network of two nodes is drawn, and no file is read.
+pub const GENERATE: Command<'static> = Command {
+    words: &["gen", "2", "0"],
+    names: &[],
     publishes: false,
 };
 
@@ -91,27 +150,11 @@ pub struct Call<'a> {
     pub command: Command<'a>,
     pub files: Files<'a>,
     pub read: usize,
-    pub failing_fetch: Option<u64>,
-    pub failing_put: Option<u64>,
-    pub room_of_err: usize,
     pub status: u8,
     /// All that stands in `out`, or a text in the certificate that is published.
     pub out: &'a str,
     pub err: &'a str,
 }
-
-/// A call whose second read fails, which would find the end of its first file.
-pub const SECOND_READ_FAILS: Call<'static> = Call {
-    command: CHECK,
-    files: &[],
-    read: 0,
-    failing_fetch: Some(1),
-    failing_put: None,
-    room_of_err: 200,
-    status: 4,
-    out: "",
-    err: "fault: read\n",
-};
 
 /// What a call left.
 #[derive(Drop)]
@@ -129,9 +172,6 @@ pub fn says<'a>(command: Command<'a>, row: Row<'a>) -> Call<'a> {
         command,
         files,
         read,
-        failing_fetch: None,
-        failing_put: None,
-        room_of_err: 200,
         status,
         out: if answers { text } else { "" },
         err: if answers { "" } else { text },
@@ -174,23 +214,16 @@ pub fn depot_of(
     Ok(depot)
 }
 
-fn depot_for(alloc: Global, call: &Call<'_>, piece: usize) -> Result<MemDepot, Fail>
+/// The files of the call, in pieces of so many bytes.
+pub fn depot_for(alloc: Global, call: &Call<'_>, piece: usize) -> Result<MemDepot, Fail>
     requires { 1 ≤ piece }
 {
-    let mut depot = depot_of(alloc, call.command.names, call.files, piece)?;
-    if let Some(fetch) = call.failing_fetch {
-        depot.fail_at(fetch)?;
-    }
-    Ok(depot)
+    depot_of(alloc, call.command.names, call.files, piece)
 }
 
-/// An `out` which takes 4 bytes at once.
-fn out_for(alloc: Global, call: &Call<'_>) -> Result<MemSink, Fail> {
-    let mut out = MemSink::new(alloc, 2000, 4)?;
-    if let Some(put) = call.failing_put {
-        out.fail_at(put)?;
-    }
-    Ok(out)
+/// An `out` with room for what any call here writes, which takes 4 bytes at once.
+pub fn large_out(alloc: Global) -> Result<MemSink, Fail> {
+    Ok(MemSink::new(alloc, 2000, 4)?)
 }
 
 pub fn strings_of(alloc: Global, words: &[&str]) -> Result<Vec<String>, Fail> {
@@ -202,7 +235,7 @@ pub fn strings_of(alloc: Global, words: &[&str]) -> Result<Vec<String>, Fail> {
 }
 
 /// What the words leave over this depot, in an `out` and an `err` with so much room.
-fn outcome_of<D: Depot>(
+pub fn outcome_of<D: Depot>(
     alloc: Global,
     words: &[&str],
     depot: &mut D,
@@ -243,7 +276,7 @@ fn is_certificate_with(alloc: Global, out: &[u8], part: &str) -> Result<bool, Fa
 }
 
 /// The call left what it has to.
-fn is_due(alloc: Global, call: &Call<'_>, left: &Outcome) -> Result<bool, Fail> {
+pub fn is_due(alloc: Global, call: &Call<'_>, left: &Outcome) -> Result<bool, Fail> {
     let is_told = (left.status == call.status) & (left.err.bytes() == call.err.as_bytes());
     let out = left.out.bytes();
     if call.command.publishes & (call.status == 0) {
@@ -254,8 +287,8 @@ fn is_due(alloc: Global, call: &Call<'_>, left: &Outcome) -> Result<bool, Fail> 
 
 /// The call over this depot leaves what it has to.
 pub fn leaves_over<D: Depot>(alloc: Global, call: &Call<'_>, depot: &mut D) -> Result<bool, Fail> {
-    let out = out_for(alloc, call)?;
-    let left = outcome_of(alloc, call.command.words, depot, out, call.room_of_err)?;
+    let out = large_out(alloc)?;
+    let left = outcome_of(alloc, call.command.words, depot, out, 200)?;
     is_due(alloc, call, &left)
 }
 
@@ -317,8 +350,7 @@ pub fn follow_each_other(reads: &[Entry]) -> bool {
     true
 }
 
-/// The reads gave the files that the call reads, each from its start to its end, in order. After them stands at most a part
-/// of a file of which a read failed.
+/// The reads gave the files that the call reads, each from its start to its end, in order, and nothing of a file that cannot be read.
 fn are_reads_of(alloc: Global, call: &Call<'_>, reads: &[Entry]) -> Result<bool, Fail> {
     let mut read_files: usize = 0;
     let mut is_between_files = true;
@@ -336,18 +368,10 @@ fn are_reads_of(alloc: Global, call: &Call<'_>, reads: &[Entry]) -> Result<bool,
 }
 
 /// Makes the call over files that are told, and again over files of which the reads are on record.
-pub fn leaves(rt: &impl Abort, alloc: Global, call: &Call<'_>) -> Result<(), Fail> {
+fn leaves(rt: &impl Abort, alloc: Global, call: &Call<'_>) -> Result<(), Fail> {
     let holds = leaves_over_told(alloc, call, 64)? && leaves_over_record(alloc, call)?;
     let (out, err) = (call.out, call.err);
     assert!(rt; holds, "{out}{err}");
-    Ok(())
-}
-
-/// Makes each of the calls.
-pub fn all_leave(rt: &impl Abort, alloc: Global, calls: &[Call<'_>]) -> Result<(), Fail> {
-    for call in calls {
-        leaves(rt, alloc, call)?;
-    }
     Ok(())
 }
 

@@ -1,8 +1,8 @@
 //! A few calls of each command over files that are told, that are on record, and that come byte by byte. The tables of all
 //! calls are data, `tools/lab/calls.py`, on which the built program is run.
 use crate::call::{
-    BOUND_HOSE, CHECK, CHECK_HOSE, CHECK_RATES, CHECK_WITNESS, Command, PATHS, PROTECT, PUBLISH,
-    RUN, Row, UPDATE, all_say,
+    BOUND_HOSE, CHECK, CHECK_HOSE, CHECK_NETWORK, CHECK_RATES, CHECK_WITNESS, CONVERT, Command,
+    LINK_BOUNDS, LINKS, PAIRS, PATHS, PROTECT, PUBLISH, REPRICE, RUN, Row, UPDATE, all_say,
 };
 use crate::texts::{
     BOUNDS, DEMAND, ENVELOPE, FAILURE, HOSE, LEADING_ZERO, LINE, LINK, NO_DEMANDS, PLAN, RATES,
@@ -11,21 +11,9 @@ use crate::texts::{
 };
 use std::test::Fail;
 
-const CHECK_NETWORK: Command<'static> = Command {
-    words: &["check", "c", "t"],
-    names: &["c", "t"],
-    publishes: false,
-};
-
 const CHECK_TWICE: Command<'static> = Command {
     words: &["check", "c", "c"],
     names: &["c", "c"],
-    publishes: false,
-};
-
-const CONVERT: Command<'static> = Command {
-    words: &["convert", "c"],
-    names: &["c"],
     publishes: false,
 };
 
@@ -72,6 +60,45 @@ const JUDGED: &[(Command<'static>, Row<'static>)] = &[
 #[test]
 fn certificates_are_judged(rt: HostRuntime) -> Result<(), Fail> {
     all_say(&rt, rt.alloc(), JUDGED)
+}
+
+/// The potential rises by more than the weight of the link.
+const STEEP: &[&str] = &[
+    "yates-ratio 1\nnodes 2\na\nb\nlinks 1\n0 1 10 1\npairs 1\n0 1 1\n1000000 1 0\nset all\n",
+    "ratio 1000000\nblocks 1\n0 1000000 1 1\n1\n0 0 2\nend\n",
+];
+
+/// Needs of links, and other capacities. The ratio of the certificate plays no part.
+const PRICED: &[(Command<'static>, Row<'static>)] = &[
+    (
+        LINK_BOUNDS,
+        (
+            &[SMALLEST_WITH_LESS],
+            1,
+            0,
+            "link,source,target,capacity,need\n0,a,b,10,1000000\n",
+        ),
+    ),
+    (LINK_BOUNDS, (&[STEEP], 1, 1, "no link 0 rule I1 place 1\n")),
+    (
+        LINK_BOUNDS,
+        (&[TWICE_A_NAME], 1, 3, "refused: c: rule V1 at 1\n"),
+    ),
+    (REPRICE, (&[SMALLEST_WITH_LESS, &[LINK]], 2, 0, SMALLEST)),
+    (
+        REPRICE,
+        (&[STEEP, &[LINK]], 2, 1, "no link 0 rule I1 place 1\n"),
+    ),
+    (
+        REPRICE,
+        (&[&[SMALLEST], &[LINE]], 2, 3, "refused: t: not the links\n"),
+    ),
+    (REPRICE, (&[&[SMALLEST]], 1, 4, "fault: read\n")),
+];
+
+#[test]
+fn capacities_are_taken(rt: HostRuntime) -> Result<(), Fail> {
+    all_say(&rt, rt.alloc(), PRICED)
 }
 
 /// Witnesses. The inequalities of the certificate are not tried.
@@ -422,16 +449,6 @@ const PLANS: &[(Command<'static>, Row<'static>)] = &[
         ),
     ),
 ];
-
-const LINKS: Command<'static> = Command {
-    words: &["links", "p", "1"],
-    ..PATHS
-};
-
-const PAIRS: Command<'static> = Command {
-    words: &["pairs", "p", "1"],
-    ..PATHS
-};
 
 const STEP_AFTER_LAST: Command<'static> = Command {
     words: &["paths", "p", "2"],
