@@ -1,4 +1,4 @@
-//! The publishing of the routing that sweeps find: the weights by which they end are offered to its certificate.
+//! The publishing of the routing that sweeps find: the weights that prove its ratio are offered to its certificate.
 ghost use Rattle.std.specs.Prelude.{◌≡◌, ◌<◌, ◌≤◌, IfOk, IfErr, OnOk, IsTrue, length};
 ghost use Rattle.te_model.specs.Network.{is_well_formed, link_count};
 ghost use Rattle.te_model.specs.Pairs.{AscendPairs};
@@ -15,7 +15,7 @@ ghost use Rattle.scheme.specs.Fault.{IsFault};
 ghost use Rattle.scheme.specs.Reach.{AllReached, ArePairsOf};
 
 use path_budget::trim;
-use ratio_certificate::{Offer, improve, make};
+use ratio_certificate::{Offer, make, refine};
 use robust_routing::{Robust, RobustPlan};
 use routing::Routing;
 use scheme::{Scheme, SchemeFault};
@@ -77,7 +77,7 @@ fn certify(
     ensures { IfOk result (IsMadeWithinAll net.now routing.now.routes set) }
 {
     if has_all_matrices(&set) {
-        improve(alloc, net, routing, set, offers)
+        refine(alloc, net, routing, set, offers)
     } else {
         make(alloc, net, routing, set)
     }
@@ -126,7 +126,7 @@ fn certificate_by(
 }
 
 /// A certificate of the routing of the pairs that `robust` finds over at most `budget` paths a pair. It is that of `publish`, but that
-/// for all matrices the weights by which the sweeps end are offered to it.
+/// for all matrices the weights by which the sweeps prove its ratio are offered to it.
 ///
 /// `NoPath` names the first pair without a path, exactly where there is one, and `Memory` comes where memory is wanting.
 pub fn publish_robust(

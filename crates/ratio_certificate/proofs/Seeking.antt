@@ -1,10 +1,11 @@
 -- Where a search for weights of a link stands at its start and after a sweep.
-use Rattle.std.proofs.Common.{◌≡◌, ℕ, ◌^◌, ◌≤◌, true, List, length, replicate, slice_index, arith, sym, subst, ◌∙◌}
-use Rattle.std.proofs.lemmas.List.{get_or-replicate, length-replicate}
+use Rattle.std.proofs.Common.{◌≡◌, ℕ, ◌^◌, ◌≤◌, true, List, [], ◌∷◌, ◌++◌, length, replicate, slice_index, arith, refl, sym, subst, ◌∙◌}
+use Rattle.std.proofs.lemmas.List.{get_or-replicate, length-replicate, length_push}
 use Rattle.te_model.specs.declared.network.Network.{Network}
 use Rattle.te_model.specs.declared.route.PairRoutes.{PairRoutes}
 use Rattle.te_model.specs.declared.demand.DemandSet.{DemandSet}
 use Rattle.te_model.specs.Network.{is_well_formed, link_count}
+use Rattle.te_model.proofs.Choices.{pushed_each}
 use Rattle.shortest_path.proofs.Values.{listed_small}
 use Rattle.best_blocks.specs.declared.metric.Metric.{Metric}
 use Rattle.best_blocks.specs.declared.sharing.SharedLink.{SharedLink}
@@ -22,6 +23,13 @@ movable_weights net weights count are = record {
   count = count;
   some = λ h below. are.some h (omega (arith, below, count));
   small = λ h below. let small = are.small h (omega (arith, below, count)) in omega (arith, small);
+}
+
+-- one weight more within the limit
+pub weights_more : (limit : ℕ) (weights : List ℕ) (w : ℕ) → AreWeightsUpTo limit weights → 1 ≤ w → w ≤ limit → AreWeightsUpTo limit (weights ++ w ∷ [])
+weights_more limit weights w are some small = record {
+  some = λ h below. pushed_each (λ k (x : ℕ). 1 ≤ x) weights w 0 (length weights) refl are.some some h (omega (arith, below, length_push weights w));
+  small = λ h below. pushed_each (λ k (x : ℕ). x ≤ limit) weights w 0 (length weights) refl are.small small h (omega (arith, below, length_push weights w));
 }
 
 -- the weights of round 0 may be moved by a step

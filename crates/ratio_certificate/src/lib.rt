@@ -3,7 +3,7 @@
 //! - `need`: how great a ratio a block needs.
 //! - `scale`: the best block of a link for given weights.
 //! - `make`: a certificate of a routing, of the best of sixteen rounds for each link, searched where it needs most, and polished.
-//!   `improve`: the same from weights that are offered for its blocks.
+//!   `improve`: the same from weights that are offered for its blocks. `refine`: by a shorter search, where these are near the best.
 #![tactic(auto)]
 
 mod changes;
@@ -22,5 +22,5 @@ mod weighting;
 
 pub use best_blocks::{need, scale};
 pub use law::{bounded_blocks_need_little_more, made_certificates_exist};
-pub use making::{improve, make};
+pub use making::{improve, make, refine};
 pub use offers::Offer;

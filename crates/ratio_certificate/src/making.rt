@@ -255,6 +255,7 @@ fn certify(
     set: DemandSet,
     format: u32,
     offers: &[Offer],
+    near_offers: bool,
 ) -> Result<Certificate, Memory>
     requires network { IsTrue (is_well_formed net.now) }
     requires links { 1 ≤ link_count net.now }
@@ -271,6 +272,7 @@ fn certify(
         routing,
         set: &set,
         first: &first,
+        near_offers,
     };
     let blocks = polished_blocks(alloc, &problem, offers)?;
     let ratio = greatest_need(net, &blocks) as u64;
@@ -279,6 +281,28 @@ fn certify(
         head,
         blocks: Items::new(blocks),
     })
+}
+
+/// A certificate in the format that `make` gives. Where offers may be near the best weights, the search may go on from them.
+fn certify_in_form(
+    alloc: Global,
+    net: &Network,
+    routing: &Routing,
+    set: DemandSet,
+    offers: &[Offer],
+    near_offers: bool,
+) -> Result<Certificate, Memory>
+    requires network { IsTrue (is_well_formed net.now) }
+    requires links { 1 ≤ link_count net.now }
+    requires routing { IsRoutingWithin net.now routing.now.routes }
+    requires set { IsSetWithin (length routing.now.routes) set }
+    requires offers { AreOffers net.now offers.now }
+    ensures made { IfOk result (IsMade net.now routing.now.routes set) }
+    ensures within { IfOk result (λ c. AreWithinOffers net.now routing.now.routes (made_set net.now set) offers.now c.blocks) }
+{
+    let format = made_format(net, &set);
+    let written = set_in(alloc, format, set)?;
+    certify(alloc, net, routing, written, format, offers, near_offers)
 }
 
 /// What `make` gives, where weights are offered for the blocks of links: no block needs more than the best block of each of
@@ -300,9 +324,29 @@ pub fn improve(
     ensures made { IfOk result (IsMade net.now routing.now.routes set) }
     ensures within { IfOk result (λ c. AreWithinOffers net.now routing.now.routes (made_set net.now set) offers.now c.blocks) }
 {
-    let format = made_format(net, &set);
-    let written = set_in(alloc, format, set)?;
-    certify(alloc, net, routing, written, format, offers)
+    certify_in_form(alloc, net, routing, set, offers, false)
+}
+
+/// What `improve` gives, by a shorter search where the weights that are offered for links are near their best ones: the search goes
+/// on by small steps from weights that need little more than those of the links before.
+///
+/// Each offer has a weight from 1 to 2^28 for each link of the network. `Memory` comes where memory is wanting.
+pub fn refine(
+    alloc: Global,
+    net: &Network,
+    routing: &Routing,
+    set: DemandSet,
+    offers: &[Offer],
+) -> Result<Certificate, Memory>
+    requires network { IsTrue (is_well_formed net.now) }
+    requires links { 1 ≤ link_count net.now }
+    requires routing { IsRoutingWithin net.now routing.now.routes }
+    requires set { IsSetWithin (length routing.now.routes) set }
+    requires offers { AreOffers net.now offers.now }
+    ensures made { IfOk result (IsMade net.now routing.now.routes set) }
+    ensures within { IfOk result (λ c. AreWithinOffers net.now routing.now.routes (made_set net.now set) offers.now c.blocks) }
+{
+    certify_in_form(alloc, net, routing, set, offers, true)
 }
 
 /// The weights that are found for all matrices, as offers for their links.
@@ -320,6 +364,7 @@ fn offers_of_all(alloc: Global, net: &Network, routing: &Routing) -> Result<Vec<
         routing,
         set: &set,
         first: &first,
+        near_offers: false,
     };
     let links = links_of(alloc, &problem)?;
     let list = polished_weightings(alloc, &problem, &links, &[])?;

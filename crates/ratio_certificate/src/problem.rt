@@ -11,4 +11,6 @@ pub struct Problem<'a> {
     pub set: &'a DemandSet,
     /// The metric of the starting weights, with a row for each node.
     pub first: &'a Metric,
+    /// Whether the weights that are offered for a link may be near its best ones.
+    pub near_offers: bool,
 }

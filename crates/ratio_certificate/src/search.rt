@@ -1,17 +1,20 @@
 //! The search for better weights of the links whose weights need most.
-ghost use Rattle.std.specs.Prelude.{◌≡◌, ◌<◌, ◌≤◌, OnOk, length, slice_set};
+ghost use Rattle.std.specs.Prelude.{◌≡◌, ◌<◌, ◌≤◌, IfOk, OnOk, length, slice_set};
 ghost use Rattle.ratio_certificate.specs.Form.{HasBounds};
 ghost use Rattle.ratio_certificate.specs.Places.{weighting_at};
-ghost use Rattle.ratio_certificate.specs.Problems.{AreLinksOf, AreWeightingsOf, IsMetricOfEach};
+ghost use Rattle.ratio_certificate.specs.Problems.{AreLinksOf, AreWeightingsOf, IsLinkOf, IsMetricOfEach, IsProblem, IsWeightingOf};
 ghost use Rattle.ratio_certificate.specs.Weighting.{AreWeights};
 
 use crate::polish::{metric_by, worst};
 use crate::problem::Problem;
-use crate::seek::seek;
+use crate::seek::{seek, seek_from};
 use crate::weighting::{Weighting, weighting_of};
 use best_blocks::{Metric, SharedLink};
 use std::alloc::Global;
 use te_model::{DemandSet, Memory};
+
+/// Weights are close to the floor that need at most one of so many parts of it more.
+const CLOSENESS: u128 = 64;
 
 /// Puts the weights in place of those at the place, if they need less.
 fn take_lesser(list: &mut [Weighting], place: usize, found: Weighting)
@@ -85,6 +88,33 @@ fn offer_to_others(
     }
 }
 
+/// Whether weights of this need may be near the best ones where the others need so much.
+fn is_close(need: u128, floor: u128) -> bool {
+    need.saturating_sub(floor) <= floor / CLOSENESS
+}
+
+/// Weights that are sought for the link, whose best ones so far are these.
+fn sought(
+    alloc: Global,
+    problem: &Problem,
+    shared: &SharedLink,
+    weighting: &Weighting,
+    floor: u128,
+) -> Result<Weighting, Memory>
+    requires problem { IsProblem problem.now }
+    requires shared { IsLinkOf problem.now shared.now }
+    requires weights { AreWeights problem.now.net.now weighting.now.weights }
+    ensures link { IfOk result (λ w. w.link ≡ shared.now.link) }
+    ensures weighting { IfOk result (IsWeightingOf problem.now) }
+{
+    if problem.near_offers && is_close(weighting.need, floor) {
+        let weights = weighting.weights.as_slice();
+        seek_from(alloc, problem, shared, weights, floor)
+    } else {
+        seek(alloc, problem, shared, floor)
+    }
+}
+
 /// Puts weights that are sought for the link at the place in place of those of the list where they need less.
 fn search_at(
     alloc: Global,
@@ -99,7 +129,7 @@ fn search_at(
     requires place { place < length list.old }
     ensures { OnOk result (AreWeightingsOf problem.now links.now list.old list.new) }
 {
-    let found = seek(alloc, problem, &links[place], floor)?;
+    let found = sought(alloc, problem, &links[place], &list[place], floor)?;
     take_lesser(list, place, found);
     offer_to_others(alloc, problem, links, list, place)?;
     Ok(())

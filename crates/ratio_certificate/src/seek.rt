@@ -9,12 +9,13 @@ ghost use Rattle.shortest_path.specs.declared.rows.Direction.TheVariants.{Forwar
 ghost use Rattle.shortest_path.specs.Rows.{IsSearchGraph};
 ghost use Rattle.ratio_certificate.specs.Problems.{IsLinkOf, IsMetricOf, IsProblem, IsWeightingOf};
 ghost use Rattle.ratio_certificate.specs.Searching.{IsSearchOf};
+ghost use Rattle.ratio_certificate.specs.Weighting.{AreWeights};
 
 use crate::problem::Problem;
 use crate::response::{Pricing, Ways, no_ways};
 use crate::rounds::first_metric;
 use crate::weighting::{Weighting, keep_lesser, weighting_of};
-use best_blocks::{Metric, Scale, SharedLink, metric_with};
+use best_blocks::{Metric, Scale, SharedLink, metric_of, metric_with};
 use centred_steps::{has_load, step_weights};
 use shortest_path::{Direction, Searches};
 use std::alloc::Global;
@@ -42,13 +43,19 @@ pub struct Search {
     pub searches: Searches,
 }
 
-/// A search at its start, where each weight is 2^20.
-fn start(alloc: Global, problem: &Problem, shared: &SharedLink) -> Result<Search, Memory>
+/// A search at its start, by the metric of its first weights.
+fn start_by(
+    alloc: Global,
+    problem: &Problem,
+    shared: &SharedLink,
+    metric: Metric,
+) -> Result<Search, Memory>
     requires problem { IsProblem problem.now }
     requires shared { IsLinkOf problem.now shared.now }
+    requires metric { IsMetricOf problem.now shared.now metric }
+    requires weights { AreWeightsUpTo (2 ^ 27) metric.weights }
     ensures { IfOk result (IsSearchOf problem.now shared.now) }
 {
-    let metric = first_metric(alloc, problem, shared)?;
     let best = weighting_of(alloc, problem, shared, &metric)?;
     let scale = Scale {
         a: best.a,
@@ -61,6 +68,55 @@ fn start(alloc: Global, problem: &Problem, shared: &SharedLink) -> Result<Search
         best,
         searches,
     })
+}
+
+/// A search at its start, where each weight is 2^20.
+fn start(alloc: Global, problem: &Problem, shared: &SharedLink) -> Result<Search, Memory>
+    requires problem { IsProblem problem.now }
+    requires shared { IsLinkOf problem.now shared.now }
+    ensures { IfOk result (IsSearchOf problem.now shared.now) }
+{
+    let metric = first_metric(alloc, problem, shared)?;
+    start_by(alloc, problem, shared, metric)
+}
+
+/// Half of the weight, rounded up.
+fn half_of(weight: u64) -> u64
+    requires { (1 ≤ weight) × (weight ≤ 2 ^ 28) }
+    ensures { (1 ≤ result) × (result ≤ 2 ^ 27) }
+{
+    (weight + 1) / 2
+}
+
+/// Half of each of the weights, rounded up: weights that steps may move, for which a link needs nearly the same.
+fn halves_of(alloc: Global, weights: &[u64]) -> Result<Vec<u64>, Memory>
+    requires weights { AreWeightsUpTo (2 ^ 28) weights.now }
+    ensures count { IfOk result (λ w. length w.items ≡ length weights.now) }
+    ensures weights { IfOk result (λ w. AreWeightsUpTo (2 ^ 27) w.items) }
+{
+    let mut halves = Vec::with_capacity(alloc, weights.len())?;
+    for h in 0..weights.len() {
+        halves.push(half_of(weights[h]))?;
+    }
+    Ok(halves)
+}
+
+/// A search at its start, from these weights on.
+fn start_from(
+    alloc: Global,
+    problem: &Problem,
+    shared: &SharedLink,
+    weights: Vec<u64>,
+) -> Result<Search, Memory>
+    requires problem { IsProblem problem.now }
+    requires shared { IsLinkOf problem.now shared.now }
+    requires count { length weights.items ≡ link_count problem.now.net.now }
+    requires weights { AreWeightsUpTo (2 ^ 27) weights.items }
+    ensures { IfOk result (IsSearchOf problem.now shared.now) }
+{
+    let marks = shared.marks.as_slice();
+    let metric = metric_of(alloc, problem.net, problem.routing, marks, weights)?;
+    start_by(alloc, problem, shared, metric)
 }
 
 /// The metric of the weights after a step by the loads.
@@ -167,12 +223,14 @@ fn respond_to(
     pricing.respond(ways, loads);
 }
 
-/// Goes on with the search by stages of sweeps, until the floor is reached or no link has a load. `ways` and `loads` are room
-/// for what each sweep finds.
+/// Goes on with the search by so many stages of sweeps, the first one by steps of so many parts, until the floor is reached or no
+/// link has a load. `ways` and `loads` are room for what each sweep finds.
 fn make_sweeps(
     alloc: Global,
     problem: &Problem,
     shared: &SharedLink,
+    stages: usize,
+    first_parts: u64,
     floor: u128,
     search: &mut Search,
     ways: &mut Ways,
@@ -180,14 +238,16 @@ fn make_sweeps(
 ) -> Result<(), Memory>
     requires problem { IsProblem problem.now }
     requires shared { IsLinkOf problem.now shared.now }
+    requires stages { stages ≤ 8 }
+    requires parts { (1 ≤ first_parts) × (first_parts ≤ 128) }
     requires search { IsSearchOf problem.now shared.now search.old }
     requires ways { AreLastLinks problem.now.net.now ways.old.lasts.items }
     requires loads { AreLoadsWithin problem.now.net.now loads.old }
     ensures { OnOk result (IsSearchOf problem.now shared.now search.new) }
 {
     let sweeps = (SWEEPS + loads.len() / 2).min(MAX_SWEEPS);
-    let mut parts = 1;
-    for i in 0..STAGES * sweeps {
+    let mut parts = first_parts;
+    for i in 0..stages * sweeps {
         respond_to(problem, shared, search, parts, ways, loads);
         if search.best.need <= floor || !has_load(loads) {
             return Ok(());
@@ -198,22 +258,36 @@ fn make_sweeps(
     Ok(())
 }
 
-/// Goes on with the search to its end.
+/// Goes on with the search to its end, by so many stages of sweeps, the first one by steps of so many parts.
 fn finish(
     alloc: Global,
     problem: &Problem,
     shared: &SharedLink,
+    stages: usize,
+    first_parts: u64,
     floor: u128,
     search: &mut Search,
 ) -> Result<(), Memory>
     requires problem { IsProblem problem.now }
     requires shared { IsLinkOf problem.now shared.now }
+    requires stages { stages ≤ 8 }
+    requires parts { (1 ≤ first_parts) × (first_parts ≤ 128) }
     requires search { IsSearchOf problem.now shared.now search.old }
     ensures { OnOk result (IsSearchOf problem.now shared.now search.new) }
 {
     let mut loads = vec![in alloc; 0; problem.net.links.as_slice().len()]?;
     let mut ways = no_ways(alloc, problem.net)?;
-    make_sweeps(alloc, problem, shared, floor, search, &mut ways, &mut loads)
+    make_sweeps(
+        alloc,
+        problem,
+        shared,
+        stages,
+        first_parts,
+        floor,
+        search,
+        &mut ways,
+        &mut loads,
+    )
 }
 
 /// Weights of the link that need little, sought by stages of sweeps whose steps grow ever smaller. The search ends early where
@@ -232,6 +306,29 @@ pub fn seek(
     ensures weighting { IfOk result (IsWeightingOf problem.now) }
 {
     let mut search = start(alloc, problem, shared)?;
-    finish(alloc, problem, shared, floor, &mut search)?;
+    finish(alloc, problem, shared, STAGES, 1, floor, &mut search)?;
+    Ok(search.best)
+}
+
+/// Weights of the link that need little, sought from these on by one stage of sweeps of the smallest steps. The search ends early
+/// where `seek` does.
+///
+/// Whatever it finds, there is one weight for each link, from 1 to 2^28. `Memory` comes where memory is wanting.
+pub fn seek_from(
+    alloc: Global,
+    problem: &Problem,
+    shared: &SharedLink,
+    weights: &[u64],
+    floor: u128,
+) -> Result<Weighting, Memory>
+    requires problem { IsProblem problem.now }
+    requires shared { IsLinkOf problem.now shared.now }
+    requires weights { AreWeights problem.now.net.now weights.now }
+    ensures link { IfOk result (λ w. w.link ≡ shared.now.link) }
+    ensures weighting { IfOk result (IsWeightingOf problem.now) }
+{
+    let halves = halves_of(alloc, weights)?;
+    let mut search = start_from(alloc, problem, shared, halves)?;
+    finish(alloc, problem, shared, 1, MAX_PARTS, floor, &mut search)?;
     Ok(search.best)
 }

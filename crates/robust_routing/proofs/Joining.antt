@@ -15,5 +15,6 @@ joint_of_more net pairs few many j le is = record {
   against = is.against;
   every = is.every;
   routing = is.routing;
+  proving = is.proving;
   few = few_of_more few many j.best.routes le is.few;
 }

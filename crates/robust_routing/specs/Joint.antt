@@ -32,7 +32,8 @@ pub record IsRound (r : Round) : Type 0 where
   pub pairs : All (IsPairOf r.net.now) r.pairs.now
   pub sweep : IsSweep r.sweep
 
--- weights for each link, paths for each pair, searches in the network, and a routing, of at most so many paths a pair
+-- weights for each link, paths for each pair, searches in the network, and a routing, of at most so many paths a pair, with weights
+-- for each link
 pub record IsJoint (net : Network) (pairs : List Pair) (limit : ℕ) (j : Joint) : Type 0 where
   pub weights : AreWeightsOfLinks net j.weights.items
   pub paths : ArePathsOfPairs net limit pairs j.rates.items
@@ -40,4 +41,5 @@ pub record IsJoint (net : Network) (pairs : List Pair) (limit : ℕ) (j : Joint)
   pub against : IsSearchGraph net Backward j.against
   pub every : j.every.items ≡ every_link net
   pub routing : IsRoutingOf net pairs j.best.routes
+  pub proving : AreWeightsOfLinks net j.proving.items
   pub few : HasFewPaths limit j.best.routes

@@ -18,6 +18,7 @@ use crate::weights::first_weights;
 use routing::Routing;
 use shortest_path::{Direction, Searches};
 use std::alloc::Global;
+use std::mem;
 use te_model::{Items, Memory, Network, Pair};
 
 /// Where the sweeps stand.
@@ -33,8 +34,9 @@ pub struct Joint {
     pub against: Searches,
     /// Marks by which every link is open.
     pub every: Vec<bool>,
-    /// The routing of the best sweep, and the ratio that was proved of it, in millionths.
+    /// The routing of the best sweep, the weights that prove its ratio, and that ratio, in millionths.
     pub best: Routing,
+    pub proving: Vec<Items<u64>>,
     pub least: Option<u64>,
 }
 
@@ -47,6 +49,7 @@ fn begin(alloc: Global, net: &Network, pairs: &[Pair], start: Routing) -> Result
 {
     let links = net.links.as_slice().len();
     let weights = first_weights(alloc, net)?;
+    let proving = first_weights(alloc, net)?;
     let rates = rates_of(alloc, net, pairs, &start)?;
     let tables = first_tables(alloc, links, pairs.len())?;
     let along = Searches::with_orders(alloc, net, Direction::Forward)?;
@@ -60,29 +63,35 @@ fn begin(alloc: Global, net: &Network, pairs: &[Pair], start: Routing) -> Result
         against,
         every,
         best: start,
+        proving,
         least: None,
     })
 }
 
-/// Keeps the routing of the rates where this ratio, which was proved of it, is the least so far.
+/// Puts the weights after a sweep in place of those before it. Where these proved the least ratio so far, this one, it keeps them
+/// and the routing of the rates.
 fn keep_best(
     alloc: Global,
     net: &Network,
     pairs: &[Pair],
     limit: usize,
     joint: &mut Joint,
+    after: Vec<Items<u64>>,
     ratio: u64,
 ) -> Result<(), Memory>
     requires limit { limit ≤ 32 }
     requires joint { IsJoint net.now pairs.now limit joint.old }
+    requires weights { AreWeightsOfLinks net.now after.items }
     ensures { OnOk result (IsJoint net.now pairs.now limit joint.new) }
 {
     let is_better = match joint.least {
         Some(least) => ratio < least,
         None => true,
     };
+    let before = mem::replace(&mut joint.weights, after);
     if is_better {
         joint.best = routing_of(alloc, net, pairs, limit, &joint.rates)?;
+        joint.proving = before;
         joint.least = Some(ratio);
     }
     Ok(())
@@ -96,15 +105,15 @@ fn take_sweep(alloc: Global, round: &Round, limit: usize, joint: &mut Joint) -> 
     ensures { OnOk result (IsJoint round.now.net.now round.now.pairs.now limit joint.new) }
 {
     write_shares(&mut joint.tables.shares, &joint.rates);
-    let ratio = sweep_links(
+    let (after, ratio) = sweep_links(
         alloc,
         round,
         &mut joint.along,
-        &mut joint.weights,
+        &joint.weights,
         &joint.tables.shares,
         &mut joint.tables.quotients,
     )?;
-    keep_best(alloc, round.net, round.pairs, limit, joint, ratio)?;
+    keep_best(alloc, round.net, round.pairs, limit, joint, after, ratio)?;
     sweep_pairs(
         alloc,
         round,
@@ -139,7 +148,7 @@ fn take_sweeps(
 }
 
 /// The routing of the sweep that proves the least ratio, where the sweeps begin with a routing that gives each pair one path, and
-/// the weights of the links for each link after the last sweep.
+/// the weights of the links for each link that prove it.
 ///
 /// No pair has more paths than the limit, which is from 1 to 32. `Memory` comes where memory is wanting.
 pub fn best_sweep(
@@ -160,5 +169,5 @@ pub fn best_sweep(
 {
     let mut joint = begin(alloc, net, pairs, start)?;
     take_sweeps(alloc, net, pairs, limit, &mut joint)?;
-    Ok((joint.best, Items::new(joint.weights)))
+    Ok((joint.best, Items::new(joint.proving)))
 }

@@ -19,6 +19,7 @@ mod pairs;
 mod rates;
 mod robust;
 mod round;
+mod rows;
 mod split;
 mod start;
 mod sweep;

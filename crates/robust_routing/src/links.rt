@@ -1,13 +1,15 @@
 //! The sweep over the links: what each pair may send over a link by its weights, and the step of these weights.
-ghost use Rattle.std.specs.Prelude.{◌≡◌, ◌<◌, IfOk, IsTrue, OnOk, length};
-ghost use Rattle.te_model.specs.Network.{is_well_formed, link_count, node_count};
+ghost use Rattle.std.specs.Prelude.{◌≡◌, ◌<◌, IfOk, IsTrue, OnOk};
+ghost use Rattle.te_model.specs.Network.{is_well_formed, link_count};
 ghost use Rattle.shortest_path.specs.declared.rows.Direction.TheVariants.{Forward};
 ghost use Rattle.shortest_path.specs.Rows.{IsSearchGraph};
 ghost use Rattle.robust_routing.specs.Joint.{IsRound};
+ghost use Rattle.robust_routing.specs.Rows.{AreRows};
 ghost use Rattle.robust_routing.specs.Weights.{AreLinkWeights, AreWeightsOfLinks};
 
 use crate::loads::loads_near;
 use crate::round::{NO_NODE, Round};
+use crate::rows::{distance_in, first_rows, write_row};
 use crate::sweep::{even_share, ratio_of};
 use crate::table::Table;
 use crate::weights::weights_after;
@@ -35,21 +37,23 @@ fn factor_of(net: &Network, weights: &[u64], link: usize) -> u128
     capacity.saturating_mul(1 << 80) / volume
 }
 
-/// Writes the quotient of each pair on the link, and says what the weights prove. `distances` is room for those from a node.
+/// Writes the quotient of each pair on the link and the rows of the nodes from which pairs send, and says what the weights prove.
 fn find(
+    alloc: Global,
     round: &Round,
     searches: &mut Searches,
     weights: &[u64],
     link: usize,
-    distances: &mut [Option<u64>],
+    rows: &mut [Items<Option<u64>>],
     shares: &Table,
     quotients: &mut Table,
-) -> Finding
+) -> Result<Finding, Memory>
     requires round { IsRound round.now }
     requires along { IsSearchGraph round.now.net.now Forward searches.old }
     requires weights { AreLinkWeights round.now.net.now weights.now }
     requires link { link < link_count round.now.net.now }
-    requires room { length distances.old ≡ node_count round.now.net.now }
+    requires rows { AreRows round.now.net.now rows.old }
+    ensures rows { OnOk result (AreRows round.now.net.now rows.new) }
     ensures same { searches.new ≡ searches.old }
 {
     let factor = factor_of(round.net, weights, link);
@@ -58,17 +62,20 @@ fn find(
     for p in 0..round.pairs.len() {
         let pair = round.pairs[p];
         if pair.src != from {
-            searches.distances(round.net, weights, pair.src, distances);
+            write_row(alloc, round.net, searches, weights, pair.src, rows)?;
             from = pair.src;
         }
-        let even = even_share(factor, distances[pair.dst as usize].unwrap_or(0));
+        let row = rows[pair.src as usize].as_slice();
+        let even = even_share(factor, distance_in(row, pair.dst));
         let share = shares.number(link, p);
         let quotient = round.sweep.quotient(share, round.sweep.allowance(even));
         quotients.set(link, p, quotient);
-        ratio = ratio.max(ratio_of(share, even));
+        if share > 0 {
+            ratio = ratio.max(ratio_of(share, even));
+        }
         greatest = greatest.max(quotient);
     }
-    Finding { ratio, greatest }
+    Ok(Finding { ratio, greatest })
 }
 
 /// The sweep over one link: the weights after it, and the ratio that those before it prove.
@@ -78,6 +85,7 @@ fn sweep_link(
     searches: &mut Searches,
     weights: &[u64],
     link: usize,
+    rows: &mut [Items<Option<u64>>],
     shares: &Table,
     quotients: &mut Table,
 ) -> Result<(Vec<u64>, u64), Memory>
@@ -85,28 +93,23 @@ fn sweep_link(
     requires along { IsSearchGraph round.now.net.now Forward searches.old }
     requires weights { AreLinkWeights round.now.net.now weights.now }
     requires link { link < link_count round.now.net.now }
+    requires rows { AreRows round.now.net.now rows.old }
     ensures weights { IfOk result (λ f. AreLinkWeights round.now.net.now f.0.items) }
+    ensures rows { OnOk result (AreRows round.now.net.now rows.new) }
     ensures same { searches.new ≡ searches.old }
 {
-    let mut distances = vec![in alloc; None; round.net.names.as_slice().len()]?;
     let finding = find(
-        round,
-        searches,
-        weights,
-        link,
-        &mut distances,
-        shares,
-        quotients,
-    );
+        alloc, round, searches, weights, link, rows, shares, quotients,
+    )?;
     let greatest = finding.greatest;
     let loads = loads_near(
-        alloc, round, searches, weights, link, greatest, shares, quotients,
+        alloc, round, rows, weights, link, greatest, shares, quotients,
     )?;
     let after = weights_after(alloc, round.net, weights, &loads, round.sweep.parts)?;
     Ok((after, finding.ratio))
 }
 
-/// The sweep over each link: moves its weights, and gives the ratio that all weights before it prove, in millionths.
+/// The sweep over each link: the weights after it, and the ratio that all weights before it prove, in millionths.
 ///
 /// `shares` has the share of each pair on each link, and `quotients` is room for as many numbers. `Memory` comes where memory is
 /// wanting.
@@ -114,22 +117,26 @@ pub fn sweep_links(
     alloc: Global,
     round: &Round,
     searches: &mut Searches,
-    list: &mut [Items<u64>],
+    list: &[Items<u64>],
     shares: &Table,
     quotients: &mut Table,
-) -> Result<u64, Memory>
+) -> Result<(Vec<Items<u64>>, u64), Memory>
     requires round { IsRound round.now }
     requires along { IsSearchGraph round.now.net.now Forward searches.old }
-    requires list { AreWeightsOfLinks round.now.net.now list.old }
-    ensures list { OnOk result (AreWeightsOfLinks round.now.net.now list.new) }
+    requires list { AreWeightsOfLinks round.now.net.now list.now }
+    ensures weights { IfOk result (λ f. AreWeightsOfLinks round.now.net.now f.0.items) }
     ensures same { searches.new ≡ searches.old }
 {
+    let mut rows = first_rows(alloc, round.net)?;
+    let mut next = Vec::with_capacity(alloc, list.len())?;
     let mut ratio = 0;
     for link in 0..list.len() {
         let weights = list[link].as_slice();
-        let (after, found) = sweep_link(alloc, round, searches, weights, link, shares, quotients)?;
-        list[link] = Items::new(after);
+        let (after, found) = sweep_link(
+            alloc, round, searches, weights, link, &mut rows, shares, quotients,
+        )?;
+        next.push(Items::new(after))?;
         ratio = ratio.max(found);
     }
-    Ok(ratio)
+    Ok((next, ratio))
 }

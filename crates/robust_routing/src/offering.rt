@@ -45,14 +45,23 @@ fn place_of(paths: &[Path], links: &[u32]) -> usize {
     paths.len()
 }
 
-/// The least path of the pair by the lengths, if there is one. The searches are against links, and every link is open.
-fn least_path(
+/// Whether a path of this cost, if there is one, is cheaper than the mean by more than a thousandth.
+fn is_cheaper(cost: Option<u64>, mean: u64) -> bool {
+    match cost {
+        Some(sum) => u128::from(sum) * 1000 < u128::from(mean) * 999,
+        None => false,
+    }
+}
+
+/// The least path of the pair by the lengths, if it costs less than the mean. The searches are against links, and every link is open.
+fn cheaper_path(
     alloc: Global,
     net: &Network,
     searches: &mut Searches,
     open: &[bool],
     lengths: &[u64],
     pair: Pair,
+    mean: u64,
 ) -> Result<Option<Path>, Memory>
     requires network { IsTrue (is_well_formed net.now) }
     requires against { IsSearchGraph net.now Backward searches.old }
@@ -64,6 +73,9 @@ fn least_path(
 {
     let mut sums = vec![in alloc; None; net.names.as_slice().len()]?;
     searches.toward(net, lengths, open, pair.dst, &mut sums);
+    if !is_cheaper(sums[pair.src as usize], mean) {
+        return Ok(None);
+    }
     follow(alloc, net, lengths, open, &sums, pair.src, pair.dst)
 }
 
@@ -93,11 +105,6 @@ fn take_up(
     }
 }
 
-/// Whether a path of this cost is cheaper than the mean by more than a thousandth.
-fn is_cheaper(cost: u64, mean: u64) -> bool {
-    u128::from(cost) * 1000 < u128::from(mean) * 999
-}
-
 /// Takes up the least path of the pair by the lengths, where it costs less than the paths of the pair do in the mean.
 ///
 /// The searches are against links, and every link is open. `Memory` comes where memory is wanting.
@@ -125,13 +132,8 @@ pub fn offer_least(
 {
     let costs = costs_of(alloc, lengths, rates.paths())?;
     let mean = mean_cost(&costs, rates.rates());
-    match least_path(alloc, net, searches, open, lengths, pair)? {
-        Some(path) => {
-            if is_cheaper(cost_of(lengths, path.links.as_slice()), mean) {
-                take_up(net, pair, rates, path, sweep.first_rate(), limit)?;
-            }
-            Ok(())
-        }
+    match cheaper_path(alloc, net, searches, open, lengths, pair, mean)? {
+        Some(path) => take_up(net, pair, rates, path, sweep.first_rate(), limit),
         None => Ok(()),
     }
 }

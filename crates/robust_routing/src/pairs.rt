@@ -17,7 +17,7 @@ use shortest_path::Searches;
 use std::alloc::Global;
 use te_model::{Memory, Pair};
 
-/// Moves the rates of a pair by the lengths of the links.
+/// Moves the rates of a pair by the lengths of the links. Where the pair looks for a path, it may take up one more before.
 fn shift_pair(
     alloc: Global,
     round: &Round,
@@ -25,6 +25,7 @@ fn shift_pair(
     open: &[bool],
     lengths: &[u64],
     pair: Pair,
+    looks: bool,
     limit: usize,
     rates: &mut PathRates,
 ) -> Result<(), Memory>
@@ -39,9 +40,11 @@ fn shift_pair(
     ensures rates { OnOk result (ArePathsWithin round.now.net.now limit pair rates.new) }
 {
     let (net, sweep) = (round.net, round.sweep);
-    offer_least(
-        alloc, net, searches, open, lengths, pair, sweep, limit, rates,
-    )?;
+    if looks {
+        offer_least(
+            alloc, net, searches, open, lengths, pair, sweep, limit, rates,
+        )?;
+    }
     let costs = costs_of(alloc, lengths, rates.paths())?;
     rates.shift(sweep, &costs);
     Ok(())
@@ -70,6 +73,7 @@ pub fn sweep_pairs(
     for p in 0..list.len() {
         let lengths = next_lengths(alloc, round.sweep, tables, open.len(), p)?;
         let pair = round.pairs[p];
+        let looks = round.sweep.looks(p);
         shift_pair(
             alloc,
             round,
@@ -77,6 +81,7 @@ pub fn sweep_pairs(
             open,
             &lengths,
             pair,
+            looks,
             limit,
             &mut list[p],
         )?;

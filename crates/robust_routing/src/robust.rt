@@ -23,7 +23,7 @@ pub struct Robust {
     pub ways: u32,
 }
 
-/// The routing of `Robust` for a network and its pairs, and the weights by which its sweeps end.
+/// The routing of `Robust` for a network and its pairs, and the weights by which the sweeps prove its ratio.
 #[derive(Drop)]
 pub struct RobustPlan {
     pub routing: Routing,

@@ -7,8 +7,14 @@ use te_model::RATIO_UNIT;
 /// The rate of a whole demand.
 pub const WHOLE: u64 = 1 << 30;
 
+/// How many pairs take turns to look for a path, where steps are small.
+const PAIRS_IN_TURN: usize = 4;
+
+/// The most parts of a step in sweeps in which each pair looks for a path.
+const GREAT_STEPS: u64 = 4;
+
 /// How many sweeps there are.
-pub const SWEEPS: usize = 1330;
+pub const SWEEPS: usize = 880;
 
 /// The greatest share that a pair is allowed on a link.
 const MAX_SHARE: u64 = 4_294_967_295;
@@ -34,28 +40,49 @@ pub struct Sweep {
     pub goal: u64,
     /// What is added to shares and to allowances, so that a pair without a share counts.
     pub slack: u64,
+    /// A price moves by its whole step, halved so often.
+    pub halvings: u64,
+    /// Of four pairs in turn, which one looks for a path.
+    pub turn: usize,
 }
 
 /// In how many parts the sweep of this number takes its steps: the more, the later it comes.
 fn parts_of(number: usize) -> u64
     ensures { (1 ≤ result) × (result ≤ 128) }
 {
-    if number < 60 {
-        1
-    } else if number < 120 {
+    if number < 40 {
         2
-    } else if number < 180 {
+    } else if number < 100 {
         4
-    } else if number < 280 {
+    } else if number < 180 {
         8
-    } else if number < 430 {
+    } else if number < 280 {
         16
-    } else if number < 630 {
+    } else if number < 430 {
         32
-    } else if number < 930 {
+    } else if number < 630 {
         64
     } else {
         128
+    }
+}
+
+/// How often the step of a price is halved where steps are taken in so many parts.
+fn halvings_of(parts: u64) -> u64
+    ensures { result ≤ 5 }
+{
+    if parts < 8 {
+        0
+    } else if parts < 16 {
+        1
+    } else if parts < 32 {
+        2
+    } else if parts < 64 {
+        3
+    } else if parts < 128 {
+        4
+    } else {
+        5
     }
 }
 
@@ -69,7 +96,13 @@ pub fn sweep_of(number: usize, least: Option<u64>) -> Sweep
         None => FIRST_GOAL,
     };
     let slack = (WHOLE / (10 + parts)).max(1).min(WHOLE);
-    Sweep { parts, goal, slack }
+    Sweep {
+        parts,
+        goal,
+        slack,
+        halvings: halvings_of(parts),
+        turn: number % PAIRS_IN_TURN,
+    }
 }
 
 /// The unit of rates, halved as often as the quotient says.
@@ -134,21 +167,34 @@ impl Sweep {
         u128::from(nearness).saturating_mul(square) / u128::from(share + self.slack)
     }
 
+    /// The price of a link for a pair by this sweep alone.
+    fn price_alone(self, nearness: u64, quotient: u64, share: u64) -> u64
+        requires sweep { IsSweep self }
+        requires nearness { nearness ≤ 2 ^ 30 }
+        requires share { share < 2 ^ 32 }
+    {
+        if nearness == 0 {
+            return 0;
+        }
+        let product = (16 * nearness).saturating_mul(quotient);
+        (product / (share + self.slack)).min(MAX_PRICE)
+    }
+
     /// The price of a link for a pair after the sweep, by the price before it. It moves by a part of the way.
     pub fn price(self, old: u64, nearness: u64, quotient: u64, share: u64) -> u64
         requires sweep { IsSweep self }
-        requires old { old < 2 ^ 32 }
         requires nearness { nearness ≤ 2 ^ 30 }
         requires share { share < 2 ^ 32 }
         ensures { result < 2 ^ 28 }
     {
-        let product = (16 * nearness).saturating_mul(quotient);
-        let now = (product / (share + self.slack)).min(MAX_PRICE);
-        if self.parts <= 4 {
-            return now;
-        }
-        let kept = old.saturating_sub(old * 4 / self.parts);
-        kept.saturating_add(now * 4 / self.parts).min(MAX_PRICE)
+        let alone = self.price_alone(nearness, quotient, share);
+        let kept = old.saturating_sub(old >> self.halvings);
+        kept.saturating_add(alone >> self.halvings).min(MAX_PRICE)
+    }
+
+    /// Whether the pair looks for a path in this sweep: in each where steps are great, and else in one of four.
+    pub fn looks(self, pair: usize) -> bool {
+        self.parts <= GREAT_STEPS || pair % PAIRS_IN_TURN == self.turn
     }
 
     /// The rate with which a new path begins.

@@ -12,10 +12,10 @@ both (Err e) P Q S join p q = tt
 
 pub returns-then-has_all_matrices : goal.returns-then-has_all_matrices
 returns-then-has_all_matrices c =
-    IfOk-weaker c.improve.result _ (IsMadeWithinAll c.args.net.now c.args.routing.now.routes c.args.set) (λ m made. record {
+    IfOk-weaker c.refine.result _ (IsMadeWithinAll c.args.net.now c.args.routing.now.routes c.args.set) (λ m made. record {
       made = made;
       all_matrices = λ bounded. absurd (subst HasBounds (c.has_all_matrices.ensures c.if-has_all_matrices.true) bounded);
-    }) c.improve.ensures.made
+    }) c.refine.ensures.made
 
 pub returns-else-has_all_matrices : goal.returns-else-has_all_matrices
 returns-else-has_all_matrices c =

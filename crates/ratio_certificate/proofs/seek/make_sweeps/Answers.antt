@@ -1,8 +1,7 @@
-use Rattle.std.proofs.Common.{arith}
 use Rattle.ratio_certificate.proofs.seek.make_sweeps.Goals as goal
 
 pub loop-i-init : goal.loop-i-init
-loop-i-init c = (c.requires.search, c.requires.loads, c.requires.ways, omega arith, omega arith)
+loop-i-init c = (c.requires.search, c.requires.loads, c.requires.ways, c.requires.parts.0, c.requires.parts.1)
 
 pub loop-i-preserved : goal.loop-i-preserved
 loop-i-preserved c =

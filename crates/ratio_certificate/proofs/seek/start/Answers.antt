@@ -1,26 +1,9 @@
-use Rattle.shortest_path.proofs.Sound.{sound}
-use Rattle.ratio_certificate.proofs.Seeking.{first_weights, small_scale, movable_weights}
+use Rattle.ratio_certificate.proofs.Seeking.{first_weights}
 use Rattle.ratio_certificate.proofs.seek.start.Goals as goal
 
-pub weighting_of-requires-clause-weights : goal.weighting_of-requires-clause-weights
-weighting_of-requires-clause-weights c =
-    let net = c.args.problem.now.net.now in
-    let m = c.in_ok-metric.metric in
-    movable_weights net m.weights c.in_ok-metric.ensures.metric.count (first_weights net c.args.problem.now.routing.now.routes c.args.shared.now m c.in_ok-metric.ensures)
+pub start_by-requires-clause-metric : goal.start_by-requires-clause-metric
+start_by-requires-clause-metric c = c.in_ok-metric.ensures.metric
 
-pub with_orders-requires : goal.with_orders-requires
-with_orders-requires c = sound c.args.problem.now.net.now c.requires.problem.network
-
-pub returns : goal.returns
-returns c =
-    let net = c.args.problem.now.net.now in
-    let routes = c.args.problem.now.routing.now.routes in
-    let best = c.in_ok-best.best in
-    record {
-      metric = c.in_ok-metric.ensures.metric;
-      weights = first_weights net routes c.args.shared.now c.in_ok-metric.metric c.in_ok-metric.ensures;
-      scale = small_scale net routes c.args.problem.now.set.now best c.requires.problem.network c.requires.problem.routing c.in_ok-best.ensures.weighting;
-      link = c.in_ok-best.ensures.link;
-      best = c.in_ok-best.ensures.weighting;
-      along = c.in_ok-searches.ensures;
-    }
+pub start_by-requires-clause-weights : goal.start_by-requires-clause-weights
+start_by-requires-clause-weights c =
+    first_weights c.args.problem.now.net.now c.args.problem.now.routing.now.routes c.args.shared.now c.in_ok-metric.metric c.in_ok-metric.ensures

@@ -20,5 +20,6 @@ returns c = record {
   against = c.in_ok-against.ensures;
   every = c.in_ok-every.ensures.items_if_clones_equal (λ y same. same) ∙ ap (λ (l : List Link). replicate (length l) true) c.as_slice-links.ensures;
   routing = c.requires.routing;
+  proving = c.in_ok-proving.ensures;
   few = c.requires.few;
 }

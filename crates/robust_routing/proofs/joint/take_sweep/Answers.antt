@@ -8,30 +8,27 @@ use Rattle.robust_routing.specs.Weights.{AreWeightsOfLinks}
 use Rattle.robust_routing.proofs.joint.take_sweep.Goals as goal
 
 pub sweep_links-requires-clause-list : goal.sweep_links-requires-clause-list
-sweep_links-requires-clause-list c = subst (AreWeightsOfLinks c.args.round.now.net.now) (sym c.deref_mut.ensures.value) c.requires.joint.weights
+sweep_links-requires-clause-list c = subst (AreWeightsOfLinks c.args.round.now.net.now) (sym c.deref-2.ensures.value) c.requires.joint.weights
 
 pub keep_best-requires-clause-joint : goal.keep_best-requires-clause-joint
 keep_best-requires-clause-joint c =
-    let net = c.args.round.now.net.now in
-    let joint = c.args.joint.now in
-    let new = c.sweep_links.new.list in
-    let kept : length new ≡ length joint.weights.items = c.in_ok-ratio.ensures.list.count ∙ sym c.requires.joint.weights.count in
-    record {
-      weights = rw (written_whole joint.weights.len new joint.weights.items kept joint.weights.ok.0) c.in_ok-ratio.ensures.list;
+    let net = c.args.round.now.net.now in record {
+      weights = c.requires.joint.weights;
       paths = c.requires.joint.paths;
-      along = subst (IsSearchGraph net Forward) (sym c.in_ok-ratio.ensures.same) c.requires.joint.along;
+      along = subst (IsSearchGraph net Forward) (sym c.sweep_links.ensures.same) c.requires.joint.along;
       against = c.requires.joint.against;
       every = c.requires.joint.every;
       routing = c.requires.joint.routing;
+      proving = c.requires.joint.proving;
       few = c.requires.joint.few;
     }
 
 pub sweep_pairs-requires-clause-list : goal.sweep_pairs-requires-clause-list
 sweep_pairs-requires-clause-list c =
-    subst (ArePathsOfPairs c.args.round.now.net.now c.args.limit c.args.round.now.pairs.now) (sym c.deref_mut-2.ensures.value) c.in_ok-keep_best.ensures.paths
+    subst (ArePathsOfPairs c.args.round.now.net.now c.args.limit c.args.round.now.pairs.now) (sym c.deref_mut.ensures.value) c.in_ok-keep_best.ensures.paths
 
 pub sweep_pairs-requires-clause-every : goal.sweep_pairs-requires-clause-every
-sweep_pairs-requires-clause-every c = c.deref-2.ensures.value ∙ c.in_ok-keep_best.ensures.every
+sweep_pairs-requires-clause-every c = c.deref-3.ensures.value ∙ c.in_ok-keep_best.ensures.every
 
 pub returns : goal.returns
 returns c =
@@ -49,5 +46,6 @@ returns c =
       against = subst (IsSearchGraph net Backward) (sym c.sweep_pairs.ensures.same) is.against;
       every = is.every;
       routing = is.routing;
+      proving = is.proving;
       few = is.few;
     }) c.sweep_pairs.ensures.list

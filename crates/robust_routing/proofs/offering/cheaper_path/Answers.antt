@@ -6,7 +6,7 @@ use Rattle.te_model.specs.Path.{is_path}
 use Rattle.shortest_path.proofs.Sound.{sound}
 use Rattle.shortest_path.specs.Least.{IsLeastWalk, links_of}
 use Rattle.robust_routing.proofs.LeastPaths.{path_of_least}
-use Rattle.robust_routing.proofs.offering.least_path.Goals as goal
+use Rattle.robust_routing.proofs.offering.cheaper_path.Goals as goal
 
 pub toward-requires-clause-sound : goal.toward-requires-clause-sound
 toward-requires-clause-sound c = sound c.args.net.now c.requires.network
