@@ -3,7 +3,7 @@ mod Envelopes
 mod PublishedSets
 pub mod JoinedFields
 mod Reports
-mod SchemeLines
+pub mod SchemeLines
 mod ByName
 mod Seeds
 pub mod Accepted

@@ -5,7 +5,7 @@
 //! - `publish`: a certificate of an oblivious scheme's routing.
 //! - `certificate_file`: the file of the certificate that a plan publishes.
 //! - `report`: the report of a plan's schemes over the traffic.
-//! - `fields`: the fields of a line of a report.
+//! - `report_header`, `add_row`, `print_total`, `Figures`: the lines of a report. `fields`: the fields of a line.
 //! - `published_files_are_accepted`: what every published file is.
 //! - `publications_exist`, `reports_exist`: what a plan asks for exists.
 //! - `predictions_change_no_oblivious`: the rows of an oblivious scheme are those without predictions.
@@ -22,10 +22,12 @@ mod publishing;
 mod reporting;
 mod robust_publishing;
 
+pub use figures::Figures;
 pub use laws::{
     predictions_change_no_oblivious, publications_exist, published_files_are_accepted,
     reports_exist,
 };
+pub use lines::{add_row, print_total, report_header};
 pub use plan::{Experiment, Key, PlanFault, Recovery, SchemeName, read_plan};
 pub use published_file::certificate_file;
 pub use publishing::publish;

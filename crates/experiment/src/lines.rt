@@ -1,11 +1,18 @@
-//! The lines of a scheme.
-ghost use Rattle.std.specs.Prelude.{◌≡◌, ◌++◌, OnOk, codes};
-ghost use Rattle.experiment.specs.Text.{line, step_line};
+//! The lines of a report.
+ghost use Rattle.std.specs.Prelude.{◌≡◌, ℕ, ◌+◌, ◌^◌, ◌++◌, OnOk, codes};
+ghost use Rattle.experiment.specs.Text.{AmountsAtMost, figures_of, header, line, step_line, with_step};
 
 use crate::fields::{print_field, print_number, print_number_or_dash};
 use crate::figures::Figures;
 use series_simulation::StepRow;
 use te_model::Memory;
+
+/// The header of a report, a line that names the fields of the others.
+pub fn report_header() -> &'static str
+    ensures { result.now ≡ header }
+{
+    "scheme,step,offered,delivered,lost_full,lost_failed,lost_no_path,peak,parts,low\n"
+}
 
 // Writes a line.
 fn print_line(
@@ -31,13 +38,30 @@ fn print_line(
     Ok(())
 }
 
-/// Writes the line of a step.
-pub fn print_row(text: &mut Vec<u8>, word: &str, row: &StepRow) -> Result<(), Memory>
+// Writes the line of a step.
+fn print_row(text: &mut Vec<u8>, word: &str, row: &StepRow) -> Result<(), Memory>
     ensures { OnOk result (text.new.items ≡ text.old.items ++ step_line word.now row.now) }
 {
     let mut digits = itoa::Buffer::new();
     let step = digits.format(row.step);
     print_line(text, word, step, &Figures::of(row), row.low)
+}
+
+/// Writes the line of a step, and takes the step into the total.
+pub fn add_row(
+    text: &mut Vec<u8>,
+    total: &mut Figures,
+    word: &str,
+    row: &StepRow,
+) -> Result<(), Memory>
+    requires room { AmountsAtMost (2 ^ 127) total.old }
+    ensures line { OnOk result (text.new.items ≡ text.old.items ++ step_line word.now row.now) }
+    ensures total { OnOk result (total.new ≡ with_step total.old (figures_of row.now)) }
+    ensures small { OnOk result ((bound : ℕ) → AmountsAtMost bound total.old → AmountsAtMost (bound + 2 ^ 64) total.new) }
+{
+    print_row(text, word, row)?;
+    total.add(Figures::of(row));
+    Ok(())
 }
 
 /// Writes the line of all steps.

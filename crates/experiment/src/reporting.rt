@@ -1,5 +1,5 @@
 //! The report of a plan's schemes, each driven through the series.
-ghost use Rattle.std.specs.Prelude.{◌≡◌, ◌≤◌, ◌+◌, ◌^◌, ◌++◌, ℕ, List, IfOk, IsTrue, OnOk, filter};
+ghost use Rattle.std.specs.Prelude.{◌≡◌, ◌≤◌, List, IfOk, IsTrue, filter};
 ghost use Rattle.te_model.specs.Network.{is_well_formed, node_count};
 ghost use Rattle.traffic_matrix.specs.Traffic.{IsTraffic};
 ghost use Rattle.plan.specs.Plan.{InRange};
@@ -9,10 +9,10 @@ ghost use Rattle.series_simulation.specs.Connected.{TellsPaths, connects};
 ghost use Rattle.series_simulation.specs.Rows.{AreStepRows};
 ghost use Rattle.experiment.specs.Report.{IsReport};
 ghost use Rattle.experiment.specs.Schemes.{AreSchemeRows};
-ghost use Rattle.experiment.specs.Text.{AmountsAtMost, figures_of, scheme_lines, step_line, with_step};
+ghost use Rattle.experiment.specs.Text.{scheme_lines};
 
 use crate::figures::Figures;
-use crate::lines::{print_row, print_total};
+use crate::lines::{add_row, print_total, report_header};
 use ecmp_split::Ecmp;
 use failure::Failures;
 use k_paths::Ksp;
@@ -27,18 +27,6 @@ use std::alloc::Global;
 use te_model::{Memory, Network};
 use traffic_matrix::Traffic;
 use valiant_mix::Valiant;
-
-/// Writes the line of a step, and takes the step into the total.
-fn add_row(text: &mut Vec<u8>, total: &mut Figures, word: &str, row: &StepRow) -> Result<(), Memory>
-    requires room { AmountsAtMost (2 ^ 127) total.old }
-    ensures line { OnOk result (text.new.items ≡ text.old.items ++ step_line word.now row.now) }
-    ensures total { OnOk result (total.new ≡ with_step total.old (figures_of row.now)) }
-    ensures small { OnOk result ((bound : ℕ) → AmountsAtMost bound total.old → AmountsAtMost (bound + 2 ^ 64) total.new) }
-{
-    print_row(text, word, row)?;
-    total.add(Figures::of(row));
-    Ok(())
-}
 
 /// The lines of a scheme that was prepared for the network, one for each step of the series, and the total.
 fn lines_with<S: Scheme>(
@@ -167,9 +155,7 @@ pub fn report(
     requires traffic { IsTraffic (node_count network.now) traffic.now }
     ensures { IfOk result (λ text. IsReport plan.now network.now traffic.now failures.now text.items) }
 {
-    let header =
-        b"scheme,step,offered,delivered,lost_full,lost_failed,lost_no_path,peak,parts,low\n";
-    let mut text = Vec::from_slice(alloc, header)?;
+    let mut text = Vec::from_slice(alloc, report_header().as_bytes())?;
     for name in plan.schemes.as_slice() {
         let lines = lines_by_name(alloc, *name, plan, network, traffic, failures)?;
         text.extend_from_slice(lines.as_slice())?;

@@ -62,7 +62,7 @@ tells net pair of = go (reached_or_first net (pair ∷ []))
         let here : 0 ≡ first.0 = omega (arith, first.1.inside) in
         (λ passes. absurd (false≢true passes), λ path. absurd (first.1.without (subst (IsReached net (pair ∷ [])) here path)))
 
-simulated_exists : (mode : Mode) (net : Network) (failed : List Bool) (pairs : List Pair) (demand : List ℕ) (routes : List PairRoutes) →
+pub simulated_exists : (mode : Mode) (net : Network) (failed : List Bool) (pairs : List Pair) (demand : List ℕ) (routes : List PairRoutes) →
     is_well_formed net ≡ true → IsPathRouting net routes → HasFewPaths 4096 routes → IsSublist (pairs_of routes) pairs →
     (rates : List PairRoutes) × (result : StepResult) × (have_rates rates ≡ true) × IsSimulated mode net failed pairs demand routes rates result
 simulated_exists mode net failed pairs demand routes formed splits few some =

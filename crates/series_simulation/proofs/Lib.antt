@@ -8,5 +8,6 @@ mod Carried
 pub mod Rowing
 pub mod Marking
 pub mod Existence
+pub mod Kept
 pub mod Standing
 pub mod Predictions

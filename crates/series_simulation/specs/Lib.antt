@@ -2,4 +2,5 @@ pub mod Connected
 pub mod OriginalLinks
 pub mod Simulation
 pub mod Rows
+pub mod KeptRouting
 pub mod Laws

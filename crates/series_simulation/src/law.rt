@@ -1,4 +1,5 @@
 //! The rows of a scheme over a series and its steps exist where its plans and routings do.
+ghost use Rattle.series_simulation.specs.KeptRouting.{KeptRowsExist, KeptRowsHaveParts};
 ghost use Rattle.series_simulation.specs.Laws.{StepRowsExist, PredictionsChangeNothing, StepsExist, StepsStandInRows};
 
 use scheme::Scheme;
@@ -22,4 +23,14 @@ pub fn steps_stand_in_rows<S: Scheme>(_scheme: &S)
 /// A scheme whose routing is one for every matrix, and that states no bound, has just the rows that it has without predictions.
 pub fn predictions_change_nothing<S: Scheme>(_scheme: &S)
     ensures { PredictionsChangeNothing S.PATHS (S.is_plan _scheme.now) (S.relates _scheme.now) S.Note.low }
+{}
+
+/// A series has rows of a routing of its pairs that is kept, whichever links fail and however traffic goes on then.
+pub fn kept_rows_exist()
+    ensures { KeptRowsExist }
+{}
+
+/// The greatest utilisation of each such row is that of the routing by the demands of the step, whichever links fail.
+pub fn kept_rows_have_parts()
+    ensures { KeptRowsHaveParts }
 {}

@@ -3,6 +3,8 @@
 //! - `drive`: one row for each step.
 //! - `prepare_connected`, `row_of`: what serves all steps, a `Preparation`, and the row of one of them.
 //! - `step_of`: the same step, with the paths that its demands took.
+//! - `kept_row`: the row of a step by a routing that is kept for every matrix. `kept_rows_exist`, `kept_rows_have_parts`: a series has such
+//!   rows, and the greatest utilisation of each is that of the routing.
 //! - `step_rows_exist`, `steps_exist`, `steps_stand_in_rows`: every series has rows, each of its steps exists, and the row of each step
 //!   is one of such rows, where the scheme has plans and routings. `predictions_change_nothing`: where it keeps one routing for all
 //!   matrices and states no bound, its rows are those that it has without predictions.
@@ -11,6 +13,7 @@
 #![tactic(auto)]
 
 mod connected_pairs;
+mod kept_routing;
 mod law;
 mod original_links;
 mod peak;
@@ -23,7 +26,11 @@ mod step_routing;
 mod step_row;
 mod step_simulation;
 
-pub use law::{predictions_change_nothing, step_rows_exist, steps_exist, steps_stand_in_rows};
+pub use kept_routing::kept_row;
+pub use law::{
+    kept_rows_exist, kept_rows_have_parts, predictions_change_nothing, step_rows_exist,
+    steps_exist, steps_stand_in_rows,
+};
 pub use peak::utilisation;
 pub use preparation::{Preparation, prepare_connected};
 pub use series_rows::{drive, matrix_of, row_of, step_of};

@@ -1,6 +1,7 @@
 //! What a recovery does in a step.
 ghost use Rattle.std.specs.Prelude.{◌≡◌};
 ghost use Rattle.std.specs.List.{list_any};
+ghost use Rattle.series_simulation.specs.KeptRouting.{without_rerouting};
 ghost use Rattle.series_simulation.specs.Rows.{is_rerouted, mode_of};
 
 use local_recovery::Mode;
@@ -36,5 +37,15 @@ pub fn is_rerouted(recovery: Recovery, failed: &[bool]) -> bool
     match recovery {
         Recovery::Keep | Recovery::Scale | Recovery::Bypass => false,
         Recovery::Reroute => has_mark(failed),
+    }
+}
+
+/// The recovery of a routing that is not made anew: what is left of it is scaled.
+pub fn without_rerouting(recovery: Recovery) -> Recovery
+    ensures { result ≡ without_rerouting recovery }
+{
+    match recovery {
+        Recovery::Keep | Recovery::Scale | Recovery::Bypass => recovery,
+        Recovery::Reroute => Recovery::Scale,
     }
 }

@@ -10,6 +10,7 @@ pub mod FirstMatrix
 mod PairDemands
 mod PairUnion
 pub mod TrafficLemmas
+pub mod OutsideRows
 mod TextLemmas
 mod FieldText
 mod RowText

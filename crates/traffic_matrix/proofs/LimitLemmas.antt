@@ -43,7 +43,7 @@ position-below names name v h = go (nat_lt (position_or_len (bytes_eq name) name
     go false e k = cc k
 
 -- the nodes and the demand of a row
-abbrev Said : ℕ → Entry → Type 0
+abbrev pub Said : ℕ → Entry → Type 0
 Said n e = (e.pair.src < n) × (e.pair.dst < n) × (e.demand ≤ 2 ^ 32)
 
 between-said : (n row : ℕ) (step demand : List ℕ) (s t : Option ℕ) (e : Entry) → ((v : ℕ) → s ≡ Some v → v < n) → ((v : ℕ) → t ≡ Some v → v < n)
@@ -61,7 +61,7 @@ between-said n row step demand (Some s) (Some t) e f g h = pick (is_number step)
     pick true false w k = cc k
     pick false b w k = cc k
 
-entry-said : (names : List (List ℕ)) (row : ℕ) (r : List (List ℕ)) (e : Entry) → demand_entry names row r ≡ Ok e → Said (length names) e
+pub entry-said : (names : List (List ℕ)) (row : ℕ) (r : List (List ℕ)) (e : Entry) → demand_entry names row r ≡ Ok e → Said (length names) e
 unfolding demand_entry
 entry-said names row [] e h = cc h
 entry-said names row (a ∷ []) e h = cc h
@@ -71,7 +71,7 @@ entry-said names row (a ∷ b ∷ c ∷ d ∷ []) e h =
     between-said (length names) row a d (number_named names b) (number_named names c) e (position-below names b) (position-below names c) h
 entry-said names row (a ∷ b ∷ c ∷ d ∷ f ∷ rest) e h = cc h
 
-passed-all : (a b c d : Bool) (w x y z : MatrixFault) (v more : List Entry)
+pub passed-all : (a b c d : Bool) (w x y z : MatrixFault) (v more : List Entry)
     → ◌≡◌ {A = Result (List Entry) MatrixFault} (if a then Err w else if b then Err x else if c then Err y else if d then Err z else Ok v) (Ok more) → (c ≡ false) × (d ≡ false) × (v ≡ more)
 passed-all false false false false w x y z v more h = (refl, refl, cc h)
 passed-all false false false true w x y z v more h = cc h

@@ -48,7 +48,7 @@ matrix-limits n pairs series k is = record {
 }
 
 -- a series over other pairs and steps
-over-limits : (n : ℕ) (pairs : List Pair) (count : ℕ) (series : Series) → All (IsPairAmong n) pairs → AscendPairs pairs → count ≤ 1024 →
+pub over-limits : (n : ℕ) (pairs : List Pair) (count : ℕ) (series : Series) → All (IsPairAmong n) pairs → AscendPairs pairs → count ≤ 1024 →
     IsSeries n series → IsSeries n (series_over pairs count series)
 over-limits n pairs count series among ascend few is = record {
   pairs = among;

@@ -1,5 +1,5 @@
 -- Which series are within the limits, as statements.
-use Rattle.std.specs.Prelude.{ℕ, ◌≡◌, ◌≤◌, List, length, IsTrue, Ok}
+use Rattle.std.specs.Prelude.{ℕ, ◌≡◌, ◌≤◌, List, length, IsTrue, None, Ok}
 use Rattle.te_model.specs.declared.network.Network.{Network}
 use Rattle.te_model.specs.declared.route.Pair.{Pair}
 use Rattle.te_model.specs.Network.{is_well_formed, node_count}
@@ -9,6 +9,7 @@ use Rattle.traffic_matrix.specs.First.{first_matrix}
 use Rattle.traffic_matrix.specs.Rows.{series_in}
 use Rattle.traffic_matrix.specs.Gravity.{gravity_of}
 use Rattle.traffic_matrix.specs.Limits.{IsSeries}
+use Rattle.traffic_matrix.specs.Outside.{AreAmong, first_row_outside_in}
 use Rattle.traffic_matrix.specs.Traffic.{IsTraffic, has_pair, known_traffic, predicted_traffic}
 
 -- the series that the bytes of a file make for a network is within the limits
@@ -37,3 +38,9 @@ SentStays =
     (n : ℕ) (sent predictions : Series) → IsSeries n sent →
     ((pair : Pair) → IsTrue (has_pair predictions.pairs.list pair) → IsTrue (has_pair sent.pairs.list pair)) →
     (predicted_traffic n sent predictions).sent ≡ sent
+
+-- a file without a row outside some pairs declares no other pair
+abbrev pub PairsStayInside : Type 0
+PairsStayInside =
+    (net : Network) (pairs : List Pair) (bytes : List ℕ) (series : Series) → series_in net bytes ≡ Ok series →
+    first_row_outside_in net pairs bytes ≡ None → AreAmong series.pairs.list pairs

@@ -8,4 +8,5 @@ pub mod Limits
 pub mod Gravity
 pub mod Text
 pub mod Traffic
+pub mod Outside
 pub mod Laws

@@ -28,6 +28,10 @@ matrix_over pairs series k = record { demand = map (demand_for series.pairs.list
 abbrev pub series_over : List Pair → ℕ → Series → Series
 series_over pairs count series = record { pairs = record { list = pairs }; steps = map (matrix_over pairs series) (range_with_len 0 count) }
 
+-- the same series over these pairs, 0 of one that it does not have
+abbrev pub with_pairs : List Pair → Series → Series
+with_pairs pairs series = series_over pairs (length series.steps) series
+
 -- the pair stands in the list
 abbrev pub has_pair : List Pair → Pair → Bool
 has_pair pairs pair = list_any (λ p. same_pair p pair) pairs

@@ -1,5 +1,5 @@
-//! Which series are within the limits, by the definitions alone.
-ghost use Rattle.traffic_matrix.specs.Laws.{FirstMatricesAreInRange, GravityIsInRange, SentStays, SeriesAreInRange, TrafficIsInRange};
+//! Which series are within the limits, and which pairs they declare, by the definitions alone.
+ghost use Rattle.traffic_matrix.specs.Laws.{FirstMatricesAreInRange, GravityIsInRange, PairsStayInside, SentStays, SeriesAreInRange, TrafficIsInRange};
 
 /// The series that the bytes of a file make for a network is within the limits.
 pub fn series_are_in_range()
@@ -24,4 +24,9 @@ pub fn traffic_is_in_range()
 /// Predictions of no further pair leave what is sent as it is.
 pub fn sent_stays()
     ensures { SentStays }
+{}
+
+/// A matrix file without a row outside some pairs declares no other pair.
+pub fn pairs_stay_inside()
+    ensures { PairsStayInside }
 {}

@@ -9,8 +9,8 @@ ghost use Rattle.traffic_matrix.specs.Traffic.{has_pair, pairs_of_either};
 use std::alloc::Global;
 use te_model::{Memory, Pair};
 
-// The place of a pair among all pairs of the nodes.
-fn place_of(nodes: usize, pair: Pair) -> usize
+/// The place of a pair among all pairs of the nodes.
+pub fn place_of(nodes: usize, pair: Pair) -> usize
     requires nodes { nodes ≤ FORMAT_2.nodes }
     requires pair { IsNodePair nodes pair }
     ensures value { result ≡ place_of_pair nodes pair }
@@ -19,8 +19,8 @@ fn place_of(nodes: usize, pair: Pair) -> usize
     pair.src as usize * nodes + pair.dst as usize
 }
 
-// The marks with those of the places of these pairs.
-fn with_marks(mut marks: Vec<bool>, nodes: usize, pairs: &[Pair]) -> Vec<bool>
+/// The marks with those of the places of these pairs.
+pub fn with_marks(mut marks: Vec<bool>, nodes: usize, pairs: &[Pair]) -> Vec<bool>
     requires nodes { nodes ≤ FORMAT_2.nodes }
     requires count { vec_len marks ≡ nodes * nodes }
     requires pairs { All (IsNodePair nodes) pairs.now }

@@ -1,8 +1,10 @@
 //! A series over other pairs and steps than its own.
-ghost use Rattle.std.specs.Prelude.{◌≡◌, Bool, IfOk, drop, filter, length, map};
+ghost use Rattle.std.specs.Prelude.{◌≡◌, ℕ, All, Bool, IfOk, drop, filter, length, map};
 ghost use Rattle.te_model.specs.declared.route.Pair.{Pair};
-ghost use Rattle.te_model.specs.Pairs.{AscendPairs};
-ghost use Rattle.traffic_matrix.specs.Traffic.{demand_for, has_pair, matrix_over, series_over};
+ghost use Rattle.te_model.specs.Pairs.{AscendPairs, IsPairAmong};
+ghost use Rattle.traffic_matrix.specs.Limits.{IsSeries};
+ghost use Rattle.traffic_matrix.specs.Outside.{AreAmong};
+ghost use Rattle.traffic_matrix.specs.Traffic.{demand_for, has_pair, matrix_over, series_over, with_pairs};
 ghost use Rattle.traffic_matrix.specs.Pairs.{begins_with};
 
 use crate::series::Series;
@@ -84,4 +86,17 @@ pub fn series_over(
         },
         steps: Items::new(steps),
     })
+}
+
+/// The same series over these pairs, among which its own stand: a pair that it does not have demands nothing. The pairs ascend, as its
+/// own do. `Memory` comes where memory is wanting.
+pub fn with_pairs(alloc: Global, pairs: &[Pair], series: &Series) -> Result<Series, Memory>
+    requires series { (n : ℕ) × IsSeries n series.now × All (IsPairAmong n) pairs.now }
+    requires among { AreAmong series.now.pairs.list pairs.now }
+    requires ascending { AscendPairs pairs.now }
+    ensures series { IfOk result (λ s. s ≡ with_pairs pairs.now series.now) }
+    ensures in_range { (n : ℕ) → IsSeries n series.now → All (IsPairAmong n) pairs.now → IfOk result (IsSeries n) }
+{
+    let count = series.steps.as_slice().len();
+    series_over(alloc, pairs, count, series)
 }

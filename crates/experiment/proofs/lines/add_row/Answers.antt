@@ -1,6 +1,6 @@
 use Rattle.std.proofs.Common.{ap, ◌∙◌}
 use Rattle.experiment.specs.Text.{with_step}
-use Rattle.experiment.proofs.reporting.add_row.Goals as goal
+use Rattle.experiment.proofs.lines.add_row.Goals as goal
 
 pub returns-clause-line : goal.returns-clause-line
 returns-clause-line c = c.in_ok-print_row.ensures
