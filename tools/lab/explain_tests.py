@@ -46,6 +46,21 @@ STEPS = [
     ("the step before the failures", "2", {"cuts.csv": ""}, "refused: tm.csv: no step 2", []),
 ]
 
+# A plan over the network of the smallest certificate, what is called of it with the certificate, the files that differ, the line, and the words.
+OF_SMALLEST = {
+    "c": SMALLEST,
+    "plan.json": '{"topology":"net.csv","matrices":"tm.csv"}',
+    "net.csv": "source,target,capacity,cost\na,b,10,1\n",
+    "tm.csv": "step,source,target,demand\n0,a,b,7\n",
+}
+SIMULATIONS = [
+    ("the network and the pairs of the certificate", {}, "", ["accepted: 2 nodes, 1 links, 1 pairs, 1 steps"]),
+    ("a pair without a route", {"tm.csv": "step,source,target,demand\n0,a,b,7\n0,b,a,1\n"}, "refused: tm.csv: no route at row 2", ["no pair from b to a"]),
+    ("a fault of the matrices before the pair", {"tm.csv": "step,source,target,demand\n0,b,a,1\n0,a,x,1\n"}, "refused: tm.csv: unknown node at row 2", []),
+    ("another capacity", {"net.csv": "source,target,capacity,cost\na,b,11,1\n"}, "refused: net.csv: not the network", ["10 in the certificate, and 11"]),
+    ("a certificate that is cut", {"c": SMALLEST[:-4]}, "refused: c: shape at line 16", ["it was cut"]),
+]
+
 
 class Explain:
     """The tool as a module: `load` gives a tool by its name, and `call` what its `main` writes in a folder, and its status."""
@@ -67,6 +82,8 @@ class Explain:
             yield f"explain: {name}", self.faults({**GOOD, **files}, ["plan.json"], line, words)
         for name, step, files, line, words in STEPS:
             yield f"explain a step: {name}", self.faults({**GOOD, **files}, ["plan.json", step], line, words)
+        for name, files, line, words in SIMULATIONS:
+            yield f"explain a simulation: {name}", self.faults({**OF_SMALLEST, **files}, ["c", "plan.json"], line, words)
         for name, call, files, line, words in CERTIFICATE_CASES:
             yield f"explain a certificate: {name}", self.faults({**FILES, **files}, call, line, words)
         for name, faults_of_case in warning_tests.CASES + warning_tests.CASES_OF_PROGRAM * self.has_program:

@@ -2,8 +2,9 @@
 import os
 import stat
 
+from .claim_words import network_words
 from .faults import Fault
-from .inputs import INPUT_LIMIT, read_failures, read_matrices, read_topology
+from .inputs import INPUT_LIMIT, MATRICES, Table, read_failures, read_matrices, read_topology
 from .plans import read_plan
 from .unread_words import unread_words
 
@@ -55,15 +56,31 @@ def with_step(step, series, faults):
     return series, [*faults, *([Fault("no step", value=step, other=len(series.steps))] if lacks else [])]
 
 
+def of_network(cert, net, faults):
+    """The network and its faults, of which the last is that it is not the certificate's, where one is given."""
+    difference = network_words(cert, net) if cert and not faults else None
+    return net, [*faults, *([Fault("not the network", value=difference)] if difference else [])]
+
+
+def of_pairs(cert, net, data, series, faults):
+    """The series and its faults, of which the last is the first row of a pair that the certificate does not declare, where one is given."""
+    if cert is None or faults:
+        return series, faults
+    declared = {tuple(it[:2]) for it in cert["pairs"]}
+    outside = (it for it in Table(data, MATRICES).rows if tuple(net.nodes[name] for name in it.fields[1:3]) not in declared)
+    first = next(outside, None)
+    return series, [Fault("no route", first.number, first)] if first else []
+
+
 class Reading:
     """The files in the order of the program, and the plan, network, series and outages, as far as they were read.
 
     Where a file cannot be read, `unread` says so in words, and no file after it is looked at. A step that is given is one that the series has
-    to have.
+    to have; a certificate that is given is one whose network and pairs the files have to have.
     """
 
-    def __init__(self, name, goes_on, step=None):
-        self.name, self.goes_on, self.step = name, goes_on, step
+    def __init__(self, name, goes_on, step=None, cert=None):
+        self.name, self.goes_on, self.step, self.cert = name, goes_on, step, cert
         self.files, self.unread = [], None
         self.plan = self.net = self.series = self.predictions = self.outages = None
         try:
@@ -74,14 +91,17 @@ class Reading:
     def read(self):
         self.plan = self.next("plan", self.name, read_plan)
         if self.plan is not None:
-            self.net = self.next("topology", self.plan.topology, read_topology)
+            self.net = self.next("topology", self.plan.topology, lambda it: of_network(self.cert, *read_topology(it)))
         if self.net is not None:
-            self.series = self.next("matrices", self.plan.matrices, lambda it: with_step(self.step, *read_matrices(it, self.net)))
+            self.series = self.next("matrices", self.plan.matrices, self.series_of)
         if self.series is not None and self.plan.predictions:
             self.predictions = self.next("matrices", self.plan.predictions, lambda it: read_matrices(it, self.net))
         if self.series is not None and self.plan.failures and (self.predictions is not None or not self.plan.predictions):
             links, steps = len(self.net.links), len(self.series.steps)
             self.outages = self.next("failures", self.plan.failures, lambda it: read_failures(it, links, steps))
+
+    def series_of(self, data):
+        return with_step(self.step, *of_pairs(self.cert, self.net, data, *read_matrices(data, self.net)))
 
     def next(self, kind, name, reader):
         """What the file gives; None where that is not to be used, since the program stops there."""

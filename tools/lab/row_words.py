@@ -112,6 +112,11 @@ def no_step_words(fault):
     return f"the series has the steps 0 to {fault.other - 1}: it ends with the greatest step of a row", "count steps from 0"
 
 
+def no_route_words(fault):
+    source, target = map(shown, fault.record.fields[1:3])
+    return f"the certificate declares no pair from {source} to {target}", "publish a plan whose matrices have the pair, or drop its rows"
+
+
 def order_words(fault):
     return f"step {shown(fault.record.fields[0])} comes after step {fault.other}", "sort the rows by step, as numbers: sort -s -t, -k1,1n FILE keeps the header first"
 

@@ -5,8 +5,8 @@ from .letters import shown
 from .number_words import number_words
 from .plan_words import plan_words
 from .row_words import (
-    failure_number_words, fields_words, header_again_words, interval_words, is_header, name_words, no_link_words, order_words, repeated_words,
-    no_step_words, too_many_steps_words, too_many_words, unknown_words,
+    failure_number_words, fields_words, header_again_words, interval_words, is_header, name_words, no_link_words, no_route_words, order_words,
+    repeated_words, no_step_words, too_many_steps_words, too_many_words, unknown_words,
 )
 
 ORDINALS = ("first", "second", "third", "fourth")
@@ -32,6 +32,8 @@ def why(kind, fault, data, net):
         "repeated": lambda: repeated_words(fault),
         "too many steps": lambda: too_many_steps_words(fault.record.fields[0]),
         "no step": lambda: no_step_words(fault),
+        "no route": lambda: no_route_words(fault),
+        "not the network": lambda: fault.value,
     }
     return words.get(fault.kind, lambda: simple_words(fault))()
 

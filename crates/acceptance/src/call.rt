@@ -137,6 +137,12 @@ pub const PATHS: Command<'static> = Command {
     ..LINKS
 };
 
+pub const SIMULATE: Command<'static> = Command {
+    words: &["simulate", "c", "p"],
+    names: &["c", "p", "t", "m"],
+    publishes: false,
+};
+
 /// A network of two nodes is drawn, and no file is read.
 pub const GENERATE: Command<'static> = Command {
     words: &["gen", "2", "0"],

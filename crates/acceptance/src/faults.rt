@@ -5,7 +5,7 @@ ghost use Rattle.std.specs.Prelude.{◌≤◌};
 use crate::call::{
     ATTACK, BOUND_HOSE, CHALLENGE, CHECK, CHECK_HOSE, CHECK_NETWORK, CHECK_RATES, CHECK_WITNESS,
     CONVERT, Call, Command, GENERATE, LINK_BOUNDS, LINKS, Outcome, PAIRS, PATHS, PROTECT, PUBLISH,
-    REPRICE, RUN, Row, TIGHTEN, UPDATE, depot_for, is_due, large_out, outcome_of, says,
+    REPRICE, RUN, Row, SIMULATE, TIGHTEN, UPDATE, depot_for, is_due, large_out, outcome_of, says,
 };
 use crate::texts::{
     BOUNDS, DEMAND, FAILURE, HOSE, LINE, LINK, PLAN, RATES, SMALLEST, SMALLEST_IN_SECOND,
@@ -157,6 +157,17 @@ const CALLS: &[(Command<'static>, Row<'static>)] = &[
             4,
             0,
             "scheme,source,target,weight,links\nspf,s,t,1000000,0\n",
+        ),
+    ),
+    (
+        SIMULATE,
+        (
+            &[&[SMALLEST], &[SPF], &[LINK], &[DEMAND]],
+            4,
+            0,
+            "scheme,step,offered,delivered,lost_full,lost_failed,lost_no_path,peak,parts,low\n\
+         certificate,0,1,1,0,0,0,100000,100000,-\n\
+         certificate,total,1,1,0,0,0,100000,100000,-\n",
         ),
     ),
     (NO_WORDS, (&[], 0, 2, "usage\n")),

@@ -30,7 +30,7 @@ use Rattle.command_files.specs.PlanReading.{with_failures, with_plan, with_predi
 use Rattle.command_files.proofs.Regular.{inputs_regular}
 
 -- the value that a reader gave
-given_by : {A F : Type 0} (reason : F → List ℕ) (r : Result A F) (value : A) → in_words reason r ≡ Ok value → r ≡ Ok value
+pub given_by : {A F : Type 0} (reason : F → List ℕ) (r : Result A F) (value : A) → in_words reason r ≡ Ok value → r ≡ Ok value
 given_by reason (Ok x) value is = ap Ok (ok_once x value is)
 given_by reason (Err e) value is = absurd (ok_or_err value (reason e) (sym is))
 

@@ -24,7 +24,7 @@ use topology::TopologyFault;
 use traffic_matrix::{MatrixFault, Series};
 
 /// The greatest file of a topology, of matrices, of failures, of rates, of a hose, of a hose certificate or of a plan, in bytes.
-const INPUT_LIMIT: u64 = 67_108_864;
+pub const INPUT_LIMIT: u64 = 67_108_864;
 
 /// The greatest file of a witness, in bytes.
 const WITNESS_LIMIT: u64 = 1_073_741_824;

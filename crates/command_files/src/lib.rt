@@ -18,8 +18,8 @@ pub use answer::{answer_of, failure_answer};
 pub use certificates::{feed_in, head_in};
 pub use inputs::{Inputs, inputs_in, outages_in, predictions_in, traffic_of};
 pub use kind::{
-    Capacities, Certificates, FailureFiles, HoseCerts, Hoses, Matrices, Plans, Rates, Topologies,
-    Witnesses,
+    Capacities, Certificates, FailureFiles, HoseCerts, Hoses, INPUT_LIMIT, Matrices, Plans, Rates,
+    Topologies, Witnesses,
 };
 pub use number::decimal_number;
 pub use reasons::{

@@ -3,4 +3,5 @@ pub mod WitnessedAlike
 pub mod UpdatedAlike
 pub mod ProtectedAlike
 pub mod HosesAlike
+pub mod SimulatedAlike
 pub mod Table

@@ -10,7 +10,7 @@ use Rattle.plan_commands.specs.BreakDown.{step_number}
 use Rattle.command_files.specs.DecimalNumber.{decimal_number}
 use Rattle.plan_commands.specs.Generate.{drawn_of, nodes_and_seed}
 use Rattle.routing_commands.specs.Protect.{failures_of, few_failures}
-use Rattle.te_command.specs.Commands.{Command, attack, bound_hose, bound_links, break_down, challenge, check, check_hose, check_network, check_rates, check_witness, convert, protect, publish, reprice, run, generate, tighten, update, command_of, entry_of, commands}
+use Rattle.te_command.specs.Commands.{Command, attack, bound_hose, bound_links, break_down, challenge, check, check_hose, check_network, check_rates, check_witness, convert, protect, publish, reprice, run, generate, simulate, tighten, update, command_of, entry_of, commands}
 use Rattle.certificate_commands.proofs.Attacking.{attack_is_sound}
 use Rattle.certificate_commands.proofs.Challenging.{challenge_is_sound}
 use Rattle.certificate_commands.proofs.Checking.{check_is_sound, check_network_is_sound}
@@ -28,6 +28,7 @@ use Rattle.routing_commands.proofs.Protecting.{protect_is_sound}
 use Rattle.certificate_commands.proofs.Tightening.{tighten_is_sound}
 use Rattle.routing_commands.proofs.Updating.{update_is_sound}
 use Rattle.plan_commands.proofs.BreakingDown.{break_down_is_sound}
+use Rattle.simulation_command.proofs.Simulating.{simulate_is_sound}
 
 entry_is_sound : (command : Command) → IsSoundEntry (entry_of command)
 entry_is_sound (attack file) = attack_is_sound file
@@ -48,6 +49,7 @@ entry_is_sound (bound_links certificate) = bounds_is_sound certificate
 entry_is_sound (reprice certificate topology) = reprice_is_sound certificate topology
 entry_is_sound (tighten certificate) = tighten_is_sound certificate
 entry_is_sound (break_down breakdown file k) = break_down_is_sound breakdown k file
+entry_is_sound (simulate certificate plan) = simulate_is_sound certificate plan
 
 -- the numbers of the command are in their range, where there is one
 abbrev InRangeOf : Option Command → Type 0
@@ -96,12 +98,13 @@ asked_in_range (word ∷ file ∷ next ∷ []) =
     (where_in_range (bytes_eq word (codes "hose")) (Some (bound_hose file next)) _ tt
     (where_in_range (bytes_eq word (codes "check-hose")) (Some (check_hose file next)) _ tt
     (where_in_range (bytes_eq word (codes "reprice")) (Some (reprice file next)) _ tt
+    (where_in_range (bytes_eq word (codes "simulate")) (Some (simulate file next)) _ tt
     (where_in_range (bytes_eq word (codes "links")) (option_map (break_down Links file) (step_number next)) _
     (step_in_range Links file (step_number next))
     (where_in_range (bytes_eq word (codes "pairs")) (option_map (break_down Pairs file) (step_number next)) _
     (step_in_range Pairs file (step_number next))
     (where_in_range (bytes_eq word (codes "paths")) (option_map (break_down Paths file) (step_number next)) None
-    (step_in_range Paths file (step_number next)) tt))))))))
+    (step_in_range Paths file (step_number next)) tt)))))))))
 asked_in_range (word ∷ file ∷ next ∷ last ∷ []) =
     where_in_range (bytes_eq word (codes "update")) (Some (update file next last)) _ tt
     (where_in_range (bytes_eq word (codes "check-rates")) (Some (check_rates file next last)) _ tt

@@ -1,7 +1,7 @@
 -- The command that was read from the words.
 use Rattle.te_command.specs.declared.words.Command.{Command as Asked}
 use Rattle.te_command.specs.declared.words.Command.TheVariants as asked
-use Rattle.te_command.specs.Commands.{Command, attack, bound_hose, bound_links, break_down, challenge, check, check_hose, check_network, check_rates, check_witness, convert, protect, publish, reprice, run, generate, tighten, update}
+use Rattle.te_command.specs.Commands.{Command, attack, bound_hose, bound_links, break_down, challenge, check, check_hose, check_network, check_rates, check_witness, convert, protect, publish, reprice, run, generate, simulate, tighten, update}
 
 abbrev pub command_meant : Asked → Command
 command_meant (asked.Attack c) = attack c.certificate.now
@@ -22,3 +22,4 @@ command_meant (asked.Bounds c) = bound_links c.certificate.now
 command_meant (asked.Reprice c) = reprice c.certificate.now c.topology.now
 command_meant (asked.Tighten c) = tighten c.certificate.now
 command_meant (asked.BreakDown c) = break_down c.breakdown c.plan.now c.step
+command_meant (asked.Simulate c) = simulate c.certificate.now c.plan.now

@@ -21,6 +21,7 @@ use Rattle.routing_commands.specs.Protect.{failures_of, protect_entry}
 use Rattle.plan_commands.specs.Publish.{publish_entry}
 use Rattle.plan_commands.specs.Report.{run_entry}
 use Rattle.certificate_commands.specs.Reprice.{reprice_entry}
+use Rattle.simulation_command.specs.Simulate.{simulate_entry}
 use Rattle.certificate_commands.specs.Tighten.{tighten_entry}
 use Rattle.routing_commands.specs.Update.{update_entry}
 
@@ -29,7 +30,8 @@ use Rattle.routing_commands.specs.Update.{update_entry}
 -- the seed; of `update`, the names of the older certificate, the newer one and the matrices; of `protect` and `check-rates`, the names of
 -- the certificate and the matrices, and the number of links that may fail or the name of the rates; of `hose` and `check-hose`, the names of
 -- the certificate and of the bounds or the hose certificate; of `bounds`, `reprice` and `tighten`, the name of the certificate, and of
--- `reprice` that of the topology; of `links`, `pairs` and `paths`, by what a step is broken down, the name of the plan and the number of the step
+-- `reprice` that of the topology; of `links`, `pairs` and `paths`, by what a step is broken down, the name of the plan and the number of the step; of `simulate`,
+-- the names of the certificate and of the plan
 pub data Command : Type 0 where
   attack : List ℕ → Command
   challenge : List ℕ → Command
@@ -49,6 +51,7 @@ pub data Command : Type 0 where
   reprice : List ℕ → List ℕ → Command
   tighten : List ℕ → Command
   break_down : Breakdown → List ℕ → ℕ → Command
+  simulate : List ℕ → List ℕ → Command
 
 -- the command of the words, where they are one of the forms
 abbrev pub command_of : List (List ℕ) → Option Command
@@ -71,6 +74,7 @@ command_of (word ∷ file ∷ next ∷ []) =
     else if bytes_eq word (codes "hose") then Some (bound_hose file next)
     else if bytes_eq word (codes "check-hose") then Some (check_hose file next)
     else if bytes_eq word (codes "reprice") then Some (reprice file next)
+    else if bytes_eq word (codes "simulate") then Some (simulate file next)
     else if bytes_eq word (codes "links") then option_map (break_down Links file) (step_number next)
     else if bytes_eq word (codes "pairs") then option_map (break_down Pairs file) (step_number next)
     else if bytes_eq word (codes "paths") then option_map (break_down Paths file) (step_number next)
@@ -102,6 +106,7 @@ entry_of (bound_links certificate) = bounds_entry certificate
 entry_of (reprice certificate topology) = reprice_entry certificate topology
 entry_of (tighten certificate) = tighten_entry certificate
 entry_of (break_down breakdown plan k) = break_down_entry breakdown plan k
+entry_of (simulate certificate plan) = simulate_entry certificate plan
 
 -- the table of commands
 abbrev pub commands : TableOf Command

@@ -7,7 +7,7 @@ ghost use Rattle.fault_rates.specs.Answers.{verdict_line};
 ghost use Rattle.command_frame.specs.Files.{Span, span, given_files, told_files, known_files};
 ghost use Rattle.command_frame.specs.Reading.{IsTold, Means, MeansStatus, Proves, ReadFailed, RefusesUntold};
 ghost use Rattle.command_frame.specs.Order.{ReadsAlong, AsksNext};
-ghost use Rattle.te_command.specs.Commands.{Command, attack, bound_hose, challenge, check, check_hose, check_network, check_rates, check_witness, protect, reprice, tighten, update, reading_of, MeansOneText};
+ghost use Rattle.te_command.specs.Commands.{Command, attack, bound_hose, challenge, check, check_hose, check_network, check_rates, check_witness, protect, reprice, simulate, tighten, update, reading_of, MeansOneText};
 ghost use Rattle.certificate_commands.specs.Attack.{SaysYesTo};
 ghost use Rattle.routing_commands.specs.BoundHose.{SaysYesToHose};
 ghost use Rattle.certificate_commands.specs.Challenge.{ShowsNoLess};
@@ -147,6 +147,13 @@ pub fn converted_files_are_bounded_alike()
     ensures check_hose { (content : List ℕ → Option (List ℕ)) → (file : List ℕ) → (made : List ℕ) → (hose : List ℕ) → AreConverted content file made →
         (status : ℕ) → (text : List ℕ) → Means (reading_of (check_hose file hose)) (told_files content) status text ↔
         Means (reading_of (check_hose made hose)) (told_files content) status text }
+{}
+
+/// `simulate` means of the file that `convert` made what it means of the one that was converted, and nothing else.
+pub fn converted_files_are_simulated_alike()
+    ensures { (content : List ℕ → Option (List ℕ)) → (file : List ℕ) → (made : List ℕ) → (plan : List ℕ) → AreConverted content file made →
+        (status : ℕ) → (text : List ℕ) → Means (reading_of (simulate file plan)) (told_files content) status text ↔
+        Means (reading_of (simulate made plan)) (told_files content) status text }
 {}
 
 /// `check-hose` says yes to what `hose` means of a told certificate and a told hose, where it is told under any name.

@@ -11,6 +11,7 @@ use certificate_commands::{
 use command_frame::{Answer, Ask, Fault, Table};
 use plan_commands::{BreakDown, Generate, Publish, RunPlan, generate_of, step_of};
 use routing_commands::{BoundHose, CheckHose, CheckRates, Protect, Update, failures_of};
+use simulation_command::Simulate;
 use std::alloc::Global;
 use step_detail::Breakdown;
 use te_ports::Depot;
@@ -36,6 +37,7 @@ pub enum Command<'a> {
     Reprice(Reprice<'a>),
     Tighten(Tighten<'a>),
     BreakDown(BreakDown<'a>),
+    Simulate(Simulate<'a>),
 }
 
 impl<'a> Ask for Command<'a> {
@@ -63,6 +65,7 @@ impl<'a> Ask for Command<'a> {
             Command::Reprice(command) => command.answer(alloc, depot),
             Command::Tighten(command) => command.answer(alloc, depot),
             Command::BreakDown(command) => command.answer(alloc, depot),
+            Command::Simulate(command) => command.answer(alloc, depot),
         }
     }
 }
@@ -164,6 +167,11 @@ fn command_with_two<'a>(word: &str, first: &'a str, second: &'a str) -> Option<C
         Some(Command::Reprice(Reprice {
             certificate: first,
             topology: second,
+        }))
+    } else if word == "simulate" {
+        Some(Command::Simulate(Simulate {
+            certificate: first,
+            plan: second,
         }))
     } else if word == "links" {
         break_down_by(Breakdown::Links, first, second)

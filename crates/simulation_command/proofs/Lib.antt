@@ -1,0 +1,3 @@
+pub mod SimulationFiles
+pub mod Simulating
+pub mod UpgradedAlike

@@ -1,0 +1,4 @@
+pub mod NetworkFile
+pub mod RoutedMatrices
+pub mod SimulationReasons
+pub mod Simulate
