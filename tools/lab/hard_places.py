@@ -1,7 +1,9 @@
 """Calls at places that are full, slow, missing or not allowed: a file system without room, a pipe whose reader is slow, files that cannot be
-opened, a device without an end, and more words than a command has. What they have to answer is what docs/FORMATS.md says of the statuses.
+opened, a device without an end, more words than a command has, and a stack of the least size that README names. What they have to answer is
+what docs/FORMATS.md says of the statuses.
 """
 import os
+import resource
 import shutil
 import subprocess
 import tempfile
@@ -9,9 +11,12 @@ import time
 
 from .certificates import SMALLEST
 from .folders import write_files
+from .limits import CALLS, GOOD
 from .real_files import UNREAD, UNWRITTEN, YES, Call, faults_of, large_certificate
 
 NOBODY = 65534
+# In bytes: what each command does with.
+STACK = 320 << 10
 
 
 def full_file_system(program, folder):
@@ -118,6 +123,14 @@ def name_with_a_line_feed(program, folder):
     return faults_of(Call(program, ["check", "a\nb"], folder).answer(), (3, "", "refused: a\nb: shape at line 1\n"))
 
 
+def small_stack(program, folder):
+    """Each call of the tables of limits, and a plan of 127 levels, answers as it does with more of the stack."""
+    write_files(folder, {**GOOD, "n": '{"":' * 127 + "0" + "}" * 127})
+    how = {"preexec_fn": lambda: resource.setrlimit(resource.RLIMIT_STACK, (STACK, STACK))}
+    calls = [["run", "n"], *(words for _, of_kind in CALLS.values() for words in of_kind)]
+    return [it for words in calls for it in faults_of(Call(program, words, folder, **how).answer(), Call(program, words, folder).answer())]
+
+
 CASES = [
     ("a full file system", full_file_system),
     ("a full pipe that does not wait", slow_reader),
@@ -130,6 +143,7 @@ CASES = [
     ("an endless device", endless_device),
     ("three hundred words", many_words),
     ("a long word", long_words),
+    ("a small stack", small_stack),
 ]
 
 

@@ -12,6 +12,7 @@ from .witnesses import OF_SMALLEST
 
 INPUT, FIRST_LIMIT, SECOND_LIMIT, WITNESS_LIMIT = 67_108_864, 134_217_728, 1_073_741_824, 1_073_741_824
 PLAN = '{"topology":"t","matrices":"m","failures":"f","schemes":["spf"],"publish":"spf"}'
+PREDICTED = PLAN.replace('"failures"', '"predictions":"q","failures"')
 DEMANDS, OUTAGES = "step,source,target,demand\n", "from,to,link\n"
 # Rates for any demand, and the calls that read the demands of a certificate.
 RATES = "yates-rates 1\nfailures 1\n0 0\nend\n"
@@ -21,17 +22,18 @@ BOUNDS = "yates-bounds 1\nsent 0 0\nreceived 0 0\nend\n"
 HOSE = "yates-hose 1\nsent 0 0\nreceived 0 0\nbound 0\nblocks 0\nend\n"
 HOSES = [["hose", "c", "b"], ["check-hose", "c", "h"]]
 # The files of a call, of which one is exchanged; and by the kind of this one its name, and the words of the calls that read it.
-GOOD = {"c": SMALLEST, "w": OF_SMALLEST, "t": HEADER + ROW, "m": DEMAND, "r": RATES, "b": BOUNDS, "h": HOSE, "f": OUTAGES + "0,0,0\n", "p": PLAN}
+GOOD = {"c": SMALLEST, "w": OF_SMALLEST, "t": HEADER + ROW, "m": DEMAND, "r": RATES, "b": BOUNDS, "h": HOSE, "f": OUTAGES + "0,0,0\n", "p": PLAN, "q": DEMAND, "s": PREDICTED}
 CALLS = {
-    "certificate": ("c", [["check", "c"], ["check", "c", "t"], ["check-witness", "c", "w"], ["attack", "c"], ["challenge", "c"], ["update", "c", "c", "m"], *PROTECTED, *HOSES, ["convert", "c"], ["bounds", "c"], ["reprice", "c", "t"], ["tighten", "c"]]),
+    "certificate": ("c", [["check", "c"], ["check", "c", "t"], ["check-witness", "c", "w"], ["attack", "c"], ["challenge", "c"], ["update", "c", "c", "m"], *PROTECTED, *HOSES, ["convert", "c"], ["bounds", "c"], ["reprice", "c", "t"], ["tighten", "c"], ["simulate", "c", "p"]]),
     "witness": ("w", [["check-witness", "c", "w"]]),
     "rates": ("r", [["check-rates", "c", "m", "r"]]),
     "bounds": ("b", [["hose", "c", "b"]]),
     "hose certificate": ("h", [["check-hose", "c", "h"]]),
-    "topology": ("t", [["check", "c", "t"], ["reprice", "c", "t"], ["publish", "p"], ["run", "p"], ["links", "p", "0"]]),
-    "matrices": ("m", [["publish", "p"], ["run", "p"], ["links", "p", "0"], ["update", "c", "c", "m"], *PROTECTED]),
-    "failures": ("f", [["run", "p"], ["pairs", "p", "0"]]),
-    "plan": ("p", [["publish", "p"], ["run", "p"], ["paths", "p", "0"]]),
+    "topology": ("t", [["check", "c", "t"], ["reprice", "c", "t"], ["publish", "p"], ["run", "p"], ["simulate", "c", "p"], ["links", "p", "0"]]),
+    "matrices": ("m", [["publish", "p"], ["run", "p"], ["simulate", "c", "p"], ["links", "p", "0"], ["update", "c", "c", "m"], *PROTECTED]),
+    "predictions": ("q", [["publish", "s"], ["run", "s"], ["simulate", "c", "s"], ["links", "s", "0"]]),
+    "failures": ("f", [["run", "p"], ["simulate", "c", "p"], ["pairs", "p", "0"]]),
+    "plan": ("p", [["publish", "p"], ["run", "p"], ["simulate", "c", "p"], ["paths", "p", "0"]]),
 }
 # The bytes that are written at once.
 PIECE = 1 << 20
@@ -106,7 +108,7 @@ def inputs():
     for kind, (name, _) in list(CALLS.items())[5:]:
         yield from at_limit("blanks" if kind == "plan" else "line feeds", kind, GOOD[name], b" " if kind == "plan" else b"\n", INPUT, None)
     for what, unit in (("commas", b","), ("quotes", b'"'), ("line feeds", b"\n"), ("bytes of 255", b"\xff")):
-        for kind, header in (("topology", HEADER), ("matrices", DEMANDS), ("failures", OUTAGES)):
+        for kind, header in (("topology", HEADER), ("matrices", DEMANDS), ("predictions", DEMANDS), ("failures", OUTAGES)):
             yield f"{what} alone", kind, filled_file("", unit, INPUT), "header"
             reason = "fields at row 1" if unit != b"\n" else "empty" if kind == "topology" else None
             yield f"{what} below the header", kind, filled_file(header, unit, INPUT), reason
