@@ -70,7 +70,7 @@ def reason_of(kind, data):
     if kind == "bounds":
         return reason_of_bounds(data)
     net = read_topology(limits.GOOD["t"].encode())[0]
-    readers = {"topology": read_topology, "plan": read_plan, "matrices": lambda it: read_matrices(it, net), "failures": lambda it: read_failures(it, 1, 1)}
+    readers = {"topology": read_topology, "plan": read_plan, "matrices": lambda it: read_matrices(it, net), "predictions": lambda it: read_matrices(it, net), "failures": lambda it: read_failures(it, 1, 1)}
     faults = readers[kind](data)[1]
     return faults[0].reason if faults else None
 
