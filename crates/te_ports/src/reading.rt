@@ -39,7 +39,7 @@ impl From<Failed> for LoadFault {
 }
 
 // How many bytes are asked for at once.
-const CHUNK: usize = 65_536;
+const CHUNK: usize = 16_384;
 
 /// Reads the file of a name from its start to the first fetch that gives nothing, or until more bytes were read than
 /// the limit allows for them. Nothing else is read, and nothing twice.
