@@ -61,6 +61,7 @@ recovery_named text =
     else if bytes_eq text (codes "scale") then Some recovery.Scale
     else if bytes_eq text (codes "bypass") then Some recovery.Bypass
     else if bytes_eq text (codes "reroute") then Some recovery.Reroute
+    else if bytes_eq text (codes "adapt") then Some recovery.Adapt
     else None
 
 -- a key as it stands in a plan

@@ -14,6 +14,9 @@ pub enum Recovery {
     Bypass,
     /// `reroute`: the scheme is prepared anew on the network that is left.
     Reroute,
+    /// `adapt`: a scheme that keeps a set of paths for all matrices chooses its rates anew over those that have not failed; every other
+    /// scheme does as under `scale`.
+    Adapt,
 }
 
 impl Recovery {
@@ -29,6 +32,8 @@ impl Recovery {
             Some(Recovery::Bypass)
         } else if text == "reroute" {
             Some(Recovery::Reroute)
+        } else if text == "adapt" {
+            Some(Recovery::Adapt)
         } else {
             None
         }

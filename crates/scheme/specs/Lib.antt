@@ -3,5 +3,6 @@ pub mod Fault
 pub mod Fixed
 pub mod Toward
 pub mod Least
+pub mod Adaptive
 pub mod Low
 pub mod Laws
