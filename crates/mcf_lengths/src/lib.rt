@@ -5,6 +5,7 @@
 //! - `make_rounds`, `rounds_routing`: the rounds alone, and the routing that they make.
 #![tactic(auto)]
 
+mod adaptive;
 mod flow;
 mod law;
 mod loads;

@@ -8,7 +8,7 @@ use Rattle.local_search.proofs.SettledRoutings.{stable_routings_exist}
 use Rattle.dual_bounds.proofs.PathBrackets.{brackets_on_paths_exist}
 use Rattle.path_budget.specs.Budget.{trimmed_routes}
 use Rattle.path_budget.proofs.Trimming.{trimmed_has_few, trimmed_routing}
-use Rattle.semi_oblivious.specs.Laws.{AdaptedRoutingsExist, FixedRoutingsExist}
+use Rattle.semi_oblivious.specs.Laws.{AdaptedRatesExist, AdaptedRoutingsExist, FixedRoutingsExist}
 use Rattle.semi_oblivious.specs.Semi.{KeepsTo}
 use Rattle.semi_oblivious.proofs.Sweeping.{few_kept, settled_keep}
 
@@ -27,23 +27,22 @@ fixed_routings_exist budget net pairs base some ends routing = (
 own_paths : (fixed : List PairRoutes) → KeepsTo fixed fixed
 own_paths fixed p links has = has
 
--- the stable one to which moves from the fixed routing lead
-pub adapted_routings_exist : AdaptedRoutingsExist
-adapted_routings_exist budget net pairs base fixed demand formed small is demands =
-    let whole : length fixed ≡ length pairs = routes_count pairs fixed is.routing.in_order in
-    let (routes, own, stable, less, only, few) = stable_routings_exist net demand pairs fixed fixed is.routing is.routing in
-    let count : length routes ≡ length fixed = routes_count pairs routes own.in_order ∙ sym whole in
+-- the stable one to which moves from the given routing lead
+pub adapted_rates_exist : AdaptedRatesExist
+adapted_rates_exist net pairs given demand formed ends is small demands =
+    let whole : length given ≡ length pairs = routes_count pairs given is.in_order in
+    let (routes, own, stable, less, only, few) = stable_routings_exist net demand pairs given given is is in
+    let count : length routes ≡ length given = routes_count pairs routes own.in_order ∙ sym whole in
     let (note, bracket, lower, low) =
-    brackets_on_paths_exist net fixed routes demand formed is.routing.splits count (omega (arith, whole, is.ends.few))
+    brackets_on_paths_exist net given routes demand formed is.splits count (omega (arith, whole, ends.few))
     (subst (λ n. AreDemands n demand) (sym whole) demands)
-    in
-    let within = few budget (few_kept budget fixed fixed refl is.few (own_paths fixed)) in (
+    in (
       routes,
       note,
       own,
-      λ k d below. omega (arith, within k d below, small),
+      few 32 (few_kept 32 given given refl small (own_paths given)),
       record {
-        fixed_paths = settled_keep fixed fixed routes (own_paths fixed) only;
+        fixed_paths = settled_keep given given routes (own_paths given) only;
         stable = stable;
         no_greater = less;
         bracket = bracket;
@@ -51,3 +50,8 @@ adapted_routings_exist budget net pairs base fixed demand formed small is demand
       },
       low,
     )
+
+-- over the fixed paths of a plan
+pub adapted_routings_exist : AdaptedRoutingsExist
+adapted_routings_exist budget net pairs base fixed demand formed small is demands =
+    adapted_rates_exist net pairs fixed demand formed is.ends is.routing (λ k d below. omega (arith, is.few k d below, small)) demands

@@ -22,3 +22,10 @@ AdaptedRoutingsExist =
     (budget : ℕ) (net : Network) (pairs : List Pair) (base fixed : List PairRoutes) (demand : List ℕ) → IsTrue (is_well_formed net) →
     budget ≤ 32 → AreFixed budget net pairs base fixed → AreDemands (length pairs) demand →
     (routes : List PairRoutes) × (note : Bracket) × IsRoutingOf net pairs routes × HasFewPaths 32 routes × IsAdapted net fixed demand routes note × HasLow note
+
+-- The same over any given paths, no more than 32 of a pair.
+abbrev pub AdaptedRatesExist : Type 0
+AdaptedRatesExist =
+    (net : Network) (pairs : List Pair) (given : List PairRoutes) (demand : List ℕ) → IsTrue (is_well_formed net) → ArePairsOf net pairs →
+    IsRoutingOf net pairs given → HasFewPaths 32 given → AreDemands (length pairs) demand →
+    (routes : List PairRoutes) × (note : Bracket) × IsRoutingOf net pairs routes × HasFewPaths 32 routes × IsAdapted net given demand routes note × HasLow note

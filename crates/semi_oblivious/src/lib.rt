@@ -9,5 +9,5 @@ mod semi;
 mod sweeps;
 mod usage;
 
-pub use law::{adapted_routings_exist, fixed_routings_exist};
+pub use law::{adapted_rates_exist, adapted_routings_exist, fixed_routings_exist};
 pub use semi::{Semi, SemiPlan};

@@ -9,7 +9,7 @@ ghost use Rattle.routing.specs.Utilisation.{parts};
 ghost use Rattle.scheme.specs.Low.{HasLow};
 ghost use Rattle.local_search.specs.Moves.{IsStable};
 ghost use Rattle.dual_bounds.specs.GivenPaths.{IsBracketOnPaths, link_lists};
-ghost use Rattle.semi_oblivious.specs.Semi.{KeepsTo};
+ghost use Rattle.semi_oblivious.specs.Semi.{IsAdapted, KeepsTo};
 
 use crate::sweeps::sweep;
 use crate::usage::usage_lengths;
@@ -17,7 +17,7 @@ use dual_bounds::bracket_on_paths;
 use local_search::settle;
 use path_budget::trim;
 use routing::Routing;
-use scheme::{Oblivious, Scheme, SchemeFault};
+use scheme::{Adaptive, LowNote, Oblivious, Scheme, SchemeFault};
 use std::alloc::Global;
 use te_model::{Bracket, Items, Matrix, Memory, Network, Pairs};
 
@@ -89,8 +89,29 @@ fn bracket_by_usage(
     bracket_on_paths(alloc, net, fixed, routing, matrix, &lengths)
 }
 
+/// The routing of a matrix over the fixed paths, and its bracket.
+fn route_over(
+    alloc: Global,
+    net: &Network,
+    fixed: &Routing,
+    matrix: &Matrix,
+) -> Result<(Routing, Bracket), Memory>
+    requires network { IsTrue (is_well_formed net.now) }
+    requires fixed { (pairs : List Pair) × IsRoutingOf net.now pairs fixed.now.routes }
+    requires pairs { length fixed.now.routes < 2 ^ 32 }
+    requires demands { AreDemands (length fixed.now.routes) matrix.now.demand }
+    ensures routing { (pairs : List Pair) → IsRoutingOf net.now pairs fixed.now.routes → IfOk result (λ r. IsRoutingOf net.now pairs r.0.routes) }
+    ensures few { (limit : ℕ) → HasFewPaths limit fixed.now.routes → IfOk result (λ r. HasFewPaths limit r.0.routes) }
+    ensures adapted { IfOk result (λ r. IsAdapted net.now fixed.now.routes matrix.now.demand r.0.routes r.1) }
+    ensures low { IfOk result (λ r. HasLow r.1) }
+{
+    let (routing, swept) = adapt(alloc, net, fixed, matrix)?;
+    let note = bracket_by_usage(alloc, net, fixed, &routing, matrix, swept)?;
+    Ok((routing, note))
+}
+
 impl<S: Oblivious + Drop> Scheme for Semi<S> {
-    ghost use Rattle.semi_oblivious.specs.Semi.{AreFixed, IsAdapted};
+    ghost use Rattle.semi_oblivious.specs.Semi.{AreFixed};
 
     type Plan = SemiPlan<S::Plan>;
 
@@ -122,8 +143,40 @@ impl<S: Oblivious + Drop> Scheme for Semi<S> {
         plan: &SemiPlan<S::Plan>,
         matrix: &Matrix,
     ) -> Result<(Routing, Bracket), Memory> {
-        let (routing, swept) = adapt(alloc, net, &plan.fixed, matrix)?;
-        let note = bracket_by_usage(alloc, net, &plan.fixed, &routing, matrix, swept)?;
-        Ok((routing, note))
+        let routed = route_over(alloc, net, &plan.fixed, matrix)?;
+        Ok(routed)
     }
+}
+
+impl<S: Oblivious + Drop> Adaptive for Semi<S> {
+    ghost use Rattle.std.specs.Prelude.{Some, ◌≤◌};
+    ghost use Rattle.std.proofs.Common.{subst};
+    ghost use Rattle.std.proofs.Math.Nat.{le_trans};
+    ghost use Rattle.std.proofs.lemmas.List.Elements.{All-weaker};
+    ghost use Rattle.std.proofs.lemmas.Option.{same_Some};
+    ghost use Rattle.semi_oblivious.specs.Semi.{AreAdaptedRates};
+
+    ghost path_set_routes = { λ _ plan. Some plan.fixed.routes };
+
+    ghost adapts = { λ _ net given demand routes low. AreAdaptedRates net given demand routes low };
+
+    fn path_set<'a>(&self, plan: &'a SemiPlan<S::Plan>) -> Option<&'a Routing> {
+        Some(&plan.fixed)
+    }
+
+    fn adapt_rates(
+        &self,
+        alloc: Global,
+        net: &Network,
+        given: &Routing,
+        matrix: &Matrix,
+    ) -> Result<(Routing, Option<u128>), Memory> {
+        let (routing, note) = route_over(alloc, net, given, matrix)?;
+        let low = note.low();
+        Ok((routing, low))
+    }
+
+    ghost path_set_routing = { λ s net pairs plan routes is set. subst (IsRoutingOf net pairs) (same_Some plan.fixed.routes routes set) is.1.routing };
+
+    ghost path_set_few = { λ s net pairs plan routes is set. subst (HasFewPaths 32) (same_Some plan.fixed.routes routes set) (All-weaker (λ r. length r.paths ≤ s.budget) (λ r. length r.paths ≤ 32) (λ r le. le_trans le s.few) plan.fixed.routes is.1.few) };
 }
