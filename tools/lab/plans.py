@@ -6,7 +6,7 @@ from .faults import Fault
 DEFAULT_SCHEMES = ("spf", "ecmp", "ksp", "mcf", "racke", "smore")
 SCHEMES = (*DEFAULT_SCHEMES, "valiant", "robust")
 OBLIVIOUS = ("spf", "ecmp", "ksp", "racke", "valiant", "robust")
-RECOVERIES = ("none", "scale", "bypass", "reroute")
+RECOVERIES = ("none", "scale", "bypass", "reroute", "adapt")
 KEYS = (
     "topology", "matrices", "failures", "predictions", "schemes", "recovery", "publish", "margin", "k", "budget", "trees", "seed", "seeds", "envelope",
 )

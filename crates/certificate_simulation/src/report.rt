@@ -90,7 +90,7 @@ fn report_by(
 /// for each step, and the total.
 ///
 /// The routing is that of the head for every matrix, and no lower bound is stated. A pair of the head that the series does not have
-/// demands nothing. What is left of the routing where links have failed is as the recovery says, and `Reroute` is as `Scale`. An outage of
+/// demands nothing. What is left of the routing where links have failed is as the recovery says, and `Reroute` and `Adapt` are as `Scale`. An outage of
 /// a link that the network does not have changes nothing. The only error is `Memory`, where memory is wanting.
 pub fn certificate_report(
     alloc: Global,

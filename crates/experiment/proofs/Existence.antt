@@ -114,7 +114,8 @@ rows_of plan net traffic failures range formed is (name ∷ names) =
     let scheme = meaning_of name plan in
     let can = name_routings plan range name in
     let (first, are) =
-    step_rows_exist scheme.limit scheme.is_plan scheme.relates scheme.low can.plans can.routings can.few net formed traffic is failures plan.recovery
+    step_rows_exist scheme.limit scheme.is_plan scheme.relates scheme.low scheme.path_set scheme.adapts can.plans can.routings can.adaptations can.few net formed
+    traffic is failures plan.recovery
     in
     let (rest, all) = rows_of plan net traffic failures range formed is names in
     (first ∷ rest, (are, all))

@@ -10,3 +10,4 @@ pub mod Accepted
 pub mod SchemePlans
 pub mod Existence
 mod Predictions
+mod Adapted

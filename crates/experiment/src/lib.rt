@@ -9,6 +9,7 @@
 //! - `published_files_are_accepted`: what every published file is.
 //! - `publications_exist`, `reports_exist`: what a plan asks for exists.
 //! - `predictions_change_no_oblivious`: the rows of an oblivious scheme are those without predictions.
+//! - `adapted_is_no_greater_than_scaled`: rates that `smore` chooses anew are no worse than those of its fixed paths, scaled.
 #![tactic(auto)]
 
 mod demand_set;
@@ -24,8 +25,8 @@ mod robust_publishing;
 
 pub use figures::Figures;
 pub use laws::{
-    predictions_change_no_oblivious, publications_exist, published_files_are_accepted,
-    reports_exist,
+    adapted_is_no_greater_than_scaled, predictions_change_no_oblivious, publications_exist,
+    published_files_are_accepted, reports_exist,
 };
 pub use lines::{add_row, print_total, report_header};
 pub use plan::{Experiment, Key, PlanFault, Recovery, SchemeName, read_plan};

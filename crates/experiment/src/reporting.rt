@@ -20,7 +20,7 @@ use mcf_lengths::Mcf;
 use plan::{Experiment, Recovery, SchemeName};
 use racke_mix::Racke;
 use robust_routing::Robust;
-use scheme::{Scheme, Spf};
+use scheme::{Adaptive, Spf};
 use semi_oblivious::Semi;
 use series_simulation::{Preparation, StepRow, prepare_connected, row_of};
 use std::alloc::Global;
@@ -29,7 +29,7 @@ use traffic_matrix::Traffic;
 use valiant_mix::Valiant;
 
 /// The lines of a scheme that was prepared for the network, one for each step of the series, and the total.
-fn lines_with<S: Scheme>(
+fn lines_with<S: Adaptive>(
     alloc: Global,
     scheme: &S,
     word: &str,
@@ -41,11 +41,11 @@ fn lines_with<S: Scheme>(
 ) -> Result<Vec<u8>, Memory>
     requires network { IsTrue (is_well_formed network.now) }
     requires traffic { IsTraffic (node_count network.now) traffic.now }
-    requires paths { S.PATHS ≤ 4096 }
+    requires paths { S.Scheme.PATHS ≤ 4096 }
     requires tells { TellsPaths network.now (connects prepared.now.reach) }
-    requires planned { S.is_plan scheme.now network.now (filter (connects prepared.now.reach) traffic.now.sent.pairs.list) prepared.now.plan }
+    requires planned { S.Scheme.is_plan scheme.now network.now (filter (connects prepared.now.reach) traffic.now.sent.pairs.list) prepared.now.plan }
     ensures { IfOk result (λ text. (rows : List StepRow)
-        × AreStepRows S.PATHS (S.is_plan scheme.now) (S.relates scheme.now) S.Note.low network.now traffic.now failures.now recovery rows
+        × AreStepRows S.Scheme.PATHS (S.Scheme.is_plan scheme.now) (S.Scheme.relates scheme.now) S.Note.low (S.path_set_routes scheme.now) (S.adapts scheme.now) network.now traffic.now failures.now recovery rows
         × (text.items ≡ scheme_lines word.now rows)) }
 {
     let steps = traffic.sent.steps.as_slice().len();
@@ -71,7 +71,7 @@ fn lines_with<S: Scheme>(
 }
 
 /// The lines of a scheme that is driven through the series, of which no row is kept. `Memory` comes where memory is wanting.
-fn lines_of<S: Scheme>(
+fn lines_of<S: Adaptive>(
     alloc: Global,
     scheme: &S,
     word: &str,
@@ -82,9 +82,9 @@ fn lines_of<S: Scheme>(
 ) -> Result<Vec<u8>, Memory>
     requires network { IsTrue (is_well_formed network.now) }
     requires traffic { IsTraffic (node_count network.now) traffic.now }
-    requires paths { S.PATHS ≤ 4096 }
+    requires paths { S.Scheme.PATHS ≤ 4096 }
     ensures { IfOk result (λ text. (rows : List StepRow)
-        × AreStepRows S.PATHS (S.is_plan scheme.now) (S.relates scheme.now) S.Note.low network.now traffic.now failures.now recovery rows
+        × AreStepRows S.Scheme.PATHS (S.Scheme.is_plan scheme.now) (S.Scheme.relates scheme.now) S.Note.low (S.path_set_routes scheme.now) (S.adapts scheme.now) network.now traffic.now failures.now recovery rows
         × (text.items ≡ scheme_lines word.now rows)) }
 {
     let prepared = prepare_connected(alloc, scheme, network, &traffic.sent.pairs)?;

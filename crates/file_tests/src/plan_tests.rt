@@ -45,10 +45,10 @@ const PLANS: &[Planned] = &[
     ),
     // No envelope, beside a margin.
     Planned(
-        r#"{"topology":"t","matrices":"m","envelope":false,"margin":[2,1]}"#,
+        r#"{"topology":"t","matrices":"m","envelope":false,"margin":[2,1],"recovery":"adapt"}"#,
         &SchemeName::DEFAULT,
         false,
-        (Recovery::Keep, SchemeName::Racke, Some((2, 1)), false),
+        (Recovery::Adapt, SchemeName::Racke, Some((2, 1)), false),
         (4, 4, 8, 0, 1),
     ),
 ];

@@ -53,7 +53,7 @@ summaries_exist n seed some few =
     mix.routing.routing tt
     in
     let (rows, driven_rows) =
-    step_rows_exist least_paths.limit least_paths.is_plan least_paths.relates least_paths.low least_routings.plans least_routings.routings least_routings.few
-    net formed (known_traffic series) (record { sent = is; predicted = tt }) no_failures Keep
+    step_rows_exist least_paths.limit least_paths.is_plan least_paths.relates least_paths.low least_paths.path_set least_paths.adapts least_routings.plans least_routings.routings
+    least_routings.adaptations least_routings.few net formed (known_traffic series) (record { sent = is; predicted = tt }) no_failures Keep
     in
     summary_from n seed file (record { rounds = rounds; routes = routes; mix = mix; made = made }) rows driven_rows

@@ -40,7 +40,7 @@ least_paths = rule_scheme (λ (p : SpfPlan). p.routing.routes) spf_paths IsLeast
 -- the rows of least paths over the matrices, in which no link fails
 abbrev pub AreLeastRows : Network → Traffic → List StepRow → Type 0
 AreLeastRows net traffic rows =
-    AreStepRows least_paths.limit least_paths.is_plan least_paths.relates least_paths.low net traffic no_failures Keep rows
+    AreStepRows least_paths.limit least_paths.is_plan least_paths.relates least_paths.low least_paths.path_set least_paths.adapts net traffic no_failures Keep rows
 
 -- the rows of least paths over three drawn matrices
 abbrev pub AreDrawnRows : ℕ → ℕ → List StepRow → Type 0

@@ -1,6 +1,6 @@
 -- The rows of a routing that is kept for every matrix.
-use Rattle.std.proofs.Common.{◌≡◌, ℕ, ◌<◌, ◌≤◌, ◌^◌, Bool, true, false, Option, None, List, [], ◌∷◌, length, filter, map, get_or, All, arith, refl, sym, ap, subst, ◌∙◌, if◌then◌else◌}
-use Rattle.std.specs.Prelude.{MatchBool, sum_by}
+use Rattle.std.proofs.Common.{◌≡◌, ℕ, ◌<◌, Bool, true, false, Option, None, List, [], ◌∷◌, length, filter, map, get_or, All, arith, refl, sym, ap, subst, ◌∙◌}
+use Rattle.std.specs.Prelude.{MatchBool, MatchOption, sum_by}
 use Rattle.std.proofs.lemmas.Bool.{eqb-true}
 use Rattle.std.proofs.Math.ListN.{get_or-map}
 use Rattle.std.proofs.lemmas.List.{length-map}
@@ -10,7 +10,6 @@ use Rattle.te_model.specs.declared.route.Pair.{Pair}
 use Rattle.te_model.specs.declared.route.PairRoutes.{PairRoutes}
 use Rattle.te_model.specs.declared.route.PathShare.{PathShare}
 use Rattle.te_model.specs.declared.units.TheConstants.{SHARE_UNIT}
-use Rattle.te_model.specs.Network.{is_well_formed, link_count, node_count}
 use Rattle.te_model.specs.Pairs.{AreDemands, no_pair}
 use Rattle.te_model.specs.Path.{chains, is_path, no_routes}
 use Rattle.te_model.specs.PathRouting.{IsPathSplit}
@@ -21,21 +20,17 @@ use Rattle.routing.specs.Routes.{HasFewPaths, IsRoutingOf}
 use Rattle.routing.specs.Utilisation.{parts}
 use Rattle.scheme.specs.Reach.{ArePairsOf, IsPairOf}
 use Rattle.failure.specs.Series.{marks_of}
-use Rattle.local_recovery.specs.Rates.{pairs_of}
-use Rattle.local_recovery.specs.Spread.{IsSublist}
 use Rattle.plan.specs.declared.recovery.Recovery.{Recovery}
-use Rattle.plan.specs.declared.recovery.Recovery.TheVariants.{Keep, Scale, Bypass, Reroute}
-use Rattle.traffic_matrix.specs.declared.series.Series.{Series}
-use Rattle.traffic_matrix.specs.Limits.{IsSeries}
+use Rattle.plan.specs.declared.recovery.Recovery.TheVariants.{Keep, Scale, Bypass, Reroute, Adapt}
 use Rattle.traffic_matrix.specs.Text.{no_matrix}
-use Rattle.traffic_matrix.specs.Traffic.{demands_in, known_traffic}
+use Rattle.traffic_matrix.specs.Traffic.{demands_in}
 use Rattle.series_simulation.specs.declared.step_row.StepRow.{StepRow}
 use Rattle.series_simulation.specs.Connected.{demands_of}
-use Rattle.series_simulation.specs.KeptRouting.{AreKeptRows, IsKept, IsKeptRow, IsNoPlan, KeptRowsExist, KeptRowsHaveParts, no_bound, without_rerouting}
-use Rattle.series_simulation.specs.Rows.{IsReroutedOn, IsRouted, IsStep, is_rerouted, mode_of, no_row, step_row_at}
+use Rattle.series_simulation.specs.KeptRouting.{IsKept, IsKeptRow, IsNeverAdapted, IsNoPlan, KeptRowsExist, KeptRowsHaveParts, no_bound, no_path_set, without_rerouting}
+use Rattle.series_simulation.specs.Rows.{IsReroutedOn, IsRouted, IsAdaptedOn, IsRoutedByPlan, is_rerouted, mode_of, no_row, step_row_at}
 use Rattle.series_simulation.specs.Simulation.{IsSimulated, peak_of}
+use Rattle.series_simulation.proofs.ByPlan.{none_adapted}
 use Rattle.series_simulation.proofs.Existence.{has_path_in, simulated_exists, tells}
-use Rattle.series_simulation.proofs.Marking.{marks_count}
 use Rattle.series_simulation.proofs.SeriesLemmas.{series_pairs}
 
 -- ---- the pairs of a routing all have a path
@@ -95,6 +90,25 @@ never_rerouted Keep failed = refl
 never_rerouted Scale failed = refl
 never_rerouted Bypass failed = refl
 never_rerouted Reroute failed = refl
+never_rerouted Adapt failed = refl
+
+-- the routing by no plan, of which no rates are chosen anew, is the one that is kept
+kept_by_plan : (kept : List PairRoutes) (net : Network) (failed : List Bool) (pairs : List Pair) (demand : List ℕ) (recovery : Recovery) (routes : List PairRoutes)
+    (most : ℕ) (bound : Option ℕ) → IsRouted 4096 IsNoPlan (IsKept kept) no_bound net pairs None demand tt routes most bound →
+    IsRoutedByPlan 4096 IsNoPlan (IsKept kept) no_bound no_path_set IsNeverAdapted net failed pairs None demand (without_rerouting recovery) tt routes most bound
+kept_by_plan kept net failed pairs demand recovery routes most bound is =
+    subst (λ (o : Option (List PairRoutes)). MatchOption o (IsRouted 4096 IsNoPlan (IsKept kept) no_bound net pairs None demand tt routes most bound)
+    (λ paths. IsAdaptedOn 4096 IsNoPlan (IsKept kept) no_bound no_path_set IsNeverAdapted net failed pairs None demand tt paths routes most bound))
+    (sym (none_adapted (without_rerouting recovery) failed)) is
+
+kept_routed : (kept : List PairRoutes) (net : Network) (failed : List Bool) (pairs : List Pair) (demand : List ℕ) (recovery : Recovery) (routes : List PairRoutes)
+    (most : ℕ) (bound : Option ℕ) →
+    IsRoutedByPlan 4096 IsNoPlan (IsKept kept) no_bound no_path_set IsNeverAdapted net failed pairs None demand (without_rerouting recovery) tt routes most bound →
+    IsRouted 4096 IsNoPlan (IsKept kept) no_bound net pairs None demand tt routes most bound
+kept_routed kept net failed pairs demand recovery routes most bound is =
+    subst (λ (o : Option (List PairRoutes)). MatchOption o (IsRouted 4096 IsNoPlan (IsKept kept) no_bound net pairs None demand tt routes most bound)
+    (λ paths. IsAdaptedOn 4096 IsNoPlan (IsKept kept) no_bound no_path_set IsNeverAdapted net failed pairs None demand tt paths routes most bound))
+    (none_adapted (without_rerouting recovery) failed) is
 
 -- what a simulation of the routing gives
 pub kept_row : (routes : List PairRoutes) (net : Network) (failed : List Bool) (pairs : List Pair) (demand : List ℕ) (recovery : Recovery) (rates : List PairRoutes)
@@ -119,7 +133,8 @@ kept_row routes net failed pairs demand recovery rates row are demands is few si
       record {
         routes = routes;
         routed = subst (λ (b : Bool). MatchBool b (IsReroutedOn 4096 IsNoPlan (IsKept routes) no_bound net failed pairs None demand routes row.parts row.low)
-            (IsRouted 4096 IsNoPlan (IsKept routes) no_bound net pairs None demand tt routes row.parts row.low)) (sym (never_rerouted recovery failed)) routed;
+            (IsRoutedByPlan 4096 IsNoPlan (IsKept routes) no_bound no_path_set IsNeverAdapted net failed pairs None demand (without_rerouting recovery) tt routes row.parts row.low))
+            (sym (never_rerouted recovery failed)) (kept_by_plan routes net failed pairs demand recovery routes row.parts row.low routed);
         simulated = simulated;
         peak_is = peak;
       },
@@ -130,8 +145,10 @@ kept_parts : (routes : List PairRoutes) (net : Network) (failed : List Bool) (pa
     map (λ r. r.pair) routes ≡ pairs → length demand ≡ length pairs → IsKeptRow routes net failed pairs demand recovery row →
     row.parts ≡ parts net routes demand
 kept_parts routes net failed pairs demand recovery row in_order count (rates, step) =
-    let routed = subst (λ (b : Bool). MatchBool b (IsReroutedOn 4096 IsNoPlan (IsKept routes) no_bound net failed pairs None demand step.routes row.parts row.low)
-    (IsRouted 4096 IsNoPlan (IsKept routes) no_bound net pairs None demand tt step.routes row.parts row.low)) (never_rerouted recovery failed) step.routed in
+    let by_plan = subst (λ (b : Bool). MatchBool b (IsReroutedOn 4096 IsNoPlan (IsKept routes) no_bound net failed pairs None demand step.routes row.parts row.low)
+    (IsRoutedByPlan 4096 IsNoPlan (IsKept routes) no_bound no_path_set IsNeverAdapted net failed pairs None demand (without_rerouting recovery) tt step.routes row.parts row.low))
+    (never_rerouted recovery failed) step.routed in
+    let routed = kept_routed routes net failed pairs demand recovery step.routes row.parts row.low by_plan in
     let same : filter routed.has_path pairs ≡ pairs =
     sym routed.routing.in_order ∙ (ap (λ (rs : List PairRoutes). map (λ r. r.pair) rs) routed.related ∙ in_order)
     in

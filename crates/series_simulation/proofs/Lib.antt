@@ -4,7 +4,10 @@ mod Surviving
 mod Paths
 mod Demands
 pub mod SeriesLemmas
+mod StandingRates
+mod StandingPairs
 mod Carried
+mod ByPlan
 pub mod Rowing
 pub mod Marking
 pub mod Existence

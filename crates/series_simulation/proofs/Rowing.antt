@@ -27,11 +27,12 @@ rows_more P rows row n count before here k below = elim (cases_lt k n) [
 
 module _ {Plan Note : Type 0} (limit : ℕ) (is_plan : Network → List Pair → Plan → Type 0)
     (relates : Network → List Pair → Plan → List ℕ → List PairRoutes → Note → Type 0) (low : Note → Option ℕ)
+    (path_set : Plan → Option (List PairRoutes)) (adapts : Network → List PairRoutes → List ℕ → List PairRoutes → Option ℕ → Type 0)
     (net : Network) (traffic : Traffic) (failures : Failures) (recovery : Recovery) (plan : Plan) where
   -- the row of step k, by the plan
   pub record IsRowOf (k : ℕ) (r : StepRow) : Type 0 where
     pub step : r.step ≡ k
-    pub row : IsStepRow limit is_plan relates low net (marks_of net failures k) traffic.sent.pairs.list (predicted_in traffic k) (sent_in traffic k) recovery plan r
+    pub row : IsStepRow limit is_plan relates low path_set adapts net (marks_of net failures k) traffic.sent.pairs.list (predicted_in traffic k) (sent_in traffic k) recovery plan r
     pub conserved : IsConservedStep (sent_in traffic k) r.result
 
   -- the rows of the first n steps
@@ -49,7 +50,7 @@ module _ {Plan Note : Type 0} (limit : ℕ) (is_plan : Network → List Pair →
   }
 
   pub rows_end : (n : ℕ) (rows : List StepRow) → n ≡ length traffic.sent.steps → AreRowsBefore n rows →
-      AreStepRows limit is_plan relates low net traffic failures recovery rows
+      AreStepRows limit is_plan relates low path_set adapts net traffic failures recovery rows
   rows_end n rows all before = record {
     plan = plan;
     count = before.count ∙ all;

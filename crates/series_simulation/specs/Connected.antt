@@ -11,11 +11,11 @@ use Rattle.series_simulation.specs.declared.reachability.Reachability.{Reachabil
 abbrev pub TellsPaths : Network → (Pair → Bool) → Type 0
 TellsPaths net has_path = (pair : Pair) → IsPairOf net pair → (IsTrue (has_path pair)) ↔ (HasPath net pair.src pair.dst)
 
--- the demands of the pairs that pass, in order
-abbrev pub demands_of : (Pair → Bool) → List Pair → List ℕ → List ℕ
-demands_of has_path [] demand = []
-demands_of has_path (p ∷ ps) [] = []
-demands_of has_path (p ∷ ps) (d ∷ ds) = if has_path p then d ∷ demands_of has_path ps ds else demands_of has_path ps ds
+-- the demands of those that pass, of pairs or of the routes of pairs, in order
+abbrev pub demands_of : {A : Type 0} → (A → Bool) → List A → List ℕ → List ℕ
+demands_of passes [] demand = []
+demands_of passes (p ∷ ps) [] = []
+demands_of passes (p ∷ ps) (d ∷ ds) = if passes p then d ∷ demands_of passes ps ds else demands_of passes ps ds
 
 -- whether the table has a path from the source to the destination of the pair
 abbrev pub connects : Reachability → Pair → Bool

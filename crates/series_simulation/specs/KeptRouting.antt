@@ -11,7 +11,7 @@ use Rattle.traffic_matrix.specs.declared.series.Series.{Series}
 use Rattle.traffic_matrix.specs.Limits.{IsSeries}
 use Rattle.traffic_matrix.specs.Traffic.{demands_in, known_traffic}
 use Rattle.plan.specs.declared.recovery.Recovery.{Recovery}
-use Rattle.plan.specs.declared.recovery.Recovery.TheVariants.{Keep, Scale, Bypass, Reroute}
+use Rattle.plan.specs.declared.recovery.Recovery.TheVariants.{Keep, Scale, Bypass, Reroute, Adapt}
 use Rattle.series_simulation.specs.declared.step_row.StepRow.{StepRow}
 use Rattle.series_simulation.specs.Rows.{AreStepRows, IsStepRow, step_row_at}
 
@@ -27,22 +27,30 @@ IsKept routes net pairs plan demand own note = own ≡ routes
 abbrev pub no_bound : ⊤ → Option ℕ
 no_bound note = None
 
--- a routing that is kept is not made anew: what is left of it is scaled
+-- no rates are chosen anew
+abbrev pub no_path_set : ⊤ → Option (List PairRoutes)
+no_path_set plan = None
+
+abbrev pub IsNeverAdapted : Network → List PairRoutes → List ℕ → List PairRoutes → Option ℕ → Type 0
+IsNeverAdapted net given demand routes bound = ⊥
+
+-- a routing that is kept is not made anew, nor are its rates: what is left of it is scaled
 abbrev pub without_rerouting : Recovery → Recovery
 without_rerouting Keep = Keep
 without_rerouting Scale = Scale
 without_rerouting Bypass = Bypass
 without_rerouting Reroute = Scale
+without_rerouting Adapt = Scale
 
 -- the row of a step, of at most 4,096 paths of each pair
 abbrev pub IsKeptRow : List PairRoutes → Network → List Bool → List Pair → List ℕ → Recovery → StepRow → Type 0
 IsKeptRow routes net failed pairs demand recovery row =
-    IsStepRow 4096 IsNoPlan (IsKept routes) no_bound net failed pairs None demand (without_rerouting recovery) tt row
+    IsStepRow 4096 IsNoPlan (IsKept routes) no_bound no_path_set IsNeverAdapted net failed pairs None demand (without_rerouting recovery) tt row
 
 -- one row for each step of a series, in order
 abbrev pub AreKeptRows : List PairRoutes → Network → Series → Failures → Recovery → List StepRow → Type 0
 AreKeptRows routes net series failures recovery rows =
-    AreStepRows 4096 IsNoPlan (IsKept routes) no_bound net (known_traffic series) failures (without_rerouting recovery) rows
+    AreStepRows 4096 IsNoPlan (IsKept routes) no_bound no_path_set IsNeverAdapted net (known_traffic series) failures (without_rerouting recovery) rows
 
 -- each step has a row, whatever fails
 abbrev pub KeptRowsExist : Type 0

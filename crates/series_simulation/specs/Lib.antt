@@ -1,5 +1,6 @@
 pub mod Connected
 pub mod OriginalLinks
+pub mod StandingPaths
 pub mod Simulation
 pub mod Rows
 pub mod KeptRouting

@@ -20,7 +20,7 @@ use traffic_matrix::Series;
 
 /// The row of a step in which the marked links have failed, by a routing of the pairs of the series that is kept for every matrix.
 ///
-/// What is left of the routing takes the demands of the step; `Reroute` is as `Scale`, since the routing is not made anew. No bound is
+/// What is left of the routing takes the demands of the step; `Reroute` and `Adapt` are as `Scale`, since nothing is made anew. No bound is
 /// stated. `failed` has one mark for each link. `Memory` comes where memory is wanting.
 pub fn kept_row(
     alloc: Global,

@@ -7,11 +7,13 @@
 //!   rows, and the greatest utilisation of each is that of the routing.
 //! - `step_rows_exist`, `steps_exist`, `steps_stand_in_rows`: every series has rows, each of its steps exists, and the row of each step
 //!   is one of such rows, where the scheme has plans and routings. `predictions_change_nothing`: where it keeps one routing for all
-//!   matrices and states no bound, its rows are those that it has without predictions.
+//!   matrices, states no bound and chooses no rates anew, its rows are those that it has without predictions.
+//! - `adapted_rates_stand`: rates that are chosen anew over paths that stand hold no failed link.
 //! - `matrix_of`: the matrix of a step. `utilisation`: how far a link is used.
 //! - `StepRow`: what became of the traffic of a step, and how far the links were used. `SimulatedStep`: the same with the paths.
 #![tactic(auto)]
 
+mod adapted_rates;
 mod connected_pairs;
 mod kept_routing;
 mod law;
@@ -22,14 +24,15 @@ mod reachability;
 mod recovery;
 mod scheme_routing;
 mod series_rows;
+mod standing_paths;
 mod step_routing;
 mod step_row;
 mod step_simulation;
 
 pub use kept_routing::kept_row;
 pub use law::{
-    kept_rows_exist, kept_rows_have_parts, predictions_change_nothing, step_rows_exist,
-    steps_exist, steps_stand_in_rows,
+    adapted_rates_stand, kept_rows_exist, kept_rows_have_parts, predictions_change_nothing,
+    step_rows_exist, steps_exist, steps_stand_in_rows,
 };
 pub use peak::utilisation;
 pub use preparation::{Preparation, prepare_connected};

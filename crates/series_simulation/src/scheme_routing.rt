@@ -25,7 +25,7 @@ pub struct SchemeRouting {
 }
 
 /// The matrix that a scheme is given: the predicted one, or the one that is sent.
-fn given_matrix<'a>(predicted: Option<&'a Matrix>, sent: &'a Matrix) -> &'a Matrix
+pub fn given_matrix<'a>(predicted: Option<&'a Matrix>, sent: &'a Matrix) -> &'a Matrix
     ensures { result.now.demand ≡ given_demands (option_map (λ m. m.now.demand) predicted.entry) sent.now.demand }
 {
     match predicted {
@@ -35,7 +35,7 @@ fn given_matrix<'a>(predicted: Option<&'a Matrix>, sent: &'a Matrix) -> &'a Matr
 }
 
 /// The bound of what is sent: of a predicted matrix there is none.
-fn bound_of_sent(predicted: Option<&Matrix>, bound: Option<u128>) -> Option<u128>
+pub fn bound_of_sent(predicted: Option<&Matrix>, bound: Option<u128>) -> Option<u128>
     ensures { result ≡ bound_of_sent (option_map (λ m. m.now.demand) predicted.entry) bound }
 {
     match predicted {

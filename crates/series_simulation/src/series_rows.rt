@@ -17,7 +17,7 @@ use crate::step_row::{SimulatedStep, StepRow};
 use crate::step_simulation::simulate;
 use failure::Failures;
 use plan::Recovery;
-use scheme::Scheme;
+use scheme::Adaptive;
 use std::alloc::Global;
 use te_model::{Items, Matrix, Memory, Network};
 use traffic_matrix::{Series, Traffic};
@@ -49,9 +49,10 @@ fn predicted_of(traffic: &Traffic, step: u32) -> Option<&Matrix>
 ///
 /// The scheme routes the matrix of the pairs that have a path, the predicted one where matrices are predicted, and what is left of its
 /// routing takes the demands that are sent; the other pairs lose theirs for want of a path. Under `Reroute`, where a link has failed, the
-/// scheme is prepared anew on the network without its failed links, for the pairs that have a path there. `failed` has one mark for each
-/// link. `Memory` comes where memory is wanting.
-pub fn step_of<S: Scheme>(
+/// scheme is prepared anew on the network without its failed links, for the pairs that have a path there. Under `Adapt`, where a link has
+/// failed, a scheme whose plan keeps a set of paths chooses its rates anew over those that stand, for the pairs that keep one. `failed` has
+/// one mark for each link. `Memory` comes where memory is wanting.
+pub fn step_of<S: Adaptive>(
     alloc: Global,
     scheme: &S,
     net: &Network,
@@ -64,12 +65,13 @@ pub fn step_of<S: Scheme>(
     requires network { IsTrue (is_well_formed net.now) }
     requires traffic { IsTraffic (node_count net.now) traffic.now }
     requires marks { length failed.now ≡ link_count net.now }
-    requires paths { S.PATHS ≤ 4096 }
+    requires paths { S.Scheme.PATHS ≤ 4096 }
     requires tells { TellsPaths net.now (connects prepared.now.reach) }
-    requires planned { S.is_plan scheme.now net.now (filter (connects prepared.now.reach) traffic.now.sent.pairs.list) prepared.now.plan }
+    requires planned { S.Scheme.is_plan scheme.now net.now (filter (connects prepared.now.reach) traffic.now.sent.pairs.list) prepared.now.plan }
     requires step { step < length traffic.now.sent.steps }
     ensures number { IfOk result (λ s. s.row.step ≡ step) }
-    ensures step { IfOk result (λ s. IsStep S.PATHS (S.is_plan scheme.now) (S.relates scheme.now) S.Note.low net.now failed.now
+    ensures step { IfOk result (λ s. IsStep S.Scheme.PATHS (S.Scheme.is_plan scheme.now) (S.Scheme.relates scheme.now) S.Note.low
+        (S.path_set_routes scheme.now) (S.adapts scheme.now) net.now failed.now
         traffic.now.sent.pairs.list (predicted_in traffic.now step) (sent_in traffic.now step) recovery prepared.now.plan s.rates.routes s.row) }
     ensures rates { IfOk result (λ s. IsRates net.now s.rates.routes) }
     ensures conserved { IfOk result (λ s. IsConservedStep (sent_in traffic.now step) s.row.result) }
@@ -99,7 +101,7 @@ pub fn step_of<S: Scheme>(
 /// The row of a step in which the marked links have failed, by what was prepared for the network: that of `step_of`.
 ///
 /// `failed` has one mark for each link. `Memory` comes where memory is wanting.
-pub fn row_of<S: Scheme>(
+pub fn row_of<S: Adaptive>(
     alloc: Global,
     scheme: &S,
     net: &Network,
@@ -112,12 +114,12 @@ pub fn row_of<S: Scheme>(
     requires network { IsTrue (is_well_formed net.now) }
     requires traffic { IsTraffic (node_count net.now) traffic.now }
     requires marks { length failed.now ≡ link_count net.now }
-    requires paths { S.PATHS ≤ 4096 }
+    requires paths { S.Scheme.PATHS ≤ 4096 }
     requires tells { TellsPaths net.now (connects prepared.now.reach) }
-    requires planned { S.is_plan scheme.now net.now (filter (connects prepared.now.reach) traffic.now.sent.pairs.list) prepared.now.plan }
+    requires planned { S.Scheme.is_plan scheme.now net.now (filter (connects prepared.now.reach) traffic.now.sent.pairs.list) prepared.now.plan }
     requires step { step < length traffic.now.sent.steps }
     ensures step { IfOk result (λ row. row.step ≡ step) }
-    ensures row { IfOk result (IsStepRow S.PATHS (S.is_plan scheme.now) (S.relates scheme.now) S.Note.low net.now failed.now
+    ensures row { IfOk result (IsStepRow S.Scheme.PATHS (S.Scheme.is_plan scheme.now) (S.Scheme.relates scheme.now) S.Note.low (S.path_set_routes scheme.now) (S.adapts scheme.now) net.now failed.now
         traffic.now.sent.pairs.list (predicted_in traffic.now step) (sent_in traffic.now step) recovery prepared.now.plan) }
     ensures conserved { IfOk result (λ row. IsConservedStep (sent_in traffic.now step) row.result) }
 {
@@ -132,7 +134,7 @@ pub fn row_of<S: Scheme>(
 /// The scheme is prepared for the declared pairs that have a path in the network, and each row is that of `row_of`. The only error is
 /// `Memory`, where memory is wanting. An outage of a link that the network does not have changes nothing. (After YATES; Kumar and
 /// others, 2018.)
-pub fn drive<S: Scheme>(
+pub fn drive<S: Adaptive>(
     alloc: Global,
     scheme: &S,
     net: &Network,
@@ -142,8 +144,9 @@ pub fn drive<S: Scheme>(
 ) -> Result<Items<StepRow>, Memory>
     requires network { IsTrue (is_well_formed net.now) }
     requires traffic { IsTraffic (node_count net.now) traffic.now }
-    requires paths { S.PATHS ≤ 4096 }
-    ensures rows { IfOk result (AreStepRows S.PATHS (S.is_plan scheme.now) (S.relates scheme.now) S.Note.low net.now traffic.now failures.now recovery) }
+    requires paths { S.Scheme.PATHS ≤ 4096 }
+    ensures rows { IfOk result (AreStepRows S.Scheme.PATHS (S.Scheme.is_plan scheme.now) (S.Scheme.relates scheme.now) S.Note.low
+        (S.path_set_routes scheme.now) (S.adapts scheme.now) net.now traffic.now failures.now recovery) }
     ensures conserved { IfOk result (λ rows. (k : ℕ) → k < length rows → IsConservedStep (sent_in traffic.now k) (step_row_at rows k).result) }
 {
     let prepared = prepare_connected(alloc, scheme, net, &traffic.sent.pairs)?;

@@ -31,5 +31,6 @@ pub stand : StepsStandInReports
 stand name plan net traffic failures k range formed is below step at =
     let scheme = meaning_of name plan in
     let can = name_routings plan range name in
-    steps_stand_in_rows scheme.limit scheme.is_plan scheme.relates scheme.low can.plans can.routings can.few net formed traffic is failures plan.recovery k below
+    steps_stand_in_rows scheme.limit scheme.is_plan scheme.relates scheme.low scheme.path_set scheme.adapts can.plans can.routings can.adaptations can.few net formed traffic is failures
+    plan.recovery k below
     step at

@@ -45,7 +45,8 @@ steps_of_schemes plan net traffic failures k range formed is below (name ∷ nam
     let scheme = meaning_of name plan in
     let can = name_routings plan range name in
     let (first, is_step) =
-    steps_exist scheme.limit scheme.is_plan scheme.relates scheme.low can.plans can.routings can.few net formed traffic is failures plan.recovery k below
+    steps_exist scheme.limit scheme.is_plan scheme.relates scheme.low scheme.path_set scheme.adapts can.plans can.routings can.adaptations can.few net formed traffic is failures
+    plan.recovery k below
     in
     let (rest, are) = steps_of_schemes plan net traffic failures k range formed is below names in
     (first ∷ rest, (is_step, are))

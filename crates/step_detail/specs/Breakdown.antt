@@ -21,7 +21,7 @@ use Rattle.step_detail.specs.Paths.{paths_header, weighted_path_lines}
 -- step k of a scheme, as in the rows of a report
 abbrev pub IsStepBy : SchemeMeaning → Experiment → Network → Traffic → Failures → ℕ → SimulatedStep → Type 0
 IsStepBy scheme plan net traffic failures k step =
-    IsStepAt scheme.limit scheme.is_plan scheme.relates scheme.low net traffic failures plan.recovery k step
+    IsStepAt scheme.limit scheme.is_plan scheme.relates scheme.low scheme.path_set scheme.adapts net traffic failures plan.recovery k step
 
 -- of the scheme of this name, with the plan's numbers and recovery
 abbrev pub IsSchemeStep : SchemeName → Experiment → Network → Traffic → Failures → ℕ → SimulatedStep → Type 0

@@ -15,7 +15,7 @@ use k_paths::Ksp;
 use mcf_lengths::Mcf;
 use racke_mix::Racke;
 use robust_routing::Robust;
-use scheme::{Scheme, Spf};
+use scheme::{Adaptive, Spf};
 use semi_oblivious::Semi;
 use series_simulation::{SimulatedStep, prepare_connected, step_of};
 use std::alloc::Global;
@@ -24,7 +24,7 @@ use traffic_matrix::Traffic;
 use valiant_mix::Valiant;
 
 /// The step of the scheme, which is prepared for the network.
-fn step_by<S: Scheme>(
+fn step_by<S: Adaptive>(
     alloc: Global,
     scheme: &S,
     network: &Network,
@@ -35,9 +35,9 @@ fn step_by<S: Scheme>(
 ) -> Result<SimulatedStep, Memory>
     requires network { IsTrue (is_well_formed network.now) }
     requires traffic { IsTraffic (node_count network.now) traffic.now }
-    requires paths { S.PATHS ≤ 4096 }
+    requires paths { S.Scheme.PATHS ≤ 4096 }
     requires step { step < length traffic.now.sent.steps }
-    ensures step { IfOk result (IsStepAt S.PATHS (S.is_plan scheme.now) (S.relates scheme.now) S.Note.low network.now traffic.now failures.now recovery step) }
+    ensures step { IfOk result (IsStepAt S.Scheme.PATHS (S.Scheme.is_plan scheme.now) (S.Scheme.relates scheme.now) S.Note.low (S.path_set_routes scheme.now) (S.adapts scheme.now) network.now traffic.now failures.now recovery step) }
     ensures rates { IfOk result (λ s. IsRates network.now s.rates.routes) }
 {
     let prepared = prepare_connected(alloc, scheme, network, &traffic.sent.pairs)?;

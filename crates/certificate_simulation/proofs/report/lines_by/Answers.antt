@@ -2,7 +2,7 @@ use Rattle.std.proofs.Common.{◌≡◌, ℕ, ◌≤◌, ◌*◌, ◌^◌, ◌�
 use Rattle.std.specs.Prelude.{codes}
 use Rattle.failure.specs.Series.{marks_of}
 use Rattle.traffic_matrix.specs.Traffic.{demands_in, known_traffic}
-use Rattle.series_simulation.specs.KeptRouting.{IsKept, IsKeptRow, IsNoPlan, no_bound, without_rerouting}
+use Rattle.series_simulation.specs.KeptRouting.{IsKept, IsKeptRow, IsNeverAdapted, IsNoPlan, no_bound, no_path_set, without_rerouting}
 use Rattle.series_simulation.proofs.Marking.{marks_at, marks_count, series_count}
 use Rattle.series_simulation.proofs.Rowing.{rows_begin, rows_next, rows_end}
 use Rattle.experiment.specs.Text.{AmountsAtMost, figures_of}
@@ -13,7 +13,7 @@ pub loop-step-init : goal.loop-step-init
 loop-step-init c = record {
   written = (
     [],
-    rows_begin 4096 IsNoPlan (IsKept c.args.routing.now.routes) no_bound c.args.network.now (known_traffic c.args.series.now) c.args.failures.now
+    rows_begin 4096 IsNoPlan (IsKept c.args.routing.now.routes) no_bound no_path_set IsNeverAdapted c.args.network.now (known_traffic c.args.series.now) c.args.failures.now
         (without_rerouting c.args.recovery) tt,
     c.new-text.ensures.items,
     c.none-total.ensures,
@@ -69,7 +69,7 @@ loop-step-preserved c =
     record {
       written = (
         rows ++ row ∷ [],
-        rows_next 4096 IsNoPlan (IsKept routes) no_bound net (known_traffic series) failures (without_rerouting c.args.recovery) tt step rows row so_far.written.1
+        rows_next 4096 IsNoPlan (IsKept routes) no_bound no_path_set IsNeverAdapted net (known_traffic series) failures (without_rerouting c.args.recovery) tt step rows row so_far.written.1
             (record {
               step = c.in_ok-row.ensures.number;
               row = subst (λ (marks : List Bool). IsKeptRow routes net marks series.pairs.list (demands_in series step) c.args.recovery row) failed c.in_ok-row.ensures.row;
@@ -89,7 +89,7 @@ returns c =
     omega (arith, c.loop-step-test.false, c.loop-step.auto.step-end, ap length c.as_slice-steps.ensures)
     in (
       rows,
-      rows_end 4096 IsNoPlan (IsKept c.args.routing.now.routes) no_bound c.args.network.now (known_traffic c.args.series.now) c.args.failures.now
+      rows_end 4096 IsNoPlan (IsKept c.args.routing.now.routes) no_bound no_path_set IsNeverAdapted c.args.network.now (known_traffic c.args.series.now) c.args.failures.now
           (without_rerouting c.args.recovery) tt c.loop-step.step rows every so_far.written.1,
       lines_end (codes "certificate") c.loop-step.text.items c.print_total.new.text.items c.loop-step.total rows so_far.written.2 so_far.written.3
           c.in_ok-print_total.ensures,

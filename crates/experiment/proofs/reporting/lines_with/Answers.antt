@@ -13,6 +13,7 @@ loop-step-init g c = record {
   written = (
     [],
     rows_begin g.S.Scheme.PATHS (g.S.Scheme.is_plan c.args.scheme.now) (g.S.Scheme.relates c.args.scheme.now) g.S.Note.LowNote.low
+        (g.S.Adaptive.path_set_routes c.args.scheme.now) (g.S.Adaptive.adapts c.args.scheme.now)
         c.args.network.now c.args.traffic.now c.args.failures.now c.args.recovery c.args.prepared.now.plan,
     c.new-text.ensures.items,
     c.none-total.ensures,
@@ -69,11 +70,13 @@ loop-step-preserved g c =
       written = (
         rows ++ row ∷ [],
         rows_next g.S.Scheme.PATHS (g.S.Scheme.is_plan c.args.scheme.now) (g.S.Scheme.relates c.args.scheme.now) g.S.Note.LowNote.low
+            (g.S.Adaptive.path_set_routes c.args.scheme.now) (g.S.Adaptive.adapts c.args.scheme.now)
             net traffic failures c.args.recovery plan step rows row so_far.written.1
             (record {
               step = c.in_ok-row.ensures.step;
               row = subst (λ (marks : List Bool). IsStepRow g.S.Scheme.PATHS (g.S.Scheme.is_plan c.args.scheme.now)
-                  (g.S.Scheme.relates c.args.scheme.now) g.S.Note.LowNote.low net marks traffic.sent.pairs.list (predicted_in traffic step) (sent_in traffic step)
+                  (g.S.Scheme.relates c.args.scheme.now) g.S.Note.LowNote.low
+                  (g.S.Adaptive.path_set_routes c.args.scheme.now) (g.S.Adaptive.adapts c.args.scheme.now) net marks traffic.sent.pairs.list (predicted_in traffic step) (sent_in traffic step)
                   c.args.recovery plan row) failed c.in_ok-row.ensures.row;
               conserved = c.in_ok-row.ensures.conserved;
             }),
@@ -92,6 +95,7 @@ returns g c =
     in (
       rows,
       rows_end g.S.Scheme.PATHS (g.S.Scheme.is_plan c.args.scheme.now) (g.S.Scheme.relates c.args.scheme.now) g.S.Note.LowNote.low
+          (g.S.Adaptive.path_set_routes c.args.scheme.now) (g.S.Adaptive.adapts c.args.scheme.now)
           c.args.network.now c.args.traffic.now c.args.failures.now c.args.recovery c.args.prepared.now.plan c.loop-step.step rows every
           so_far.written.1,
       lines_end c.args.word.now c.loop-step.text.items c.print_total.new.text.items c.loop-step.total rows so_far.written.2 so_far.written.3

@@ -8,7 +8,8 @@ use Rattle.experiment.proofs.reporting.lines_with.Given as goal
 abbrev pub invariant-loop-step : goal.invariant-loop-step
 invariant-loop-step g l = record {
   written : (rows : List StepRow)
-      × AreRowsBefore g.S.Scheme.PATHS (g.S.Scheme.is_plan l.scheme) (g.S.Scheme.relates l.scheme) g.S.Note.LowNote.low l.network l.traffic l.failures
+      × AreRowsBefore g.S.Scheme.PATHS (g.S.Scheme.is_plan l.scheme) (g.S.Scheme.relates l.scheme) g.S.Note.LowNote.low
+      (g.S.Adaptive.path_set_routes l.scheme) (g.S.Adaptive.adapts l.scheme) l.network l.traffic l.failures
       l.recovery l.prepared.plan l.step rows
       × (l.text.items ≡ flat_map (step_line l.word) rows) × (l.total ≡ total_of rows);
   small : AmountsAtMost (l.step * 2 ^ 64) l.total;

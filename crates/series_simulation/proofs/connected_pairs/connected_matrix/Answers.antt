@@ -15,7 +15,7 @@ loop-place-preserved c =
     let i = c.loop-place.place in
     let before = demands_of test (take i pairs) (take i demand) in
     let below : i < length pairs = omega (arith, c.loop-place-test.true, ap (λ (ps : List Pair). length ps) c.as_slice-list.ensures) in
-    let more = demands_more test pairs demand i below c.requires in
+    let more = demands_more test no_pair pairs demand i below c.requires in
     let answer : test (get_or pairs i no_pair) ≡ c.connects.result =
     ap (λ (ps : List Pair). test (get_or ps i no_pair)) (sym c.as_slice-list.ensures) ∙ sym c.connects.ensures
     in

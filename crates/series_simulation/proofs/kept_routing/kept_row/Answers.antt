@@ -1,4 +1,4 @@
-use Rattle.std.proofs.Common.{◌≡◌, ◌∙◌, ℕ, ◌<◌, Bool, List, length, map, true, arith, ap, refl, subst, sym}
+use Rattle.std.proofs.Common.{◌≡◌, ◌∙◌, ℕ, List, length, map, true, arith, ap, refl, subst, sym}
 use Rattle.std.proofs.lemmas.List.{length-map}
 use Rattle.te_model.specs.declared.route.Pair.{Pair}
 use Rattle.te_model.specs.declared.route.PairRoutes.{PairRoutes}
@@ -6,7 +6,6 @@ use Rattle.te_model.specs.Pairs.{AreDemands}
 use Rattle.local_recovery.specs.declared.mode.Mode.{Mode}
 use Rattle.routing.specs.Utilisation.{parts}
 use Rattle.traffic_matrix.specs.Traffic.{demands_in}
-use Rattle.series_simulation.specs.KeptRouting.{without_rerouting}
 use Rattle.series_simulation.specs.Rows.{mode_of}
 use Rattle.series_simulation.specs.Simulation.{IsConservedStep, IsSimulated, peak_of}
 use Rattle.series_simulation.proofs.Kept.{all_pairs, kept_row}

@@ -14,9 +14,11 @@ prepare_connected-requires-clause-pairs g c = series_pairs c.args.net.now c.args
 
 pub loop-step-init : goal.loop-step-init
 loop-step-init g c =
-    subst (AreRowsBefore g.S.Scheme.PATHS (g.S.Scheme.is_plan c.args.scheme.now) (g.S.Scheme.relates c.args.scheme.now) g.S.Note.LowNote.low c.args.net.now
+    subst (AreRowsBefore g.S.Scheme.PATHS (g.S.Scheme.is_plan c.args.scheme.now) (g.S.Scheme.relates c.args.scheme.now) g.S.Note.LowNote.low
+    (g.S.Adaptive.path_set_routes c.args.scheme.now) (g.S.Adaptive.adapts c.args.scheme.now) c.args.net.now
     c.args.traffic.now c.args.failures.now c.args.recovery c.in_ok-prepared.prepared.plan 0) (sym c.new-rows.ensures.items)
-    (rows_begin g.S.Scheme.PATHS (g.S.Scheme.is_plan c.args.scheme.now) (g.S.Scheme.relates c.args.scheme.now) g.S.Note.LowNote.low c.args.net.now
+    (rows_begin g.S.Scheme.PATHS (g.S.Scheme.is_plan c.args.scheme.now) (g.S.Scheme.relates c.args.scheme.now) g.S.Note.LowNote.low
+    (g.S.Adaptive.path_set_routes c.args.scheme.now) (g.S.Adaptive.adapts c.args.scheme.now) c.args.net.now
     c.args.traffic.now c.args.failures.now c.args.recovery c.in_ok-prepared.prepared.plan)
 
 pub index-requires : goal.index-requires
@@ -51,14 +53,17 @@ loop-step-preserved g c =
     let failed : c.as_slice.result.now ≡ marks_of net failures step =
     c.as_slice.ensures ∙ marks_at net failures (length c.as_slice-steps.result.now) step c.in_ok-marks.marks.items
     c.index.result.now c.in_ok-marks.ensures c.loop-step-test.true c.index.ensures in
-    subst (AreRowsBefore g.S.Scheme.PATHS (g.S.Scheme.is_plan c.args.scheme.now) (g.S.Scheme.relates c.args.scheme.now) g.S.Note.LowNote.low net traffic
+    subst (AreRowsBefore g.S.Scheme.PATHS (g.S.Scheme.is_plan c.args.scheme.now) (g.S.Scheme.relates c.args.scheme.now) g.S.Note.LowNote.low
+    (g.S.Adaptive.path_set_routes c.args.scheme.now) (g.S.Adaptive.adapts c.args.scheme.now) net traffic
     failures c.args.recovery plan (step + 1)) (sym c.in_ok-push.ensures.items)
-    (rows_next g.S.Scheme.PATHS (g.S.Scheme.is_plan c.args.scheme.now) (g.S.Scheme.relates c.args.scheme.now) g.S.Note.LowNote.low net traffic
+    (rows_next g.S.Scheme.PATHS (g.S.Scheme.is_plan c.args.scheme.now) (g.S.Scheme.relates c.args.scheme.now) g.S.Note.LowNote.low
+    (g.S.Adaptive.path_set_routes c.args.scheme.now) (g.S.Adaptive.adapts c.args.scheme.now) net traffic
     failures c.args.recovery plan step rows row c.loop-step.invariant
     (record {
       step = c.in_ok-row.ensures.step;
       row = subst (λ (marks : List Bool). IsStepRow g.S.Scheme.PATHS (g.S.Scheme.is_plan c.args.scheme.now) (g.S.Scheme.relates c.args.scheme.now)
-          g.S.Note.LowNote.low net marks traffic.sent.pairs.list (predicted_in traffic step) (sent_in traffic step) c.args.recovery plan row) failed c.in_ok-row.ensures.row;
+          g.S.Note.LowNote.low
+          (g.S.Adaptive.path_set_routes c.args.scheme.now) (g.S.Adaptive.adapts c.args.scheme.now) net marks traffic.sent.pairs.list (predicted_in traffic step) (sent_in traffic step) c.args.recovery plan row) failed c.in_ok-row.ensures.row;
       conserved = c.in_ok-row.ensures.conserved;
     }))
 
@@ -67,9 +72,11 @@ returns-clause-rows g c =
     let every : c.loop-step.step ≡ length c.args.traffic.now.sent.steps =
     omega (arith, c.loop-step-test.false, c.loop-step.auto.step-end, ap length c.as_slice-steps.ensures)
     in
-    subst (AreStepRows g.S.Scheme.PATHS (g.S.Scheme.is_plan c.args.scheme.now) (g.S.Scheme.relates c.args.scheme.now) g.S.Note.LowNote.low c.args.net.now c.args.traffic.now
+    subst (AreStepRows g.S.Scheme.PATHS (g.S.Scheme.is_plan c.args.scheme.now) (g.S.Scheme.relates c.args.scheme.now) g.S.Note.LowNote.low
+    (g.S.Adaptive.path_set_routes c.args.scheme.now) (g.S.Adaptive.adapts c.args.scheme.now) c.args.net.now c.args.traffic.now
     c.args.failures.now c.args.recovery) (sym c.new.ensures)
-    (rows_end g.S.Scheme.PATHS (g.S.Scheme.is_plan c.args.scheme.now) (g.S.Scheme.relates c.args.scheme.now) g.S.Note.LowNote.low c.args.net.now c.args.traffic.now
+    (rows_end g.S.Scheme.PATHS (g.S.Scheme.is_plan c.args.scheme.now) (g.S.Scheme.relates c.args.scheme.now) g.S.Note.LowNote.low
+    (g.S.Adaptive.path_set_routes c.args.scheme.now) (g.S.Adaptive.adapts c.args.scheme.now) c.args.net.now c.args.traffic.now
     c.args.failures.now c.args.recovery c.in_ok-prepared.prepared.plan c.loop-step.step c.loop-step.rows.items every c.loop-step.invariant)
 
 pub returns-clause-conserved : goal.returns-clause-conserved

@@ -42,10 +42,12 @@ returns g c =
       step = record {
         routes = routes;
         routed = subst (λ (o : Option (List ℕ)). IsStepRouting g.S.Scheme.PATHS (g.S.Scheme.is_plan c.args.scheme.now) (g.S.Scheme.relates c.args.scheme.now)
-            g.S.Note.LowNote.low net failed pairs o (sent_in c.args.traffic.now c.args.step) c.args.recovery c.args.prepared.now.plan routes routed.parts routed.low)
+            g.S.Note.LowNote.low
+            (g.S.Adaptive.path_set_routes c.args.scheme.now) (g.S.Adaptive.adapts c.args.scheme.now) net failed pairs o (sent_in c.args.traffic.now c.args.step) c.args.recovery c.args.prepared.now.plan routes routed.parts routed.low)
             predicted
             (subst (λ (ds : List ℕ). IsStepRouting g.S.Scheme.PATHS (g.S.Scheme.is_plan c.args.scheme.now) (g.S.Scheme.relates c.args.scheme.now)
-            g.S.Note.LowNote.low net failed pairs read ds c.args.recovery c.args.prepared.now.plan routes routed.parts routed.low) demand c.in_ok-routed.ensures.routed);
+            g.S.Note.LowNote.low
+            (g.S.Adaptive.path_set_routes c.args.scheme.now) (g.S.Adaptive.adapts c.args.scheme.now) net failed pairs read ds c.args.recovery c.args.prepared.now.plan routes routed.parts routed.low) demand c.in_ok-routed.ensures.routed);
         simulated = subst (λ (m : Mode). IsSimulated m net failed pairs (sent_in c.args.traffic.now c.args.step) routes rates simulation.result) c.mode_of-mode.ensures
             (subst (λ (ds : List ℕ). IsSimulated c.mode_of-mode.result net failed pairs ds routes rates simulation.result) demand c.in_ok-simulation.ensures.simulated);
         peak_is = c.peak-peak.ensures ∙ ap (peak_of net) c.as_slice.ensures;
@@ -59,3 +61,6 @@ predicted_of-predicted-requires-clause-traffic g c = (_, c.requires.traffic)
 
 pub step_routing-requires-clause-predicted : goal.step_routing-requires-clause-predicted
 step_routing-requires-clause-predicted g c = c.predicted_of-predicted.ensures.demands
+
+pub step_routing-requires-clause-ascending : goal.step_routing-requires-clause-ascending
+step_routing-requires-clause-ascending g c = c.requires.traffic.sent.ascending

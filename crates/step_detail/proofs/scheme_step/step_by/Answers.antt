@@ -32,7 +32,8 @@ returns-clause-step g c =
       plan = plan;
       number = c.in_ok-simulated.ensures.number;
       is_step = subst (λ (marks : List Bool). IsStep g.S.Scheme.PATHS (g.S.Scheme.is_plan c.args.scheme.now) (g.S.Scheme.relates c.args.scheme.now)
-          g.S.Note.LowNote.low net marks traffic.sent.pairs.list (predicted_in traffic c.args.step) (sent_in traffic c.args.step) c.args.recovery plan step.rates.routes step.row) failed
+          g.S.Note.LowNote.low
+          (g.S.Adaptive.path_set_routes c.args.scheme.now) (g.S.Adaptive.adapts c.args.scheme.now) net marks traffic.sent.pairs.list (predicted_in traffic c.args.step) (sent_in traffic c.args.step) c.args.recovery plan step.rates.routes step.row) failed
           c.in_ok-simulated.ensures.step;
     }
 

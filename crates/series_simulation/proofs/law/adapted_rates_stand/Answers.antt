@@ -1,0 +1,7 @@
+use Rattle.series_simulation.proofs.StandingRates.{adapted_rates_stand}
+use Rattle.series_simulation.proofs.law.adapted_rates_stand.Goals as goal
+
+pub returns : goal.returns
+returns g c =
+    adapted_rates_stand g.S.Scheme.PATHS (g.S.Scheme.is_plan c.args._scheme.now) (g.S.Scheme.relates c.args._scheme.now) g.S.Note.LowNote.low
+    (g.S.Adaptive.path_set_routes c.args._scheme.now) (g.S.Adaptive.adapts c.args._scheme.now)
