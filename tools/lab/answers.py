@@ -1,4 +1,4 @@
-"""Whole calls of `run` and `publish` on drawn networks, and what must hold of their answers, as docs/FORMATS.md says."""
+"""Whole calls of `run`, `publish` and `simulate` on drawn networks, and what must hold of their answers, as docs/FORMATS.md says."""
 import json
 import random
 import re
@@ -13,6 +13,7 @@ from .drawn_networks import NETWORK, PLAN, experiment
 from .drawn_folders import reading_in
 from .folders import write_files
 from .polish import up
+from .simulation_tests import report_by
 
 SEPARATOR, CASES_OF_CAMPAIGN = INPUT.separator, 10_000
 # The greatest product of links and pairs of which the polish is reckoned anew.
@@ -34,13 +35,21 @@ def judge(files, folder, _):
         return "refused", ["drawn: the files are refused"]
     rows, faults = report_of(folder, reading)
     published, faults_of_own = publication_of(folder, PLAN, reading)
-    faults += faults_of_own
+    faults += faults_of_own + (faults_of_simulation(published, folder, reading) if published else [])
     for scheme in {"spf", *(["ksp"] if reading.plan.k <= reading.plan.budget else [])} & set(reading.plan.schemes):
         other = {**json.loads(files[PLAN]), "publish": scheme}
         write_files(folder, {"other.json": json.dumps(other)})
         certificate, more = publication_of(folder, "other.json", reading)
         faults += more + (faults_of_parts(certificate, scheme, rows, reading) if certificate else [])
     return "published" if published else "no path", faults
+
+
+def faults_of_simulation(certificate, folder, reading):
+    """What is wrong with the report of the routing that was published, whose file is in the folder."""
+    got, faults = twice(["simulate", "c", PLAN], folder)
+    want = report_by(certificate, reading.plan.recovery, reading.series, reading.outages or [])
+    is_right = (got.status, got.out.decode("ascii", "replace"), got.err) == (0, want, "")
+    return faults + ([] if is_right else [f"simulate: want {want!r}, got {got.status}, {got.out!r}, {got.err!r}"])
 
 
 def twice(words, folder):
@@ -77,7 +86,9 @@ def faults_of_row(row, reading):
         yield "a link carries more than its capacity"
     if row[9] != "-" and int(row[9]) > parts:
         yield "the lower bound is above parts"
-    if (row[9] == "-") != (row[1] == "total" or row[0] not in ("mcf", "smore")):
+    # What bounds the routings of the predictions bounds none of what is sent.
+    has_low = row[0] in ("mcf", "smore") and row[1] != "total" and reading.predictions is None
+    if (row[9] != "-") != has_low:
         yield "a lower bound that is not stated, or one that is"
 
 
@@ -88,12 +99,17 @@ def totals(rows):
     return [*(str(sum(it)) for it in columns[:5]), *(str(max(it, default=0)) for it in columns[5:]), "-"]
 
 
+def declared_pairs(reading):
+    """The pairs that stand in a row of the matrices or of the predictions, in order."""
+    return sorted(reading.series.declared | (reading.predictions or reading.series).declared)
+
+
 def first_without_path(reading):
     """The first declared pair of which no links lead from the source to the destination."""
     after = {}
     for tail, head, *_ in reading.net.links:
         after.setdefault(tail, set()).add(head)
-    for source, target in reading.series.pairs:
+    for source, target in declared_pairs(reading):
         found, waiting = {source}, [source]
         while waiting:
             for head in after.get(waiting.pop(), ()):
@@ -120,7 +136,7 @@ def publication_of(folder, plan, reading):
         return None, faults + [f"publish: the second checker says {want}"]
     certificate = reference_check.read(got.out)
     faults += faults_of_answers(folder, got.out, want) + faults_of_size(certificate)
-    faults += [f"publish: pairs {len(certificate['pairs'])}"] * ([pair[:2] for pair in certificate["pairs"]] != reading.series.pairs)
+    faults += [f"publish: pairs {len(certificate['pairs'])}"] * ([pair[:2] for pair in certificate["pairs"]] != declared_pairs(reading))
     if len(certificate["links"]) * len(certificate["pairs"]) <= POLISHED:
         faults += [f"publish: {it}" for it in polish.faults_of(polish.Made(got.out))]
     return certificate, faults

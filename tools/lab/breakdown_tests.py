@@ -3,10 +3,15 @@
 From the paths that `paths` lists, the files of the plan and the rules of a simulated step follow all columns of the other two texts, whichever
 scheme made the paths; the sums and the greatest of these columns are those of the line of the report.
 """
-from . import steps
+import json
+import os
+import random
+
+from . import drawn_networks, steps
 from .backbone import MATRICES, NETWORK
 from .inputs import read_failures, read_matrices, read_topology
-from .plans import RECOVERIES, read_plan
+from .plans import FILES, RECOVERIES, read_plan
+from .program import TOP
 
 LINKS = "scheme,link,source,target,capacity,failed,asked,carried,asked_parts,carried_parts"
 PAIRS = "scheme,source,target,offered,delivered,lost_full,lost_failed,lost_no_path,paths,cost,least_cost"
@@ -14,6 +19,8 @@ PATHS = "scheme,source,target,weight,links"
 AMOUNTS = ("offered", "delivered", "lost_full", "lost_failed", "lost_no_path")
 EACH_SCHEME = '"schemes":["spf","ecmp","ksp","mcf","racke","smore","valiant","robust"]'
 STEPS = 3
+# How many drawn networks are tried.
+DRAWN = 12
 
 
 class Inputs:
@@ -120,7 +127,8 @@ def faults_of_loads(inputs, row, loads, paths_on, asked):
         for link, (units, load, paths) in enumerate(zip(asked, loads, paths_on)) if abs(units * steps.SHARE_UNIT - load) > paths * steps.SHARE_UNIT
     ]
     parts = max((-(-load // link[2]) for load, link in zip(loads, inputs.net.links)), default=0)
-    is_kept = not any(inputs.failed) or inputs.plan.recovery in ("none", "reroute")
+    recovery = inputs.plan.recovery
+    is_kept = not any(inputs.failed) or recovery in ("none", "reroute") or (recovery, row["scheme"]) == ("adapt", "smore")
     return faults + ([f"parts is {row['parts']}, and that of the paths {parts}"] if is_kept and int(row["parts"]) != parts else [])
 
 
@@ -177,11 +185,45 @@ def cut_files(recovery):
     return {"p": plan, "t": NETWORK, "m": first, "f": "from,to,link\n1,1,0\n1,1,1\n1,2,4\n1,2,5\n"}
 
 
-# What is tried, the files of a plan, and the steps that are looked at.
-CASES = [(f"steps of the backbone, {recovery}", cut_files(recovery), range(STEPS)) for recovery in RECOVERIES]
+def files_by_letter(plan, text_of):
+    """The files of a plan by the names of this table, p, t, m, f and q, where `text_of` gives the text of a file that the plan names."""
+    letters = dict(zip(FILES, "tmfq"))
+    named = {letters[key]: text_of(plan[key]) for key in FILES if key in plan}
+    return {"p": json.dumps({**plan, **{key: letters[key] for key in FILES if key in plan}}), **named}
+
+
+def example_files(folder, name):
+    """The files of a plan of the examples."""
+
+    def text_of(path):
+        with open(os.path.join(TOP, "examples", folder, path), encoding="utf-8") as file:
+            return file.read()
+
+    return files_by_letter(json.loads(text_of(name)), text_of)
+
+
+def drawn_files(number):
+    """The files of a small experiment that is drawn from this number."""
+    draw = random.Random(f"steps {number}")
+    files = {name: text.decode() for name, text in drawn_networks.experiment(draw, draw.randint(3, 6), draw.randint(6, 12), STEPS, 6).items()}
+    return files_by_letter(json.loads(files[drawn_networks.PLAN]), files.get)
+
+
+def step_count(files):
+    """How many steps the series of these files has."""
+    net, _ = read_topology(files["t"].encode())
+    return len(read_matrices(files["m"].encode(), net)[0].steps)
+
+
+# What is tried, the files of a plan, and the steps that are looked at at most.
+CASES = [
+    *((f"steps of the backbone, {recovery}", cut_files(recovery), STEPS) for recovery in RECOVERIES),
+    *((f"steps of the cuts, {recovery}", example_files("cuts", f"{recovery}.json"), 2) for recovery in RECOVERIES),
+    *((f"steps of a drawn network, {number}", drawn_files(number), STEPS) for number in range(DRAWN)),
+]
 
 
 def cases(answer):
     """The name of each case, and what is wrong with it."""
-    for name, files, looked_at in CASES:
-        yield name, [fault for step in looked_at for fault in faults_of_files(answer, files, step)]
+    for name, files, most in CASES:
+        yield name, [fault for step in range(min(most, step_count(files))) for fault in faults_of_files(answer, files, step)]

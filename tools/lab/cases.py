@@ -67,6 +67,7 @@ ACCEPTED = [
     ("steps begin at 1, with a margin", with_margin(tm(TM + "1,a,b,7\n")), "", ["margin's base is step 0", "no demand at all"]),
     ("a pair has no demand in step 0, with a margin", with_margin({}), "", ["1 pair has no demand in step 0", "c>a"]),
     ("an envelope", member('"envelope":true'), "", ["accepted"]),
+    ("schemes that a plan has to name", member('"schemes":["valiant","robust"],"publish":"robust","budget":16'), "", ["accepted"]),
     ("no envelope, with a margin", member('"schemes":["spf"],"margin":[2,1],"envelope":false'), "", ["accepted"]),
     ("steps begin at 1, with an envelope", {**member('"envelope":true'), **tm(TM + "1,a,b,7\n")}, "", ["the least of each demand"]),
     ("one direction of each fibre", {**net(NET + "a,b,100,1\nb,c,100,1\n"), **plan('{"topology":"net.csv","matrices":"tm.csv"}')}, "",

@@ -101,5 +101,5 @@ def faults_of_given(answer, recovery):
 
 def cases(answer):
     """The name of each case, and what is wrong with it."""
-    for recovery in ("none", "reroute"):
+    for recovery in ("none", "reroute", "adapt"):
         yield f"schemes are given the predictions, {recovery}", faults_of_given(answer, recovery)

@@ -7,15 +7,15 @@ import os
 import tempfile
 
 from . import program
-from .plans import OBLIVIOUS
 
+SCHEMES = ("spf", "ecmp", "ksp", "racke")
 SETS = {"all": {}, "margin 1 1": {"margin": [1, 1]}, "margin 2 1": {"margin": [2, 1]}}
 KEYS = {"topology": "net.csv", "matrices": "tm.csv", "k": 4, "budget": 4, "trees": 8, "seed": 7}
 THREE_NODES = ["a,c,10,1", "b,c,10,1", "a,b,10,1", "b,a,10,1"]
 PARALLEL_LINKS = ["a,b,10,1", "a,b,30,1"]
 DIAMOND = ["a,b,10,1", "b,d,10,1", "a,c,20,1", "c,d,20,1", "d,a,10,5", "b,c,7,1"]
 WIDE = [4294967297000000, 2147483648500000, 2147483648500000, 1000001]
-# By network: its links, the rows of its matrices, and for each set the greatest ratio of each oblivious scheme.
+# By network: its links, the rows of its matrices, and for each set the greatest ratio of each of these schemes.
 NETWORKS = {
     "three nodes": (THREE_NODES, ["0,a,c,10", "0,b,c,10"], [
         [2000200, 2000200, 1052429, 1315536], [1000100, 1000100, 1136864, 1421080], [1824074, 1824074, 1052429, 1315536]]),
@@ -64,7 +64,7 @@ def ratios(network, name):
     """What is wrong with the certificates of a network over one of the sets."""
     links, demands, bounds = NETWORKS[network]
     faults = []
-    for scheme, most in zip(OBLIVIOUS, bounds[list(SETS).index(name)]):
+    for scheme, most in zip(SCHEMES, bounds[list(SETS).index(name)]):
         with tempfile.TemporaryDirectory() as folder:
             write(folder, links, demands, publish=scheme, **SETS[name])
             faults += [f"{scheme}: {it}" for it in published_faults(folder, most)]

@@ -83,21 +83,25 @@ def row_of(cert, demands, failed, recovery):
     return [*map(sum, zip(*results.values())), peak, parts_of(cert, demands)]
 
 
-def report_of(files):
-    """The whole report of a certificate and the files of a plan, all of which are accepted."""
-    cert = reference_check.read(files["c"].encode())
-    plan, _ = read_plan(files["p"].encode())
-    net, _ = read_topology(files["t"].encode())
-    series, _ = read_matrices(files["m"].encode(), net)
-    outages = read_failures(files["f"].encode(), len(net.links), len(series.steps))[0] if plan.failures else []
+def report_by(cert, recovery, series, outages):
+    """The whole report of a certificate, over these matrices and outages."""
     rows = []
     for step, demands in enumerate(series.steps):
-        failed = [any(first <= step <= last and link == it for first, last, link in outages) for it in range(len(net.links))]
-        rows.append(row_of(cert, demands, failed, plan.recovery))
+        failed = [any(first <= step <= last and link == it for first, last, link in outages) for it in range(len(cert["links"]))]
+        rows.append(row_of(cert, demands, failed, recovery))
     columns = list(zip(*rows)) or [[]] * 7
     total = [sum(it) for it in columns[:5]] + [max(it, default=0) for it in columns[5:]]
     lines = [*enumerate(rows), ("total", total)]
     return COLUMNS + "".join(f"certificate,{step}," + ",".join(map(str, row)) + ",-\n" for step, row in lines)
+
+
+def report_of(files):
+    """The same of the files of a plan, all of which are accepted."""
+    plan, _ = read_plan(files["p"].encode())
+    net, _ = read_topology(files["t"].encode())
+    series, _ = read_matrices(files["m"].encode(), net)
+    outages = read_failures(files["f"].encode(), len(net.links), len(series.steps))[0] if plan.failures else []
+    return report_by(reference_check.read(files["c"].encode()), plan.recovery, series, outages)
 
 
 def few_steps():
@@ -165,6 +169,7 @@ PUBLISHED = [
     ("ksp", 4, "bypass", True),
     ("ksp", 4, "reroute", True),
     ("racke", 32, "bypass", True),
+    ("racke", 32, "adapt", True),
     ("racke", 1, "scale", False),
     ("ksp", 2, "none", False),
 ]

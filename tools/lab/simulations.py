@@ -18,7 +18,7 @@ def plan(recovery, more=""):
     return f'{{"topology":"t","matrices":"m","failures":"f","recovery":"{recovery}"{more}}}'
 
 
-KEEP, SCALE, BYPASS, REROUTE = map(plan, ("none", "scale", "bypass", "reroute"))
+KEEP, SCALE, BYPASS, REROUTE, ADAPT = map(plan, ("none", "scale", "bypass", "reroute", "adapt"))
 FORECAST = '{"topology":"t","matrices":"m","predictions":"q","failures":"f"}'
 
 # Three nodes in a row, and a pair over both links beside one over the first.
@@ -56,12 +56,12 @@ SIMULATED = [
             [UNEVEN, it, BOTH, TWICE_FORTY, FAILURE], 0,
             rows("0,40,38,2,0,0,1000000,1066667,-", "1,40,10,30,0,0,1000000,1066667,-", "total,80,48,32,0,0,1000000,1066667,-"),
         )
-        for it in (SCALE, BYPASS, REROUTE)
+        for it in (SCALE, BYPASS, REROUTE, ADAPT)
     ],
     # No path is left of a pair, and the routing is not made anew.
     *[
         ([SMALLEST, it, LINK, FIVE, "from,to,link\n0,0,0\n"], 0, rows("0,5,0,0,0,5,0,500000,-", "total,5,0,0,0,5,0,500000,-"))
-        for it in (SCALE, BYPASS, REROUTE)
+        for it in (SCALE, BYPASS, REROUTE, ADAPT)
     ],
     ([SMALLEST, KEEP, LINK, FIVE, "from,to,link\n0,0,0\n"], 0, rows("0,5,0,0,5,0,0,500000,-", "total,5,0,0,5,0,0,500000,-")),
     # A pair without a row demands nothing, and so does one in a step without its row.

@@ -39,7 +39,7 @@ CUT, WHOLE = REPORTS["part-1-report.csv"][:-20], REPORTS["part-1-report.csv"]
 # What is wrong with a report, and what stands in its place.
 SPOILED = [("is cut", CUT), ("is empty", ""), ("is of other schemes", WHOLE.replace("spf", "ksp")), ("has a step more", WHOLE.replace("spf,total", "spf,2,1,1,0,0,0,4,4,-\nspf,total"))]
 # A plan, the folder in which it runs, and the number of parts.
-RUNS = [("bypass.json", "examples/cuts", 4), ("reroute.json", "examples/cuts", 3), ("plan.json", "examples/backbone", 5)]
+RUNS = [("bypass.json", "examples/cuts", 4), ("reroute.json", "examples/cuts", 3), ("adapt.json", "examples/cuts", 5), ("plan.json", "examples/backbone", 5)]
 
 
 def cases(load, call, has_program):

@@ -88,6 +88,8 @@ def few_paths_of_smore():
     rows = "mcf,0,1,1,0,0,0,1,300,200\nmcf,1,1,1,0,0,0,1,300,200\nmcf,total,2,2,0,0,0,1,300,-\nsmore,0,1,1,0,0,0,1,401,201\nsmore,1,1,1,0,0,0,1,900,201\nsmore,total,2,2,0,0,0,1,900,-\n"
     faults = differences(report_warnings(plan_of(), (COLUMNS + rows).encode()), "in 2 steps: in step 1 its parts is 900, and the low of mcf 200")
     faults += differences(report_warnings(plan_of(), (COLUMNS + rows.replace("401", "400").replace("900", "400")).encode()))
+    for recovery, said in (("adapt", "in 1 step: in step 0 its parts is 401, and the low of mcf 200"), ("scale", "in 2 steps: in step 1 its parts is 900")):
+        faults += differences(report_warnings(plan_of(recovery=recovery), (COLUMNS + rows).encode(), [(1, 1, 0)]), said)
     return faults + differences(report_warnings(plan_of(), b"")) + differences(report_warnings(plan_of(), (COLUMNS + rows[:rows.index("smore")]).encode()))
 
 

@@ -140,10 +140,14 @@ def coarse_units(net, series):
     ]
 
 
-def report_warnings(plan, report):
-    """Steps of a report, if there is one, in which the few paths of smore cost more than twice what any routing must ask."""
+def report_warnings(plan, report, outages=()):
+    """Steps of a report, if there is one, in which the few paths of smore cost more than twice what any routing must ask.
+
+    Where a link has failed, `adapt` leaves smore fewer paths, and the low of mcf is that of the whole network: such steps are left out.
+    """
     rows = [line.split(",") for line in report.decode("ascii").split("\n")[1:-1]]
-    lows = {row[1]: int(row[9]) for row in rows if row[0] == "mcf" and row[9] != "-"}
+    cut = {str(step) for first, last, _ in outages for step in range(first, last + 1)} if plan.recovery == "adapt" else ()
+    lows = {row[1]: int(row[9]) for row in rows if row[0] == "mcf" and row[9] != "-" and row[1] not in cut}
     found = [(int(row[8]), lows[row[1]], row[1]) for row in rows if row[0] == "smore" and row[1] in lows]
     high = {step: (parts, low) for parts, low, step in found if parts > 2 * low}
     if not high:
