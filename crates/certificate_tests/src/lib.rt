@@ -15,6 +15,8 @@ mod fault_rates_tests;
 #[cfg(test)]
 mod hose_bound_tests;
 #[cfg(test)]
+mod kept_ways_tests;
+#[cfg(test)]
 mod number_tables_tests;
 #[cfg(test)]
 mod ratio_certificate_tests;

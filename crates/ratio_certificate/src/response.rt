@@ -6,19 +6,17 @@ ghost use Rattle.centred_steps.specs.Loads.{AreLoadsWithin, AreSmall};
 ghost use Rattle.centred_steps.specs.Ways.{AreLastLinks};
 ghost use Rattle.ratio_certificate.specs.Form.{HasBounds};
 ghost use Rattle.ratio_certificate.specs.Pricing.{IsPricing};
-ghost use Rattle.ratio_certificate.specs.Response.{HasRow, IsNearness};
+ghost use Rattle.ratio_certificate.specs.Response.{HasRow};
 
 use crate::problem::Problem;
 use best_blocks::{Metric, Scale, SharedLink};
 use centred_steps::{add_load_along, clear_loads, last_links, narrowest_on};
+use kept_ways::{amount_of, nearness};
 use std::alloc::Global;
 use te_model::{DemandSet, Memory, Network, SHARE_UNIT};
 
 /// What stands for a node that is not there.
-const NO_NODE: u32 = u32::MAX;
-
-/// How much a capacity counts for in what a pair sends.
-const WHOLE: u128 = 1 << 10;
+pub const NO_NODE: u32 = u32::MAX;
 
 /// The least ways from one node after another, by the links with which they end.
 #[derive(Drop)]
@@ -41,7 +39,7 @@ pub fn no_ways(alloc: Global, net: &Network) -> Result<Ways, Memory>
 }
 
 /// Turns the ways to those from the node, by the distances from it.
-fn turn(net: &Network, metric: &Metric, ways: &mut Ways, from: u32)
+pub fn turn(net: &Network, metric: &Metric, ways: &mut Ways, from: u32)
     requires network { IsTrue (is_well_formed net.now) }
     requires weights { length metric.now.weights ≡ link_count net.now }
     requires row { HasRow net.now metric.now from }
@@ -53,26 +51,6 @@ fn turn(net: &Network, metric: &Metric, ways: &mut Ways, from: u32)
         last_links(net, metric.weights.as_slice(), row, &mut ways.lasts);
         ways.from = from;
     }
-}
-
-/// By how much a share is worth more than so near a part of the most, which is what the distance of its pair is worth.
-#[tactic(auto, using(crate::proofs::Responses::near_worth_fits, crate::proofs::Responses::near_most_fits))]
-fn nearness(worth: u128, most: u128, near: u128) -> u128
-    requires worth { worth ≤ 2 ^ 56 }
-    requires most { most ≤ 2 ^ 71 }
-    requires near { IsNearness near }
-    ensures { result ≤ 2 ^ 64 }
-{
-    (worth * near).saturating_sub(most * (near - 1))
-}
-
-/// The amount that a pair sends: the capacity of its way where no pair is dearer, and less the less dear the pair is.
-#[tactic(auto, using(crate::proofs::Responses::part_fits))]
-fn amount_of(capacity: u64, above: u128, most: u128) -> u128
-    requires capacity { capacity ≤ 2 ^ 32 }
-    requires above { above ≤ 2 ^ 64 }
-{
-    u128::from(capacity) * above * WHOLE / most.max(1)
 }
 
 /// What a pair sends in the worst matrix between the bounds: the upper one where its share asks for as much as its distance gives.

@@ -5,8 +5,6 @@ ghost use Rattle.te_model.specs.Network.{link_count};
 ghost use Rattle.centred_steps.specs.Loads.{AreLoadsWithin};
 ghost use Rattle.centred_steps.specs.Ways.{AreLastLinks};
 ghost use Rattle.centred_steps.specs.Weights.{AreWeightsUpTo};
-ghost use Rattle.shortest_path.specs.declared.rows.Direction.TheVariants.{Forward};
-ghost use Rattle.shortest_path.specs.Rows.{IsSearchGraph};
 ghost use Rattle.ratio_certificate.specs.Problems.{IsLinkOf, IsMetricOf, IsProblem, IsWeightingOf};
 ghost use Rattle.ratio_certificate.specs.Searching.{IsSearchOf};
 ghost use Rattle.ratio_certificate.specs.Weighting.{AreWeights};
@@ -71,7 +69,7 @@ fn start_by(
 }
 
 /// A search at its start, where each weight is 2^20.
-fn start(alloc: Global, problem: &Problem, shared: &SharedLink) -> Result<Search, Memory>
+pub fn start(alloc: Global, problem: &Problem, shared: &SharedLink) -> Result<Search, Memory>
     requires problem { IsProblem problem.now }
     requires shared { IsLinkOf problem.now shared.now }
     ensures { IfOk result (IsSearchOf problem.now shared.now) }
@@ -89,7 +87,7 @@ fn half_of(weight: u64) -> u64
 }
 
 /// Half of each of the weights, rounded up: weights that steps may move, for which a link needs nearly the same.
-fn halves_of(alloc: Global, weights: &[u64]) -> Result<Vec<u64>, Memory>
+pub fn halves_of(alloc: Global, weights: &[u64]) -> Result<Vec<u64>, Memory>
     requires weights { AreWeightsUpTo (2 ^ 28) weights.now }
     ensures count { IfOk result (λ w. length w.items ≡ length weights.now) }
     ensures weights { IfOk result (λ w. AreWeightsUpTo (2 ^ 27) w.items) }
@@ -102,7 +100,7 @@ fn halves_of(alloc: Global, weights: &[u64]) -> Result<Vec<u64>, Memory>
 }
 
 /// A search at its start, from these weights on.
-fn start_from(
+pub fn start_from(
     alloc: Global,
     problem: &Problem,
     shared: &SharedLink,
@@ -119,37 +117,39 @@ fn start_from(
     start_by(alloc, problem, shared, metric)
 }
 
-/// The metric of the weights after a step by the loads.
-fn metric_after_step(
+/// Moves the search to these weights.
+pub fn move_to(
     alloc: Global,
     problem: &Problem,
     shared: &SharedLink,
-    metric: &Metric,
-    searches: &mut Searches,
-    loads: &[u128],
-    parts: u64,
-) -> Result<Metric, Memory>
+    search: &mut Search,
+    weights: Vec<u64>,
+) -> Result<(), Memory>
     requires problem { IsProblem problem.now }
     requires shared { IsLinkOf problem.now shared.now }
-    requires along { IsSearchGraph problem.now.net.now Forward searches.old }
-    requires count { length metric.now.weights ≡ link_count problem.now.net.now }
-    requires weights { AreWeightsUpTo (2 ^ 27) metric.now.weights }
-    requires loads { AreLoadsWithin problem.now.net.now loads.now }
-    requires parts { (1 ≤ parts) × (parts ≤ 128) }
-    ensures metric { IfOk result (IsMetricOf problem.now shared.now) }
-    ensures weights { IfOk result (λ m. AreWeightsUpTo (2 ^ 27) m.weights) }
-    ensures same { searches.new ≡ searches.old }
+    requires search { IsSearchOf problem.now shared.now search.old }
+    requires count { length weights.items ≡ link_count problem.now.net.now }
+    requires weights { AreWeightsUpTo (2 ^ 27) weights.items }
+    ensures { OnOk result (IsSearchOf problem.now shared.now search.new) }
 {
-    let mut weights = Vec::from_slice(alloc, metric.weights.as_slice())?;
-    step_weights(problem.net, &mut weights, loads, parts);
-    metric_with(
+    let marks = shared.marks.as_slice();
+    let searches = &mut search.searches;
+    let metric = metric_with(
         alloc,
         problem.net,
         problem.routing,
-        shared.marks.as_slice(),
+        marks,
         searches,
         weights,
-    )
+    )?;
+    let found = weighting_of(alloc, problem, shared, &metric)?;
+    search.metric = metric;
+    search.scale = Scale {
+        a: found.a,
+        b: found.b,
+    };
+    keep_lesser(&mut search.best, found);
+    Ok(())
 }
 
 /// Moves the weights of the search by a step after a sweep, whose loads these are.
@@ -168,17 +168,9 @@ fn advance(
     requires parts { (1 ≤ parts) × (parts ≤ 128) }
     ensures { OnOk result (IsSearchOf problem.now shared.now search.new) }
 {
-    let old = &search.metric;
-    let searches = &mut search.searches;
-    let metric = metric_after_step(alloc, problem, shared, old, searches, loads, parts)?;
-    let found = weighting_of(alloc, problem, shared, &metric)?;
-    search.metric = metric;
-    search.scale = Scale {
-        a: found.a,
-        b: found.b,
-    };
-    keep_lesser(&mut search.best, found);
-    Ok(())
+    let mut weights = Vec::from_slice(alloc, search.metric.weights.as_slice())?;
+    step_weights(problem.net, &mut weights, loads, parts);
+    move_to(alloc, problem, shared, search, weights)
 }
 
 /// The parts of the next step: twice as many where a stage ends.

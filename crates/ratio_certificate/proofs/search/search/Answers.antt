@@ -1,4 +1,4 @@
-use Rattle.std.proofs.Common.{Bool, true, false, List, length, ap, ◌∙◌}
+use Rattle.std.proofs.Common.{ℕ, List, length, ap, ◌∙◌}
 use Rattle.std.proofs.lemmas.List.{length-replicate, length-set}
 use Rattle.ratio_certificate.proofs.Searched.{own_weightings, weightings_after}
 use Rattle.ratio_certificate.proofs.search.search.Goals as goal
@@ -7,13 +7,13 @@ pub loop-preserved : goal.loop-preserved
 loop-preserved c =
     let p = c.args.problem.now in (
       weightings_after p.net.now p.routing.now.routes p.set.now c.args.links.now c.args.list.now c.loop.list c.search_at.new.list c.loop.invariant.0 c.in_ok-search_at-in-Some.ensures,
-      length-set c.loop.searched.items c.in-Some.k true ∙ c.loop.invariant.1,
+      length-set c.loop.searches.items c.in-Some.k _ ∙ c.loop.invariant.1,
     )
 
 pub loop-init : goal.loop-init
 loop-init c = (
   c.requires.list,
-  ap (λ (xs : List Bool). length xs) (c.in_ok-searched.ensures.items_if_clones_equal (λ y same. same)) ∙ length-replicate (length c.args.links.now) false,
+  ap (λ (xs : List ℕ). length xs) (c.in_ok-searches.ensures.items_if_clones_equal (λ y same. same)) ∙ length-replicate (length c.args.links.now) 0,
 )
 
 pub search_at-requires-clause-list : goal.search_at-requires-clause-list

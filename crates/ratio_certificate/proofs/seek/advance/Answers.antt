@@ -1,30 +1,14 @@
-use Rattle.std.proofs.Common.{◌≡◌, sym, subst}
-use Rattle.shortest_path.specs.declared.rows.Direction.TheVariants.{Forward}
-use Rattle.shortest_path.specs.Rows.{IsSearchGraph}
-use Rattle.ratio_certificate.specs.Weighting.{IsWeighting}
-use Rattle.ratio_certificate.proofs.RoundMetrics.{lesser_is}
-use Rattle.ratio_certificate.proofs.Seeking.{small_scale, movable_weights}
+use Rattle.std.proofs.Common.{◌≡◌, ◌^◌, List, ℕ, length, ap, sym, subst, ◌∙◌}
+use Rattle.te_model.proofs.Lists.{written_whole}
+use Rattle.centred_steps.specs.Weights.{AreWeightsUpTo}
 use Rattle.ratio_certificate.proofs.seek.advance.Goals as goal
 
-pub weighting_of-requires-clause-weights : goal.weighting_of-requires-clause-weights
-weighting_of-requires-clause-weights c =
-    movable_weights c.args.problem.now.net.now c.in_ok-metric.metric.weights c.in_ok-metric.ensures.metric.count c.in_ok-metric.ensures.weights
+pub step_weights-requires-clause-weights : goal.step_weights-requires-clause-weights
+step_weights-requires-clause-weights c =
+    subst (AreWeightsUpTo (2 ^ 27)) (sym (c.deref_mut.ensures.value ∙ c.in_ok-weights.ensures.items ∙ c.as_slice.ensures)) c.requires.search.weights
 
-pub returns : goal.returns
-returns c =
-    let net = c.args.problem.now.net.now in
-    let routes = c.args.problem.now.routing.now.routes in
-    let set = c.args.problem.now.set.now in
-    let found = c.in_ok-found.found in
-    let best = c.args.search.now.best in
-    let lesser = c.keep_lesser.new.best in
-    let keeps = c.keep_lesser.ensures.same in
-    let takes = c.keep_lesser.ensures.lesser in
-    record {
-      metric = c.in_ok-metric.ensures.metric;
-      weights = c.in_ok-metric.ensures.weights;
-      scale = small_scale net routes set found c.requires.problem.network c.requires.problem.routing c.in_ok-found.ensures.weighting;
-      link = lesser_is (λ w. w.link ≡ c.args.shared.now.link) best found lesser keeps takes c.requires.search.link c.in_ok-found.ensures.link;
-      best = lesser_is (IsWeighting net routes set) best found lesser keeps takes c.requires.search.best c.in_ok-found.ensures.weighting;
-      along = subst (IsSearchGraph net Forward) (sym c.in_ok-metric.ensures.same) c.requires.search.along;
-    }
+pub move_to-requires-clause-weights : goal.move_to-requires-clause-weights
+move_to-requires-clause-weights c =
+    let old = c.in_ok-weights.weights.items in
+    let kept : length c.step_weights.new.weights ≡ length old = c.step_weights.auto.weights ∙ ap (λ (l : List ℕ). length l) c.deref_mut.ensures.value in
+    rw (written_whole c.in_ok-weights.weights.len c.step_weights.new.weights old kept c.in_ok-weights.weights.ok.0) c.step_weights.ensures.weights
