@@ -20,10 +20,14 @@ pub mod OtherMarks
 pub mod BoundedNeeds
 pub mod Searched
 pub mod Seeking
+pub mod KeptAt
 pub mod Certificates
 pub mod MadeForms
 pub mod MadeBlocks
 pub mod Changed
+pub mod Bounds
+pub mod CriticalLinks
+pub mod CriticalSources
 pub mod WeightingsExist
 pub mod NextRoundExists
 pub mod RoundsExist

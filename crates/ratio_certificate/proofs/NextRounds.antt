@@ -57,7 +57,7 @@ path_between net weights s t [] apart is = absurd (apart (eqb-true s t (chains_o
 path_between net weights s t (h ∷ hs) apart is = (path_links net s t (h ∷ hs) is.0, omega arith)
 
 -- the first pair with the greatest share by distance, by the lists that were read
-dearest_read : (n d : ℕ) (xs ds shares distances : List ℕ) → xs ≡ shares → ds ≡ distances → length shares ≡ n →
+pub dearest_read : (n d : ℕ) (xs ds shares distances : List ℕ) → xs ≡ shares → ds ≡ distances → length shares ≡ n →
     (a : ℕ) × (b : ℕ) × IsGreatestAt (length xs) (slice_index xs) (slice_index ds) d a b →
     (a : ℕ) × (b : ℕ) × IsGreatestAt n (slice_index shares) (slice_index distances) d a b
 dearest_read n d xs ds shares distances is_xs is_ds count dearest =

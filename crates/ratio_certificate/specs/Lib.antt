@@ -1,4 +1,5 @@
 pub mod Changing
+pub mod Critical
 pub mod Form
 pub mod Laws
 pub mod Made
@@ -10,6 +11,7 @@ pub mod Polished
 pub mod Pricing
 pub mod Problems
 pub mod Response
+pub mod Restricted
 pub mod Rising
 pub mod Rounds
 pub mod Searching

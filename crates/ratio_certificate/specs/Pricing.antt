@@ -1,7 +1,8 @@
 -- Scaled weights of a link.
+use Rattle.kept_ways.specs.Amounts.{IsNearness}
 use Rattle.ratio_certificate.specs.declared.response.Pricing.{Pricing}
 use Rattle.ratio_certificate.specs.Problems.{IsLinkOf, IsMetricOf, IsProblem}
-use Rattle.ratio_certificate.specs.Response.{IsNearness, IsSmallScale}
+use Rattle.ratio_certificate.specs.Response.{IsSmallScale}
 
 -- a link of a problem with a share, and a metric by numbers within those of blocks
 pub record IsPricing (p : Pricing) : Type 0 where

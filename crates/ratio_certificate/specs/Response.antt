@@ -13,7 +13,3 @@ HasRow net m v = (v < length m.rows) × (length (distances_from m.rows v) ≡ no
 -- the numbers of a scale are within those of blocks
 abbrev pub IsSmallScale : Scale → Type 0
 IsSmallScale scale = (scale.a ≤ 2 ^ 36) × (scale.b ≤ 2 ^ 36)
-
--- twice the parts of a step
-abbrev pub IsNearness : ℕ → Type 0
-IsNearness near = (1 ≤ near) × (near ≤ 256)

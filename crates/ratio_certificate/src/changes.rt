@@ -1,15 +1,18 @@
 //! Changes of one weight that improve a need.
-ghost use Rattle.std.specs.Prelude.{◌≡◌, ◌*◌, ◌+◌, ◌/◌, ◌^◌, ◌<◌, ◌≤◌, ℕ, IfOk, IfSome, IfNone, true, false, slice_index, slice_set};
-ghost use Rattle.te_model.specs.Network.{link_count};
-ghost use Rattle.ratio_certificate.specs.Changing.{weights_of, AreChanges, HelpsNotIn, IsImprovementIn, IsSettledIn};
+ghost use Rattle.std.specs.Prelude.{◌≡◌, ◌*◌, ◌+◌, ◌/◌, ◌^◌, ◌<◌, ◌≤◌, ℕ, IfOk, IfSome, IfNone, IsTrue, true, false, length, slice_index, slice_set};
+ghost use Rattle.te_model.specs.Network.{is_well_formed, link_count, node_count};
+ghost use Rattle.best_blocks.specs.Rows.{is_marked};
+ghost use Rattle.ratio_certificate.specs.Changing.{weights_of, AreChanges, HelpsNotIn, IsImprovementIn, IsSettledIn, IsTightFrom};
+ghost use Rattle.ratio_certificate.specs.Critical.{is_tight_in};
 ghost use Rattle.ratio_certificate.specs.Polished.{ImprovesBy64th};
 ghost use Rattle.ratio_certificate.specs.Problems.{IsMetricOf, IsWeightingOf};
 
 use crate::problem::Problem;
 use crate::weighting::{Weighting, weighting_of};
-use best_blocks::{Metric, SharedLink, metric_after};
+use best_blocks::{Metric, Scale, SharedLink, metric_after, need_by};
+use shortest_path::is_sum;
 use std::alloc::Global;
-use te_model::Memory;
+use te_model::{Memory, Network};
 
 /// The greatest weight that is doubled.
 const MAX_DOUBLED: u64 = 1 << 27;
@@ -25,13 +28,30 @@ fn improves(x: u128, y: u128) -> bool
     y < x && x - y > (x - 1) / 64
 }
 
+/// Whether the link is tight in the row: whether a least way ends with it.
+fn is_tight_in(net: &Network, row: &[Option<u64>], weights: &[u64], link: u32) -> bool
+    requires network { IsTrue (is_well_formed net.now) }
+    requires row { length row.now ≡ node_count net.now }
+    requires weights { length weights.now ≡ link_count net.now }
+    requires link { link < link_count net.now }
+    ensures { result ≡ is_tight_in net.now row.now weights.now link }
+{
+    let ends = net.links.as_slice()[link as usize];
+    let (tail, head) = (ends.tail as usize, ends.head as usize);
+    is_sum(row[head], row[tail], weights[link as usize])
+}
+
 /// The changes of one weight of a link, by the metric of its weights, and the need that they are to improve.
 #[derive(Clone, Copy)]
 pub struct Changes<'a> {
     pub problem: Problem<'a>,
     pub shared: &'a SharedLink,
     pub metric: &'a Metric,
+    /// The best scale of the weights, and what they need by it.
+    pub scale: Scale,
     pub need: u128,
+    /// A mark for each node, on the sources of the critical pairs.
+    pub critical: &'a [bool],
 }
 
 /// Other weights, and the link on which they differ.
@@ -102,6 +122,66 @@ impl<'a> Changes<'a> {
         }
     }
 
+    /// Whether the link is tight in the row of a critical source.
+    fn is_critical(&self, link: u32) -> bool
+        requires changes { AreChanges self.now }
+        requires link { link < link_count self.now.problem.net.now }
+        ensures some { result ≡ true → (i : ℕ) × (is_marked self.now.critical.now i ≡ true) × IsTightFrom self.now i link }
+        ensures none { result ≡ false → (i : ℕ) → is_marked self.now.critical.now i ≡ true → IsTightFrom self.now i link → ⊥ }
+    {
+        let (net, weights) = (self.problem.net, self.metric.weights.as_slice());
+        let rows = self.metric.rows.as_slice();
+        for i in 0..self.critical.len() {
+            if self.critical[i] && is_tight_in(net, rows[i].as_slice(), weights, link) {
+                return true;
+            }
+        }
+        false
+    }
+
+    /// The weights with a greater one on the link, if that improves the need. Where no critical pair goes farther, it does not.
+    fn try_greater(
+        &self,
+        alloc: Global,
+        link: u32,
+        weight: u64,
+    ) -> Result<Option<Weighting>, Memory>
+        requires changes { AreChanges self.now }
+        requires link { link < link_count self.now.problem.net.now }
+        requires weight { (slice_index (weights_of self.now) link ≤ weight) × (weight ≤ 2 ^ 28) }
+        ensures some { IfOk result (λ o. IfSome o (IsImprovementIn self.now)) }
+        ensures none { IfOk result (λ o. IfNone o (HelpsNotIn self.now (slice_set (weights_of self.now) link weight))) }
+    {
+        if self.is_critical(link) {
+            self.try_weight(alloc, link, weight)
+        } else {
+            Ok(None)
+        }
+    }
+
+    /// The weights with a smaller one on the link, if that improves the need. No pair goes farther by them, so that they need at
+    /// least what they would by the scale that stands.
+    fn try_smaller(
+        &self,
+        alloc: Global,
+        link: u32,
+        weight: u64,
+    ) -> Result<Option<Weighting>, Memory>
+        requires changes { AreChanges self.now }
+        requires link { link < link_count self.now.problem.net.now }
+        requires weight { (1 ≤ weight) × (weight ≤ slice_index (weights_of self.now) link) }
+        ensures some { IfOk result (λ o. IfSome o (IsImprovementIn self.now)) }
+        ensures none { IfOk result (λ o. IfNone o (HelpsNotIn self.now (slice_set (weights_of self.now) link weight))) }
+    {
+        let weights = self.weights_with(alloc, link, weight)?;
+        let least = need_by(self.problem.net, self.shared.link, &weights, self.scale);
+        if improves(self.need, least) {
+            self.try_weight(alloc, link, weight)
+        } else {
+            Ok(None)
+        }
+    }
+
     /// The weights with that of the link doubled, if that improves the need.
     fn try_double(&self, alloc: Global, link: u32) -> Result<Option<Weighting>, Memory>
         requires changes { AreChanges self.now }
@@ -112,7 +192,7 @@ impl<'a> Changes<'a> {
     {
         let weight = self.metric.weights.as_slice()[link as usize];
         if weight <= MAX_DOUBLED {
-            self.try_weight(alloc, link, 2 * weight)
+            self.try_greater(alloc, link, 2 * weight)
         } else {
             Ok(None)
         }
@@ -128,7 +208,7 @@ impl<'a> Changes<'a> {
     {
         let weight = self.metric.weights.as_slice()[link as usize];
         if weight >= MIN_HALVED {
-            self.try_weight(alloc, link, (weight + 1) / 2)
+            self.try_smaller(alloc, link, (weight + 1) / 2)
         } else {
             Ok(None)
         }

@@ -7,6 +7,7 @@
 #![tactic(auto)]
 
 mod changes;
+mod critical;
 mod form;
 mod law;
 mod making;
@@ -15,6 +16,7 @@ mod polish;
 mod problem;
 mod raising;
 mod response;
+mod restricted;
 mod rounds;
 mod search;
 mod seek;

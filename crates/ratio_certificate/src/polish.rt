@@ -8,9 +8,10 @@ ghost use Rattle.ratio_certificate.specs.Steps.{IsImprovement, IsSettledAt};
 ghost use Rattle.ratio_certificate.specs.Weighting.{AreDoubled, AreWeights};
 
 use crate::changes::{Change, Changes};
+use crate::critical::critical_sources;
 use crate::problem::Problem;
 use crate::weighting::{Weighting, weighting_of};
-use best_blocks::{Metric, SharedLink, metric_of};
+use best_blocks::{Metric, Scale, SharedLink, metric_of};
 use std::alloc::Global;
 use te_model::Memory;
 
@@ -130,7 +131,8 @@ fn find_change(
 ) -> Result<Option<Change>, Memory>
     requires problem { IsProblem problem.now }
     requires shared { IsLinkOf problem.now shared.now }
-    requires weights { AreWeights problem.now.net.now weighting.now.weights }
+    requires weighting { IsWeightingOf problem.now weighting.now }
+    requires link { weighting.now.link ≡ shared.now.link }
     requires from { from ≤ link_count problem.now.net.now }
     ensures some { IfOk result (λ o. IfSome o (λ c. IsImprovement problem.now.net.now problem.now.routing.now.routes problem.now.set.now shared.now.link weighting.now.need c.weighting)) }
     ensures link { IfOk result (λ o. IfSome o (λ c. c.link < link_count problem.now.net.now)) }
@@ -138,11 +140,17 @@ fn find_change(
         IsSettledAt problem.now.net.now problem.now.routing.now.routes problem.now.set.now shared.now.link weighting.now.need weighting.now.weights h)) }
 {
     let metric = metric_by(alloc, problem, shared, weighting)?;
+    let critical = critical_sources(alloc, problem, shared, &metric)?;
     let changes = Changes {
         problem: *problem,
         shared,
         metric: &metric,
+        scale: Scale {
+            a: weighting.a,
+            b: weighting.b,
+        },
         need: weighting.need,
+        critical: &critical,
     };
     changes.find(alloc, from)
 }

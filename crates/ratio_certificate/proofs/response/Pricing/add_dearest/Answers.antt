@@ -1,6 +1,8 @@
 use Rattle.std.proofs.Common.{List, ℕ, get_or, slice_index, arith, ap}
 use Rattle.best_blocks.proofs.Scaled.{metric_scalable}
-use Rattle.ratio_certificate.proofs.Responses.{most_fits, worth_fits}
+use Rattle.kept_ways.proofs.Amounts.{worth_fits}
+use Rattle.ratio_certificate.proofs.Responses.{most_fits}
+use Rattle.ratio_certificate.proofs.KeptAt.{ends_of_entry, entry_at, no_entry}
 use Rattle.ratio_certificate.proofs.Responding.{entry_share}
 use Rattle.ratio_certificate.proofs.response.Pricing.add_dearest.Goals as goal
 use Rattle.ratio_certificate.proofs.response.Pricing.add_dearest.Goals.{then-above-gt0, else-above-gt0}
@@ -51,6 +53,39 @@ overflow_mul-most c =
     (omega (arith, c.from-in-loop-entry-3.ensures, read, near))
     in
     omega (arith, fits)
+
+pub turn-requires-clause-row : goal.turn-requires-clause-row
+turn-requires-clause-row c =
+    let it = c.args.self.now in
+    let items = c.as_slice-entry-items.result.now in
+    let entry =
+    entry_at it.problem.net.now it.problem.routing.now.routes it.problem.set.now it.shared.now items c.loop-entry.entry-index c.requires.pricing.shared c.as_slice-entry-items.ensures c.loop-entry-test.true
+    in
+    (ends_of_entry it.problem.net.now it.problem.routing.now.routes it.problem.set.now it.shared.now it.metric.now c.as_slice-routes.result.now
+    (get_or items c.loop-entry.entry-index no_entry) c.index-routes-p.result c.requires.pricing.problem.routing c.requires.pricing.shared c.requires.pricing.metric entry
+    c.as_slice-routes.ensures c.index-routes-p.is).0
+
+pub narrowest_on-capacity-requires-clause-dst : goal.narrowest_on-capacity-requires-clause-dst
+narrowest_on-capacity-requires-clause-dst c =
+    let it = c.args.self.now in
+    let items = c.as_slice-entry-items.result.now in
+    let entry =
+    entry_at it.problem.net.now it.problem.routing.now.routes it.problem.set.now it.shared.now items c.loop-entry.entry-index c.requires.pricing.shared c.as_slice-entry-items.ensures c.loop-entry-test.true
+    in
+    (ends_of_entry it.problem.net.now it.problem.routing.now.routes it.problem.set.now it.shared.now it.metric.now c.as_slice-routes.result.now
+    (get_or items c.loop-entry.entry-index no_entry) c.index-routes-p.result c.requires.pricing.problem.routing c.requires.pricing.shared c.requires.pricing.metric entry
+    c.as_slice-routes.ensures c.index-routes-p.is).1
+
+pub add_load_along-requires-clause-dst : goal.add_load_along-requires-clause-dst
+add_load_along-requires-clause-dst c =
+    let it = c.args.self.now in
+    let items = c.as_slice-entry-items.result.now in
+    let entry =
+    entry_at it.problem.net.now it.problem.routing.now.routes it.problem.set.now it.shared.now items c.loop-entry.entry-index c.requires.pricing.shared c.as_slice-entry-items.ensures c.loop-entry-test.true
+    in
+    (ends_of_entry it.problem.net.now it.problem.routing.now.routes it.problem.set.now it.shared.now it.metric.now c.as_slice-routes.result.now
+    (get_or items c.loop-entry.entry-index no_entry) c.index-routes-p.result c.requires.pricing.problem.routing c.requires.pricing.shared c.requires.pricing.metric entry
+    c.as_slice-routes.ensures c.index-routes-p.is).1
 
 pub loop-entry-preserved : goal.loop-entry-preserved
 loop-entry-preserved c =
