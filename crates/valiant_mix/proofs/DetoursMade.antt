@@ -13,7 +13,7 @@ use Rattle.shortest_path.specs.Paths.{HasPath}
 use Rattle.routing.proofs.Cutting.{cut_is_path}
 use Rattle.routing.proofs.CutsMade.{cut_exists}
 use Rattle.valiant_mix.specs.Valiant.{AreDetours, IsDetour, IsLeg}
-use Rattle.valiant_mix.proofs.Legs.{leg_chains, leg_or_none}
+use Rattle.valiant_mix.proofs.LeastLegs.{leg_chains, leg_or_none}
 
 -- two legs one after the other are a walk
 pub legs_chain : (net : Network) (s t m : ℕ) (there on : List ℕ) → IsLeg net s m there → IsLeg net m t on → chains net s t (there ++ on) ≡ true

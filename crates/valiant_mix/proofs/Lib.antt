@@ -1,3 +1,4 @@
-pub mod Legs
+pub mod LeastLegs
 pub mod DetoursMade
 pub mod Splits
+pub mod EvenShares

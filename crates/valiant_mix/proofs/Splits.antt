@@ -1,6 +1,6 @@
 -- The detours of a pair with even weights are a split of it.
-use Rattle.std.proofs.Common.{◌≡◌, ℕ, ◌+◌, ◌<◌, ◌≤◌, true, List, [], ◌∷◌, ◌++◌, length, map, slice_index_or, arith, subst, sym}
-use Rattle.std.proofs.lemmas.List.{get_or_read_under}
+use Rattle.std.proofs.Common.{◌≡◌, ℕ, ◌+◌, ◌<◌, ◌≤◌, true, List, [], ◌∷◌, ◌++◌, Option, None, length, map, slice_index_or, arith, subst, sym, ◌∙◌, ap}
+use Rattle.std.proofs.lemmas.List.{get_or_default, get_or_read_under}
 use Rattle.te_model.specs.declared.network.Network.{Network}
 use Rattle.te_model.specs.declared.route.Pair.{Pair}
 use Rattle.te_model.specs.declared.route.Path.{Path}
@@ -10,8 +10,6 @@ use Rattle.te_model.specs.Network.{is_well_formed, node_count}
 use Rattle.te_model.proofs.Choices.{pushed_count, pushed_each}
 use Rattle.te_model.proofs.WellFormed.{few_nodes}
 use Rattle.shortest_path.specs.Paths.{HasPath}
-use Rattle.shortest_path.specs.Ways.{AreWays}
-use Rattle.shortest_path.specs.declared.ways.Ways.{Ways}
 use Rattle.routing.specs.Even.{IsEvenMix, of_weight_one}
 use Rattle.routing.specs.Normal.{with_whole_weight}
 use Rattle.routing.proofs.EvenSplits.{even_few, even_split}
@@ -20,26 +18,40 @@ use Rattle.scheme.specs.Fixed.{IsSplitBy}
 use Rattle.scheme.specs.Reach.{IsPairOf}
 use Rattle.valiant_mix.specs.Laws.{ValiantSplitsExist}
 use Rattle.valiant_mix.specs.Valiant.{AreDetours, IsValiantSplit}
-use Rattle.valiant_mix.specs.Ways.{AreWaysToEach, no_ways}
+use Rattle.valiant_mix.specs.Legs.{AreLegsTo, AreLegsToEach, IsLegOrNone, no_legs}
+use Rattle.valiant_mix.specs.declared.legs.Legs.{Legs}
 use Rattle.valiant_mix.proofs.DetoursMade.{by_the_source, detours_exist, has_detours}
 
 -- the links of the paths, in order
 abbrev pub links_in_order : List Path → List (List ℕ)
 links_in_order paths = map (λ (p : Path). p.links) paths
 
--- the ways to one node more
-pub ways_more : (net : Network) (n : ℕ) (list : List Ways) (ways : Ways) → AreWaysToEach net n list → AreWays net ways → ways.dst ≡ n →
-    AreWaysToEach net (n + 1) (list ++ ways ∷ [])
-ways_more net n list ways are is to = record {
-  count = pushed_count list ways n are.count;
-  each = pushed_each (λ v w. AreWays net w × (w.dst ≡ v)) list ways no_ways n are.count are.each (is, to);
+-- a leg from one node more
+pub legs_to_more : (net : Network) (t n : ℕ) (list : List (Option Path)) (leg : Option Path) → AreLegsTo net t n list → IsLegOrNone net n t leg →
+    AreLegsTo net t (n + 1) (list ++ leg ∷ [])
+legs_to_more net t n list leg are is = record {
+  count = pushed_count list leg n are.count;
+  each = pushed_each (λ s l. IsLegOrNone net s t l) list leg None n are.count are.each is;
 }
 
--- the ways at a place
-pub ways_inside : (net : Network) (n : ℕ) (list : List Ways) (v : ℕ) (ways : Ways) → AreWaysToEach net n list → v < n → ways ≡ slice_index_or list v ways →
-    AreWays net ways × (ways.dst ≡ v)
-ways_inside net n list v ways are below at =
-    subst (λ (w : Ways). AreWays net w × (w.dst ≡ v)) (sym (get_or_read_under list v n ways no_ways at below (sym are.count))) (are.each v below)
+-- the legs to one node more
+pub legs_more : (net : Network) (n : ℕ) (list : List Legs) (legs : Legs) → AreLegsToEach net n list → AreLegsTo net n (node_count net) legs.sources →
+    AreLegsToEach net (n + 1) (list ++ legs ∷ [])
+legs_more net n list legs are is = record {
+  count = pushed_count list legs n are.count;
+  each = pushed_each (λ t l. AreLegsTo net t (node_count net) l.sources) list legs no_legs n are.count are.each is;
+}
+
+-- the leg at a place of the legs at a place
+pub leg_inside : (net : Network) (s t : ℕ) (list : List Legs) (d : Legs) (sources : List (Option Path)) (leg : Option Path) →
+    AreLegsToEach net (node_count net) list → t < node_count net → s < node_count net →
+    sources ≡ (slice_index_or list t d).sources → leg ≡ slice_index_or sources s leg → IsLegOrNone net s t leg
+leg_inside net s t list d sources leg are below inside at is =
+    let legs : slice_index_or list t d ≡ slice_index_or list t no_legs = get_or_default list t d no_legs (omega (arith, below, are.count)) in
+    let to : AreLegsTo net t (node_count net) sources =
+    subst (AreLegsTo net t (node_count net)) (sym (at ∙ ap (λ (l : Legs). l.sources) legs)) (are.each t below)
+    in
+    subst (IsLegOrNone net s t) (sym (get_or_read_under sources s (node_count net) leg None is inside (sym to.count))) (to.each s inside)
 
 -- the detours of a pair that has a path are some
 pub some_detour : (net : Network) (pair : Pair) (paths : List (List ℕ)) → is_well_formed net ≡ true → IsPairOf net pair → HasPath net pair.src pair.dst →

@@ -1,3 +1,4 @@
 pub mod Valiant
-pub mod Ways
+pub mod Legs
+pub mod Even
 pub mod Laws

@@ -7,13 +7,13 @@ ghost use Rattle.scheme.specs.Fault.{IsFault};
 ghost use Rattle.scheme.specs.Fixed.{IsRoutingBy, IsSplitBy};
 ghost use Rattle.scheme.specs.Reach.{AllReached, ArePairsOf, IsPairOf};
 ghost use Rattle.valiant_mix.specs.Valiant.{IsValiantSplit};
-ghost use Rattle.valiant_mix.specs.Ways.{AreWaysToEach};
+ghost use Rattle.valiant_mix.specs.Legs.{AreLegsToEach};
 
-use crate::detours::detours;
-use crate::ways::ways_to_each;
-use routing::{Routing, even_mix};
+use crate::detours::{WalkSpace, detours};
+use crate::even::{EvenParts, even_shares};
+use crate::legs::{Legs, legs_to_each};
+use routing::Routing;
 use scheme::{Oblivious, Scheme, SchemeFault};
-use shortest_path::Ways;
 use std::alloc::Global;
 use te_model::{FORMAT_2, Items, Matrix, Memory, Network, Pair, PairRoutes, Pairs, PathShare};
 
@@ -35,24 +35,26 @@ pub struct ValiantPlan {
 fn split(
     alloc: Global,
     net: &Network,
-    ways: &[Ways],
+    legs: &[Legs],
     pair: Pair,
+    space: &mut WalkSpace,
+    even: &mut EvenParts,
 ) -> Result<Option<Vec<PathShare>>, Memory>
     requires network { IsTrue (is_well_formed net.now) }
-    requires ways { AreWaysToEach net.now (node_count net.now) ways.now }
+    requires legs { AreLegsToEach net.now (node_count net.now) legs.now }
     requires pair { IsPairOf net.now pair }
     ensures none { IfOk result (λ o. IfNone o (HasPath net.now pair.src pair.dst → ⊥)) }
     ensures some { IfOk result (λ o. IfSome o (λ paths. IsSplitBy IsValiantSplit FORMAT_2.nodes net.now (record { pair = pair; paths = paths.items }))) }
 {
-    let paths = detours(alloc, net, ways, pair.src, pair.dst)?;
+    let paths = detours(alloc, net, legs, pair.src, pair.dst, space)?;
     if paths.is_empty() {
         return Ok(None);
     }
-    let merged = even_mix(alloc, paths)?;
+    let merged = even_shares(alloc, paths, even)?;
     Ok(Some(merged))
 }
 
-/// The routing of the pairs, by the least ways to every node.
+/// The routing of the pairs, by the least paths between all nodes.
 fn valiant_routing(alloc: Global, net: &Network, pairs: &Pairs) -> Result<Routing, SchemeFault>
     requires network { IsTrue (is_well_formed net.now) }
     requires pairs { ArePairsOf net.now pairs.now.list }
@@ -61,11 +63,13 @@ fn valiant_routing(alloc: Global, net: &Network, pairs: &Pairs) -> Result<Routin
     ensures fault { IfErr result (IsFault net.now pairs.now.list) }
 {
     let list = pairs.list.as_slice();
-    let ways = ways_to_each(alloc, net)?;
+    let legs = legs_to_each(alloc, net)?;
+    let mut space = WalkSpace::new(alloc);
+    let mut even = EvenParts::new(alloc);
     let mut routes = Vec::new(alloc);
     for p in 0..list.len() {
         let pair = list[p];
-        match split(alloc, net, &ways, pair)? {
+        match split(alloc, net, &legs, pair, &mut space, &mut even)? {
             Some(paths) => {
                 let paths = Items::new(paths);
                 routes.push(PairRoutes { pair, paths })?;

@@ -1,41 +1,70 @@
-use Rattle.std.proofs.Common.{◌≡◌, ◌++◌, ◌∙◌, ℕ, List, Option, Vec, Global, MatchOption, true, ap, sym, subst}
-use Rattle.te_model.specs.Path.{chains}
-use Rattle.routing.specs.Loops.{end_of}
-use Rattle.routing.proofs.Cutting.{chains_to_end}
+use Rattle.std.proofs.Common.{ℕ, List, sym, subst}
+use Rattle.valiant_mix.specs.Legs.{IsLegOrNone}
 use Rattle.valiant_mix.specs.Valiant.{IsLeg}
-use Rattle.valiant_mix.proofs.DetoursMade.{legs_chain}
+use Rattle.valiant_mix.proofs.Splits.{leg_inside}
 use Rattle.valiant_mix.proofs.detours.detour.Goals as goal
 
 pub returns-in-None : goal.returns-in-None
 returns-in-None c =
     let net = c.args.net.now in
     let s = c.args.src in
-    let m = c.args.there.now.dst in
-    let none = subst (λ (o : Option (Vec ℕ Global)). MatchOption o ((links : List ℕ) → IsLeg net s m links → ⊥) (λ v. IsLeg net s m v.items)) c.in-None.is c.in_ok-leg_from.ensures in
+    let m = c.args.middle in
+    let none = subst (IsLegOrNone net s m) c.in-None.is
+    (leg_inside net s m c.args.legs.now c.index-legs-middle.result c.as_slice.result.now c.index-as_slice-src.result c.requires.legs c.requires.middle c.requires.src
+    c.as_slice.ensures c.index-as_slice-src.is)
+    in
     λ path (there, on, first, second, cut). none there first
 
-pub returns-in-None-2 : goal.returns-in-None-2
-returns-in-None-2 c =
+pub returns-in-None-as_slice : goal.returns-in-None-as_slice
+returns-in-None-as_slice c =
     let net = c.args.net.now in
-    let m = c.args.there.now.dst in
-    let t = c.args.on.now.dst in
-    let none = subst (λ (o : Option (Vec ℕ Global)). MatchOption o ((links : List ℕ) → IsLeg net m t links → ⊥) (λ v. IsLeg net m t v.items)) c.in-None-2.is c.in_ok-leg_from-in-Some.ensures in
+    let m = c.args.middle in
+    let t = c.args.dst in
+    let none = subst (IsLegOrNone net m t) c.in-None-as_slice.is
+    (leg_inside net m t c.args.legs.now c.index-legs-dst.result c.as_slice-in-Some.result.now c.index-as_slice-middle.result c.requires.legs c.requires.dst c.requires.middle
+    c.as_slice-in-Some.ensures c.index-as_slice-middle.is)
+    in
     λ path (there, on, first, second, cut). none on second
 
-pub cut_loops-requires : goal.cut_loops-requires
-cut_loops-requires c =
+pub join_legs-requires : goal.join_legs-requires
+join_legs-requires c =
     let net = c.args.net.now in
     let s = c.args.src in
-    let m = c.args.there.now.dst in
-    let t = c.args.on.now.dst in
-    let first : IsLeg net s m c.in-Some.walk.items =
-    subst (λ (o : Option (Vec ℕ Global)). MatchOption o ((links : List ℕ) → IsLeg net s m links → ⊥) (λ v. IsLeg net s m v.items)) c.in-Some.is c.in_ok-leg_from.ensures
+    let m = c.args.middle in
+    let t = c.args.dst in
+    let first : IsLeg net s m c.in-Some.there.links = subst (IsLegOrNone net s m) c.in-Some.is
+    (leg_inside net s m c.args.legs.now c.index-legs-middle.result c.as_slice.result.now c.index-as_slice-src.result c.requires.legs c.requires.middle c.requires.src
+    c.as_slice.ensures c.index-as_slice-src.is)
     in
-    let second : IsLeg net m t c.in-Some-2.rest.items =
-    subst (λ (o : Option (Vec ℕ Global)). MatchOption o ((links : List ℕ) → IsLeg net m t links → ⊥) (λ v. IsLeg net m t v.items)) c.in-Some-2.is c.in_ok-leg_from-in-Some.ensures
+    let second : IsLeg net m t c.in-Some-as_slice.on.links = subst (IsLegOrNone net m t) c.in-Some-as_slice.is
+    (leg_inside net m t c.args.legs.now c.index-legs-dst.result c.as_slice-in-Some.result.now c.index-as_slice-middle.result c.requires.legs c.requires.dst c.requires.middle
+    c.as_slice-in-Some.ensures c.index-as_slice-middle.is)
+    in (
+      m,
+      t,
+      subst (λ (l : List ℕ). IsLeg net s m l) (sym c.as_slice-in-Some-as_slice.ensures) first,
+      subst (λ (l : List ℕ). IsLeg net m t l) (sym c.as_slice-in-Some-as_slice-2.ensures) second,
+    )
+
+pub returns-in_ok-path-in-Some-as_slice : goal.returns-in_ok-path-in-Some-as_slice
+returns-in_ok-path-in-Some-as_slice c =
+    let net = c.args.net.now in
+    let s = c.args.src in
+    let m = c.args.middle in
+    let t = c.args.dst in
+    let there = c.as_slice-in-Some-as_slice.result.now in
+    let on = c.as_slice-in-Some-as_slice-2.result.now in
+    let first : IsLeg net s m c.in-Some.there.links = subst (IsLegOrNone net s m) c.in-Some.is
+    (leg_inside net s m c.args.legs.now c.index-legs-middle.result c.as_slice.result.now c.index-as_slice-src.result c.requires.legs c.requires.middle c.requires.src
+    c.as_slice.ensures c.index-as_slice-src.is)
     in
-    let walk : c.deref-in-Some-2.result.now ≡ c.in-Some.walk.items ++ c.in-Some-2.rest.items =
-    c.deref-in-Some-2.ensures.value ∙ (c.in_ok-extend_from_slice-in-Some-2.ensures.items ∙ ap (λ (l : List ℕ). c.in-Some.walk.items ++ l) c.deref.ensures.value)
-    in
-    subst (λ (l : List ℕ). chains net s (end_of net s l) l ≡ true) (sym walk)
-    (chains_to_end net s t (c.in-Some.walk.items ++ c.in-Some-2.rest.items) (legs_chain net s t m c.in-Some.walk.items c.in-Some-2.rest.items first second))
+    let second : IsLeg net m t c.in-Some-as_slice.on.links = subst (IsLegOrNone net m t) c.in-Some-as_slice.is
+    (leg_inside net m t c.args.legs.now c.index-legs-dst.result c.as_slice-in-Some.result.now c.index-as_slice-middle.result c.requires.legs c.requires.dst c.requires.middle
+    c.as_slice-in-Some.ensures c.index-as_slice-middle.is)
+    in (
+      there,
+      on,
+      subst (λ (l : List ℕ). IsLeg net s m l) (sym c.as_slice-in-Some-as_slice.ensures) first,
+      subst (λ (l : List ℕ). IsLeg net m t l) (sym c.as_slice-in-Some-as_slice-2.ensures) second,
+      c.in_ok-path-in-Some-as_slice.ensures,
+    )

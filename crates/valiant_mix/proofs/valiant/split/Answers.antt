@@ -14,8 +14,8 @@ returns-then-is_empty-clause-none c = λ has.
     let size = paths.ok.0 in
     omega (arith, none, some, count, size)
 
-pub even_mix-requires-clause-few : goal.even_mix-requires-clause-few
-even_mix-requires-clause-few c =
+pub even_shares-requires-clause-few : goal.even_shares-requires-clause-few
+even_shares-requires-clause-few c =
     let paths = c.in_ok-paths.paths in
     let few = few_detours c.args.net.now c.args.pair.src c.args.pair.dst (links_in_order paths.items) c.requires.network c.in_ok-paths.ensures in
     let count = length-map paths.items (λ (p : Path). p.links) in
