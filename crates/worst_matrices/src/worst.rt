@@ -18,7 +18,10 @@ use te_model::{Block, DemandSet, Memory, Network};
 
 /// How many stages of sweeps there are whose matrices are not looked at: they bring the weights near. The steps of each stage are half
 /// as great as those of the one before.
-const FIRST_STAGES: usize = 4;
+const FIRST_STAGES: usize = 2;
+
+/// The parts of a step in the first of them. Greater steps make some weights so small that the later ones do not bring them back.
+const FIRST_PARTS: u64 = 4;
 
 /// How many stages there are whose means are looked at.
 const LAST_STAGES: usize = 4;
@@ -96,7 +99,7 @@ fn make_first_stages(
     requires search { IsWeightSearch usage.now search.old }
     ensures { OnOk result (IsWeightSearch usage.now search.new) }
 {
-    let mut parts = 1;
+    let mut parts = FIRST_PARTS;
     for _ in 0..FIRST_STAGES {
         make_stage(alloc, usage, marks, search, parts)?;
         parts = (2 * parts).min(MAX_PARTS);
