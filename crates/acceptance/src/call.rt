@@ -381,14 +381,15 @@ fn leaves(rt: &impl Abort, alloc: Global, call: &Call<'_>) -> Result<(), Fail> {
     Ok(())
 }
 
-fn says_each_way(rt: &impl Abort, alloc: Global, call: &Call<'_>) -> Result<(), Fail> {
+/// Makes the call over files that are told and on record, and again over files that are given byte by byte.
+pub fn says_each_way(rt: &impl Abort, alloc: Global, call: &Call<'_>) -> Result<(), Fail> {
     leaves(rt, alloc, call)?;
     let (out, err) = (call.out, call.err);
     assert!(rt; leaves_over_told(alloc, call, 1)?, "{out}{err}");
     Ok(())
 }
 
-/// Makes the call of each command and row, and again over files that are given byte by byte.
+/// Makes the call of each command and row, each way.
 pub fn all_say(
     rt: &impl Abort,
     alloc: Global,

@@ -1,13 +1,13 @@
-//! A few calls of each command over files that are told, that are on record, and that come byte by byte. The tables of all
-//! calls are data, `tools/lab/calls.py`, on which the built program is run.
+//! What calls say of files besides those of `CALLS`, over files that are told, that are on record, and that come byte by byte. The
+//! tables of all calls are data, `tools/lab/calls.py`, on which the built program is run.
 use crate::call::{
     BOUND_HOSE, CHECK, CHECK_HOSE, CHECK_NETWORK, CHECK_RATES, CHECK_WITNESS, CONVERT, Command,
-    LINK_BOUNDS, LINKS, PAIRS, PATHS, PROTECT, PUBLISH, REPRICE, RUN, Row, UPDATE, all_say,
+    LINK_BOUNDS, PATHS, PROTECT, PUBLISH, REPRICE, RUN, Row, UPDATE, all_say,
 };
 use crate::texts::{
-    BOUNDS, DEMAND, ENVELOPE, FAILURE, HOSE, LEADING_ZERO, LINE, LINK, NO_DEMANDS, PLAN, RATES,
-    SMALL_BOX, SMALLEST, SMALLEST_IN_SECOND, SMALLEST_WITH_LESS, SPF, TWELVE, TWICE_A_NAME,
-    UNENDED_WITNESS, WAYS, WITNESS, WITNESS_OF_MORE, WITNESS_OVER_ZERO,
+    DEMAND, ENVELOPE, FAILURE, HOSE, LEADING_ZERO, LINE, LINK, NO_DEMANDS, PLAN, RATES, SMALL_BOX,
+    SMALLEST, SMALLEST_WITH_LESS, SPF, TWELVE, TWICE_A_NAME, UNENDED_WITNESS, WAYS, WITNESS,
+    WITNESS_OVER_ZERO,
 };
 use std::test::Fail;
 
@@ -25,23 +25,13 @@ const NO_FORM: Command<'static> = Command {
 
 /// Certificates.
 const JUDGED: &[(Command<'static>, Row<'static>)] = &[
-    (CHECK, (&[&[SMALLEST]], 1, 0, "yes ratio 1000000 set all\n")),
-    (
-        CHECK,
-        (&[SMALLEST_WITH_LESS], 1, 1, "no link 0 rule I4 place 0\n"),
-    ),
     (
         CHECK,
         (&[&[SMALL_BOX]], 1, 0, "yes ratio 1000000 set box\n"),
     ),
-    (CHECK, (&[TWICE_A_NAME], 1, 3, "refused: c: rule V1 at 1\n")),
     (
         CHECK,
         (&[LEADING_ZERO], 1, 3, "refused: c: shape at line 11\n"),
-    ),
-    (
-        CHECK_NETWORK,
-        (&[&[SMALLEST], &[LINE]], 2, 1, "no network\n"),
     ),
     (CHECK_NETWORK, (&[&[SMALLEST]], 1, 4, "fault: read\n")),
     // One file for both words is read twice, and is no topology.
@@ -49,7 +39,6 @@ const JUDGED: &[(Command<'static>, Row<'static>)] = &[
         CHECK_TWICE,
         (&[&[SMALLEST], &[SMALLEST]], 2, 3, "refused: c: header\n"),
     ),
-    (CONVERT, (&[&[SMALLEST]], 1, 0, SMALLEST_IN_SECOND)),
     (
         CONVERT,
         (&[TWICE_A_NAME], 1, 3, "refused: c: rule V1 at 1\n"),
@@ -70,21 +59,11 @@ const STEEP: &[&str] = &[
 
 /// Needs of links, and other capacities. The ratio of the certificate plays no part.
 const PRICED: &[(Command<'static>, Row<'static>)] = &[
-    (
-        LINK_BOUNDS,
-        (
-            &[SMALLEST_WITH_LESS],
-            1,
-            0,
-            "link,source,target,capacity,need\n0,a,b,10,1000000\n",
-        ),
-    ),
     (LINK_BOUNDS, (&[STEEP], 1, 1, "no link 0 rule I1 place 1\n")),
     (
         LINK_BOUNDS,
         (&[TWICE_A_NAME], 1, 3, "refused: c: rule V1 at 1\n"),
     ),
-    (REPRICE, (&[SMALLEST_WITH_LESS, &[LINK]], 2, 0, SMALLEST)),
     (
         REPRICE,
         (&[STEEP, &[LINK]], 2, 1, "no link 0 rule I1 place 1\n"),
@@ -105,20 +84,7 @@ fn capacities_are_taken(rt: HostRuntime) -> Result<(), Fail> {
 const WITNESSES: &[(Command<'static>, Row<'static>)] = &[
     (
         CHECK_WITNESS,
-        (&[&[SMALLEST], WITNESS], 2, 0, "yes bound 1000000\n"),
-    ),
-    (
-        CHECK_WITNESS,
         (&[SMALLEST_WITH_LESS, WITNESS], 2, 0, "yes bound 1000000\n"),
-    ),
-    (
-        CHECK_WITNESS,
-        (
-            &[&[SMALLEST_IN_SECOND], WITNESS_OF_MORE],
-            2,
-            1,
-            "no rule J2 place 0\n",
-        ),
     ),
     (
         CHECK_WITNESS,
@@ -151,9 +117,6 @@ fn witnesses_are_judged(rt: HostRuntime) -> Result<(), Fail> {
     all_say(&rt, rt.alloc(), WITNESSES)
 }
 
-/// A plan of an update that moves nothing.
-const STAYS: &str = "yates-update 1\nsteps 1\npaths 1\n0 1000000 1000000 1 0\nend\n";
-
 /// A certificate of a link of another cost, without pairs.
 const OTHER_COST: &[&str] = &[
     "yates-ratio 1\nnodes 2\na\nb\nlinks 1\n0 1 10 2\npairs 0\nset all\nratio 0\nblocks 0\nend\n",
@@ -161,15 +124,6 @@ const OTHER_COST: &[&str] = &[
 
 /// Updates.
 const UPDATES: &[(Command<'static>, Row<'static>)] = &[
-    (
-        UPDATE,
-        (
-            &[&[SMALLEST], &[SMALLEST_IN_SECOND], &[DEMAND]],
-            3,
-            0,
-            STAYS,
-        ),
-    ),
     (
         UPDATE,
         (
@@ -235,7 +189,6 @@ fn updates_are_planned(rt: HostRuntime) -> Result<(), Fail> {
 
 /// Rates. The inequalities of the certificate are not tried.
 const PROTECTED: &[(Command<'static>, Row<'static>)] = &[
-    (PROTECT, (&[SMALLEST_WITH_LESS, &[DEMAND]], 2, 0, RATES)),
     (PROTECT, (&[&[SMALLEST], &[NO_DEMANDS]], 2, 1, "no pairs\n")),
     (
         PROTECT,
@@ -261,15 +214,6 @@ const RATES_OF_NINE: &[&str] = &["yates-rates 1\nfailures 9\n", "0 1\nend\n"];
 
 /// Rates that are judged.
 const RATED: &[(Command<'static>, Row<'static>)] = &[
-    (
-        CHECK_RATES,
-        (
-            &[&[SMALLEST_IN_SECOND], &[DEMAND], &[RATES]],
-            3,
-            0,
-            "yes failures 0\n",
-        ),
-    ),
     (
         CHECK_RATES,
         (
@@ -323,7 +267,6 @@ const HOSE_OF_MORE: &[&str] = &[
 
 /// Hoses. The inequalities of the certificate are not tried.
 const HOSES: &[(Command<'static>, Row<'static>)] = &[
-    (BOUND_HOSE, (&[SMALLEST_WITH_LESS, &[BOUNDS]], 2, 0, HOSE)),
     (
         BOUND_HOSE,
         (
@@ -334,15 +277,6 @@ const HOSES: &[(Command<'static>, Row<'static>)] = &[
         ),
     ),
     (BOUND_HOSE, (&[&[SMALLEST]], 1, 4, "fault: read\n")),
-    (
-        CHECK_HOSE,
-        (
-            &[&[SMALLEST_IN_SECOND], &[HOSE]],
-            2,
-            0,
-            "yes bound 1000000\n",
-        ),
-    ),
     (
         CHECK_HOSE,
         (
@@ -460,41 +394,8 @@ const NO_STEP_FORM: Command<'static> = Command {
     ..PATHS
 };
 
-/// The second step of a plan, in which its least path asks too much of a link.
+/// Words of a breakdown.
 const BREAKDOWNS: &[(Command<'static>, Row<'static>)] = &[
-    (
-        LINKS,
-        (
-            &[&[PLAN], &[WAYS], &[TWELVE], &[FAILURE]],
-            4,
-            0,
-            "scheme,link,source,target,capacity,failed,asked,carried,asked_parts,carried_parts\n\
-         spf,0,s,t,10,no,12,10,1200000,1000000\n\
-         spf,1,s,x,10,yes,0,0,0,0\n\
-         spf,2,x,t,10,no,0,0,0,0\n\
-         spf,3,s,y,3,no,0,0,0,0\n\
-         spf,4,y,x,3,no,0,0,0,0\n",
-        ),
-    ),
-    (
-        PAIRS,
-        (
-            &[&[PLAN], &[WAYS], &[TWELVE], &[FAILURE]],
-            4,
-            0,
-            "scheme,source,target,offered,delivered,lost_full,lost_failed,lost_no_path,paths,cost,least_cost\n\
-         spf,s,t,12,10,2,0,0,1,1000000,1000000\n",
-        ),
-    ),
-    (
-        PATHS,
-        (
-            &[&[PLAN], &[WAYS], &[TWELVE], &[FAILURE]],
-            4,
-            0,
-            "scheme,source,target,weight,links\nspf,s,t,1000000,0\n",
-        ),
-    ),
     // A step that the series does not have is refused before the failures are read.
     (
         STEP_AFTER_LAST,

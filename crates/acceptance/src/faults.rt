@@ -3,175 +3,14 @@
 ghost use Rattle.std.specs.Prelude.{◌≤◌};
 
 use crate::call::{
-    ATTACK, BOUND_HOSE, CHALLENGE, CHECK, CHECK_HOSE, CHECK_NETWORK, CHECK_RATES, CHECK_WITNESS,
-    CONVERT, Call, Command, GENERATE, LINK_BOUNDS, LINKS, Outcome, PAIRS, PATHS, PROTECT, PUBLISH,
-    REPRICE, RUN, Row, SIMULATE, TIGHTEN, UPDATE, depot_for, is_due, large_out, outcome_of, says,
+    Call, Command, GENERATE, Outcome, Row, depot_for, is_due, large_out, outcome_of, says,
+    says_each_way,
 };
-use crate::texts::{
-    BOUNDS, DEMAND, FAILURE, HOSE, LINE, LINK, PLAN, RATES, SMALLEST, SMALLEST_IN_SECOND,
-    SMALLEST_WITH_LESS, SPF, TWELVE, TWICE_A_NAME, WAYS, WITNESS, WITNESS_OF_MORE,
-};
+use crate::calls::CALLS;
 use std::alloc::Global;
 use std::process::Abort;
 use std::test::Fail;
 use te_ports::{Entry, MemDepot, MemSink, RecordDepot};
-
-const NO_WORDS: Command<'static> = Command {
-    words: &[],
-    names: &[],
-    publishes: false,
-};
-
-const WITNESS_TEXT: &str =
-    "yates-witness 1\nbound 1000000\nscale 1 1\ndemand 1000000\n1\n1000000 1 0\nend\n";
-
-/// Each command that reads files once at least, and each status but those of failures.
-const CALLS: &[(Command<'static>, Row<'static>)] = &[
-    (CHECK, (&[&[SMALLEST]], 1, 0, "yes ratio 1000000 set all\n")),
-    (
-        CHECK,
-        (&[SMALLEST_WITH_LESS], 1, 1, "no link 0 rule I4 place 0\n"),
-    ),
-    (CHECK, (&[TWICE_A_NAME], 1, 3, "refused: c: rule V1 at 1\n")),
-    (
-        CHECK_NETWORK,
-        (&[&[SMALLEST], &[LINE]], 2, 1, "no network\n"),
-    ),
-    (
-        CHECK_WITNESS,
-        (&[&[SMALLEST], WITNESS], 2, 0, "yes bound 1000000\n"),
-    ),
-    (
-        CHECK_WITNESS,
-        (
-            &[&[SMALLEST], WITNESS_OF_MORE],
-            2,
-            1,
-            "no rule J2 place 0\n",
-        ),
-    ),
-    (ATTACK, (&[&[SMALLEST]], 1, 0, WITNESS_TEXT)),
-    (CHALLENGE, (&[&[SMALLEST]], 1, 0, WITNESS_TEXT)),
-    (CONVERT, (&[&[SMALLEST]], 1, 0, SMALLEST_IN_SECOND)),
-    (
-        LINK_BOUNDS,
-        (
-            &[&[SMALLEST]],
-            1,
-            0,
-            "link,source,target,capacity,need\n0,a,b,10,1000000\n",
-        ),
-    ),
-    (REPRICE, (&[SMALLEST_WITH_LESS, &[LINK]], 2, 0, SMALLEST)),
-    (
-        TIGHTEN,
-        (
-            &[SMALLEST_WITH_LESS],
-            1,
-            0,
-            "1000000 1 0\nset all\nratio 1000000\nblocks 1\n0 ",
-        ),
-    ),
-    (
-        UPDATE,
-        (
-            &[&[SMALLEST], &[SMALLEST], &[DEMAND]],
-            3,
-            0,
-            "yates-update 1\nsteps 1\npaths 1\n0 1000000 1000000 1 0\nend\n",
-        ),
-    ),
-    (PROTECT, (&[&[SMALLEST], &[DEMAND]], 2, 0, RATES)),
-    (
-        CHECK_RATES,
-        (
-            &[&[SMALLEST], &[DEMAND], &[RATES]],
-            3,
-            0,
-            "yes failures 0\n",
-        ),
-    ),
-    (BOUND_HOSE, (&[&[SMALLEST], &[BOUNDS]], 2, 0, HOSE)),
-    (
-        CHECK_HOSE,
-        (&[&[SMALLEST], &[HOSE]], 2, 0, "yes bound 1000000\n"),
-    ),
-    (
-        PUBLISH,
-        (
-            &[&[SPF], &[LINK], &[DEMAND]],
-            3,
-            0,
-            "yates-ratio 1\nnodes 2\na\nb\nlinks 1\n0 1 10 1\npairs 1\n0 1 1\n1000000 1 0\nset all\nratio 1000000\nblocks 1\n",
-        ),
-    ),
-    (
-        PUBLISH,
-        (
-            &[&[SPF], &[LINE], &["step,source,target,demand\n0,c,a,1\n"]],
-            3,
-            7,
-            "no path: c a\n",
-        ),
-    ),
-    (
-        RUN,
-        (
-            &[&[PLAN], &[WAYS], &[TWELVE], &[FAILURE]],
-            4,
-            0,
-            "scheme,step,offered,delivered,lost_full,lost_failed,lost_no_path,peak,parts,low\n\
-         spf,0,12,10,2,0,0,1000000,1200000,-\n\
-         spf,1,12,10,2,0,0,1000000,1200000,-\n\
-         spf,total,24,20,4,0,0,1000000,1200000,-\n",
-        ),
-    ),
-    (
-        LINKS,
-        (
-            &[&[PLAN], &[WAYS], &[TWELVE], &[FAILURE]],
-            4,
-            0,
-            "scheme,link,source,target,capacity,failed,asked,carried,asked_parts,carried_parts\n\
-         spf,0,s,t,10,no,12,10,1200000,1000000\n\
-         spf,1,s,x,10,yes,0,0,0,0\n\
-         spf,2,x,t,10,no,0,0,0,0\n\
-         spf,3,s,y,3,no,0,0,0,0\n\
-         spf,4,y,x,3,no,0,0,0,0\n",
-        ),
-    ),
-    (
-        PAIRS,
-        (
-            &[&[PLAN], &[WAYS], &[TWELVE], &[FAILURE]],
-            4,
-            0,
-            "scheme,source,target,offered,delivered,lost_full,lost_failed,lost_no_path,paths,cost,least_cost\n\
-         spf,s,t,12,10,2,0,0,1,1000000,1000000\n",
-        ),
-    ),
-    (
-        PATHS,
-        (
-            &[&[PLAN], &[WAYS], &[TWELVE], &[FAILURE]],
-            4,
-            0,
-            "scheme,source,target,weight,links\nspf,s,t,1000000,0\n",
-        ),
-    ),
-    (
-        SIMULATE,
-        (
-            &[&[SMALLEST], &[SPF], &[LINK], &[DEMAND]],
-            4,
-            0,
-            "scheme,step,offered,delivered,lost_full,lost_failed,lost_no_path,peak,parts,low\n\
-         certificate,0,1,1,0,0,0,100000,100000,-\n\
-         certificate,total,1,1,0,0,0,100000,100000,-\n",
-        ),
-    ),
-    (NO_WORDS, (&[], 0, 2, "usage\n")),
-];
 
 /// The files of the call, in pieces of so many bytes, and a record of their reads.
 fn recorded(alloc: Global, call: &Call<'_>, piece: usize) -> Result<RecordDepot<MemDepot>, Fail>
@@ -347,16 +186,21 @@ fn writes_fail(rt: &impl Abort, alloc: Global, call: &Call<'_>) -> Result<(), Fa
     Ok(())
 }
 
+/// The call leaves what it has to over files of each kind, and where a read of pieces of any of these sizes fails.
+fn says_and_reads_fail(rt: &impl Abort, alloc: Global, call: &Call<'_>) -> Result<(), Fail> {
+    says_each_way(rt, alloc, call)?;
+    reads_fail(rt, alloc, call, 1)?;
+    reads_fail(rt, alloc, call, 7)?;
+    reads_fail(rt, alloc, call, 64)
+}
+
 fn all_reads_fail(
     rt: &impl Abort,
     alloc: Global,
     calls: &[(Command<'_>, Row<'_>)],
-    piece: usize,
-) -> Result<(), Fail>
-    requires { 1 ≤ piece }
-{
+) -> Result<(), Fail> {
     for (command, row) in calls {
-        reads_fail(rt, alloc, &says(*command, *row), piece)?;
+        says_and_reads_fail(rt, alloc, &says(*command, *row))?;
     }
     Ok(())
 }
@@ -381,19 +225,10 @@ fn summary_is_cut(alloc: Global) -> Result<bool, Fail> {
     Ok(is_summary && is_cut_everywhere(alloc, &call, text)?)
 }
 
+// The table costs as much again in each test that takes it.
 #[test]
-fn each_read_of_a_byte_fails_once(rt: HostRuntime) -> Result<(), Fail> {
-    all_reads_fail(&rt, rt.alloc(), CALLS, 1)
-}
-
-#[test]
-fn each_read_of_7_bytes_fails_once(rt: HostRuntime) -> Result<(), Fail> {
-    all_reads_fail(&rt, rt.alloc(), CALLS, 7)
-}
-
-#[test]
-fn each_read_of_64_bytes_fails_once(rt: HostRuntime) -> Result<(), Fail> {
-    all_reads_fail(&rt, rt.alloc(), CALLS, 64)
+fn each_read_fails_once(rt: HostRuntime) -> Result<(), Fail> {
+    all_reads_fail(&rt, rt.alloc(), CALLS)
 }
 
 #[test]

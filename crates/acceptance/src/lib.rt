@@ -6,6 +6,8 @@ mod arguments;
 #[cfg(test)]
 mod call;
 #[cfg(test)]
+mod calls;
+#[cfg(test)]
 mod changes;
 #[cfg(test)]
 mod commands;

@@ -5,9 +5,11 @@ use Rattle.std.proofs.lemmas.Bool.{cases_lt}
 use Rattle.std.proofs.lemmas.Bool.Decides.{nat_tests}
 use Rattle.std.proofs.Math.Nat.{mul-le-mul_left}
 use Rattle.te_model.specs.Counting.{sum_below}
+use Rattle.te_model.proofs.Conditionals.{if_equal}
 use Rattle.te_model.proofs.Sums.{sum_below-le}
 use Rattle.te_model.proofs.Quotients.{below_greatest, greatest_below-least}
 use Rattle.te_model.proofs.Searches.{first_or_all}
+use Rattle.cover_search.proofs.Values.{sum_falls}
 use Rattle.hose_bound.specs.Cover.{CoverProblem, Covers, cover_sum, greatest_share, lowered_at, IsTightCover, TightCoversExist}
 
 -- no number is above a bound of the shares
@@ -24,7 +26,7 @@ record KeepsCover (x : CoverProblem) (tails heads : ℕ → ℕ) : Type 0 where
 lowered_le : (f : ℕ → ℕ) (i k : ℕ) → lowered_at f i k ≤ f k
 lowered_le f i k = grind (arith, nat_tests)
 
-lowered_same : (f : ℕ → ℕ) (i : ℕ) → lowered_at f i i ≡ f i - 1
+pub lowered_same : (f : ℕ → ℕ) (i : ℕ) → lowered_at f i i ≡ f i - 1
 lowered_same f i = grind (arith, nat_tests)
 
 -- smaller numbers come to no more
@@ -72,18 +74,6 @@ lower_or_tight_head x t h i = elim (cases_lt 0 (h i)) [
   ]
 ]
 
-sum_falls : (n p : ℕ) (f g : ℕ → ℕ) → p < n → ((k : ℕ) → f k ≤ g k) → f p < g p → sum_below n f < sum_below n g
-sum_falls zero p f g below each less = absurd (omega (arith, below))
-sum_falls (suc n) p f g below each less =
-    elim (cases_lt p n) [
-      | inl lt ↦ omega (arith, sum_falls n p f g lt each less, each n)
-      | inr ge ↦
-          let e : n ≡ p = omega (arith, below, ge) in
-          let front = sum_below-le n f g (λ k k_in. each k) in
-          let last : f n < g n = subst (λ k. f k < g k) (sym e) less in
-          omega (arith, front, last)
-    ]
-
 lowered_falls : (n i : ℕ) (f : ℕ → ℕ) → i < n → 1 ≤ f i → sum_below n (lowered_at f i) < sum_below n f
 lowered_falls n i f below some =
     let is = lowered_same f i in
@@ -115,14 +105,11 @@ shrink x (suc fuel) t h short keeps =
           ]
     ]
 
-picked : (j i x : ℕ) → j ≡ i → x ≤ (if j == i then x else 0)
-picked j i x e = grind (arith, nat_tests)
-
 -- the greatest shares of the ends cover
 pub end_covers : (x : CoverProblem) (end' : ℕ → ℕ) (p : ℕ) → p < x.pairs → x.share p ≤ greatest_share x end' (end' p)
 end_covers x end' p below =
     let term = below_greatest x.pairs (λ q. if end' q == end' p then x.share q else 0) p below in
-    let at = picked (end' p) (end' p) (x.share p) refl in
+    let at = if_equal (end' p) (end' p) (x.share p) refl in
     omega (arith, term, at)
 
 one_at_most : (b : Bool) (s bound : ℕ) → s ≤ bound → (if b then s else 0) ≤ bound

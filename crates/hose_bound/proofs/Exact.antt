@@ -25,7 +25,8 @@ use Rattle.hose_bound.specs.Hose.{IsInHose}
 use Rattle.hose_bound.specs.Making.{IsAttained, shares_to_cover}
 use Rattle.hose_bound.proofs.Bounding.{load_within}
 use Rattle.hose_bound.proofs.Covering.{sum_less}
-use Rattle.hose_bound.proofs.Simple.{destinations_cover, heads_fall, listed_cover, no_share, sources_cover, tails_within, tight_where, told_at}
+use Rattle.routing.proofs.Sharing.{no_share}
+use Rattle.hose_bound.proofs.Simple.{destinations_cover, heads_fall, listed_cover, sources_cover, tails_within, tight_where, told_at}
 
 one_times : (b : Bool) (x : ℕ) → (if b then x else 0) ≡ (if b then 1 else 0) * x
 one_times true x = omega arith

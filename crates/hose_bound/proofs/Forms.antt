@@ -12,6 +12,7 @@ use Rattle.te_model.proofs.Tests.{and_true, and_three}
 use Rattle.number_tables.specs.declared.line.NumLine.{NumLine}
 use Rattle.number_tables.specs.Due.{Due, AreDue, AreFile, CanEnd}
 use Rattle.number_tables.specs.Table.{AreLines}
+use Rattle.ratio_witness.proofs.TakenLines.{are_words_of}
 use Rattle.hose_bound.specs.declared.hose.Hose.{Hose}
 use Rattle.hose_bound.specs.declared.hose.HoseBlock.{HoseBlock}
 use Rattle.hose_bound.specs.declared.hose.HoseCert.{HoseCert}
@@ -24,10 +25,6 @@ pub words_are : (ns : List ℕ) → are_words ns ≡ true → AreWords ns
 words_are [] all = tt
 words_are (n ∷ ns) all = let both = and_true (is_word n) (are_words ns) all in (ltb-true _ _ both.0, words_are ns both.1)
 
-pub are_words_test : (ns : List ℕ) → AreWords ns → are_words ns ≡ true
-are_words_test [] all = refl
-are_words_test (n ∷ ns) all = and_from (is_word n) (are_words ns) (lt-ltb _ _ all.0) (are_words_test ns all.1)
-
 pub row_count : (n : ℕ) (ns : List ℕ) → is_row_of n ns ≡ true → has_count n ns ≡ true
 row_count n ns is = (and_true (length ns == n) (are_words ns) is).0
 
@@ -35,7 +32,7 @@ pub row_words : (n : ℕ) (ns : List ℕ) → is_row_of n ns ≡ true → AreWor
 row_words n ns is = words_are ns (and_true (length ns == n) (are_words ns) is).1
 
 pub row_from : (n : ℕ) (ns : List ℕ) → has_count n ns ≡ true → AreWords ns → is_row_of n ns ≡ true
-row_from n ns count all = and_from (length ns == n) (are_words ns) count (are_words_test ns all)
+row_from n ns count all = and_from (length ns == n) (are_words ns) count (are_words_of ns all)
 
 -- a line of one number
 pub single : (ns : List ℕ) → has_count 1 ns ≡ true → ns ≡ slice_index ns 0 ∷ []

@@ -17,7 +17,7 @@ use Rattle.hose_bound.specs.declared.hose.HoseBlock.{HoseBlock}
 use Rattle.hose_bound.specs.Cover.{IsTightCover}
 use Rattle.hose_bound.specs.Covering.{IsMadeBlock}
 use Rattle.hose_bound.specs.Making.{IsUsed, shares_to_cover}
-use Rattle.hose_bound.proofs.Simple.{no_share}
+use Rattle.routing.proofs.Sharing.{no_share}
 
 small_are_words : (numbers : List ℕ) → ((i : ℕ) → slice_index numbers i ≤ SHARE_UNIT) → are_words numbers ≡ true
 small_are_words [] small = refl

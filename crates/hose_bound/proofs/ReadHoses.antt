@@ -1,5 +1,5 @@
 -- What reading a file of a hose, or of a hose certificate, answers.
-use Rattle.std.proofs.Common.{◌≡◌, ◌∙◌, ℕ, ◌^◌, ◌<◌, List, [], ◌∷◌, ◌++◌, length, map, nat_le, slice_index, Some, None, Ok, Err, arith, refl, ap, sym, subst, inl, inr, append-nil}
+use Rattle.std.proofs.Common.{◌≡◌, ◌∙◌, ℕ, ◌^◌, ◌<◌, List, [], ◌∷◌, ◌++◌, length, map, nat_le, slice_index, Some, None, Result, Ok, Err, arith, refl, ap, sym, subst, inl, inr, append-nil}
 use Rattle.std.specs.Prelude.{All, IsTrue, codes}
 use Rattle.std.specs.List.{flat_map}
 use Rattle.std.proofs.lemmas.Bool.{lt-ltb, leb-true}
@@ -14,7 +14,7 @@ use Rattle.number_tables.specs.declared.fault.TableFault.TheVariants as tables
 use Rattle.number_tables.specs.declared.line.NumLine.{NumLine}
 use Rattle.number_tables.specs.Due.{Due, line, first_undue, has_count, word_line}
 use Rattle.number_tables.specs.Table.{AreLines, table_text}
-use Rattle.number_tables.specs.TakingDue.{TakesDue, BeginsWithEnd, BeginsWithNumber, LeavesAtEnd, LeavesAtLine}
+use Rattle.number_tables.specs.TakingDue.{IsBefore, TakesDue, next_line, BeginsWithEnd, BeginsWithNumber, LeavesAtEnd, LeavesAtLine}
 use Rattle.hose_bound.specs.declared.fault.HoseFault.TheVariants as faults
 use Rattle.hose_bound.specs.declared.hose.Hose.{Hose}
 use Rattle.hose_bound.specs.declared.hose.HoseBlock.{HoseBlock}
@@ -25,7 +25,7 @@ use Rattle.hose_bound.specs.Reading.{GivesHose, GivesHoseCert, SpellsHoseOrFault
 use Rattle.hose_bound.specs.Rules.{IsValidHose, IsValidHoseCert, hose_fault, hose_cert_fault}
 use Rattle.hose_bound.proofs.Forms.{files_have_forms}
 use Rattle.hose_bound.proofs.Kept.{cert_whole, kept_has_same_fault}
-use Rattle.hose_bound.proofs.Taking.{StandsBehind, goes_line, goes_nowhere, stands_on, stops}
+use Rattle.hose_bound.proofs.Taking.{StandsBehind, goes_line, goes_nowhere, stands_first, stands_on, stops}
 use Rattle.hose_bound.proofs.TakenLines.{blocks_on, hose_on}
 
 -- ---- a hose
@@ -73,75 +73,149 @@ abbrev count_line : ℕ → NumLine
 count_line count = word_line (codes "blocks") (count ∷ [])
 
 module _ (nodes : ℕ) (bytes : List ℕ) where
-  abbrev pub InCert : Due → List NumLine → DueLines → List NumLine → Type 0
-  InCert rest taken now more = StandsBehind cert_first (hose_cert_due nodes) bytes rest taken now more
+  -- the lines that are left of the file, behind these
+  pub record Left (rest : Due) (taken : List NumLine) (now : DueLines) : Type 0 where
+    pub more : List NumLine
+    pub at : StandsBehind cert_first (hose_cert_due nodes) bytes rest taken now more
+
+  -- what was taken so far, and that lines are left behind it
+  pub record BehindHose (h : Hose) (now : DueLines) : Type 0 where
+    pub shaped : IsTrue (is_shaped_hose nodes h)
+    pub left : Left (bound_then_blocks nodes) (hose_lines h) now
+
+  pub record BehindBound (h : Hose) (bound : ℕ) (now : DueLines) : Type 0 where
+    pub shaped : IsTrue (is_shaped_hose nodes h)
+    pub left : Left (count_due nodes) (hose_lines h ++ bound_line bound ∷ []) now
+
+  pub record BehindCount (h : Hose) (bound count : ℕ) (now : DueLines) : Type 0 where
+    pub shaped : IsTrue (is_shaped_hose nodes h)
+    pub few : IsTrue (is_block_count (count ∷ []))
+    pub left : Left (blocks_due nodes count) ((hose_lines h ++ bound_line bound ∷ []) ++ count_line count ∷ []) now
+
+  pub record BehindBlocks (h : Hose) (bound count : ℕ) (kept : List HoseBlock) (now : DueLines) : Type 0 where
+    pub shaped : IsTrue (is_shaped_hose nodes h)
+    pub few : IsTrue (is_block_count (count ∷ []))
+    pub blocks : List HoseBlock
+    pub many : length blocks ≡ count
+    pub each : All (λ b. IsTrue (is_shaped_hose_block nodes b)) blocks
+    pub same : kept ≡ map keep_block blocks
+    pub left : Left Due.done (((hose_lines h ++ bound_line bound ∷ []) ++ count_line count ∷ []) ++ flat_map hose_block_lines blocks) now
+
+  -- what is taken of the lines that are left
+  abbrev pub Takes : {X : Type 0} → (X → List NumLine → List NumLine → Type 0) → (List NumLine → ℕ → Type 0) → Result X TableFault → DueLines → DueLines → Type 0
+  Takes Begins Leaves result now after = (ls : List NumLine) → IsBefore now ls → TakesDue Begins Leaves result now after ls
 
   -- a line that is not due
-  pub cert_stops : {X : Type 0} (Begins : X → List NumLine → List NumLine → Type 0) (Leaves : List NumLine → ℕ → Type 0) (rest : Due) (taken : List NumLine) (now after : DueLines)
-      (more : List NumLine) (e : TableFault) → InCert rest taken now more → ((j : ℕ) → Leaves more j → first_undue rest more ≡ Some j) →
-      TakesDue Begins Leaves (Err e) now after more → SpellsKeptCert nodes bytes (Err e)
-  cert_stops Begins Leaves rest taken now after more e at leaves fails =
-      stops Begins Leaves cert_first (hose_cert_due nodes) bytes rest taken now after more e refl (files_have_forms.certs_end nodes) at leaves fails
+  cert_stops : {X : Type 0} (Begins : X → List NumLine → List NumLine → Type 0) (Leaves : List NumLine → ℕ → Type 0) (rest : Due) (taken : List NumLine) (now after : DueLines)
+      (e : TableFault) (l : Left rest taken now) → ((j : ℕ) → Leaves l.more j → first_undue rest l.more ≡ Some j) → Takes Begins Leaves (Err e) now after → SpellsKeptCert nodes bytes (Err e)
+  cert_stops Begins Leaves rest taken now after e l leaves fails =
+      stops Begins Leaves cert_first (hose_cert_due nodes) bytes rest taken now after l.more e refl (files_have_forms.certs_end nodes) l.at leaves (fails l.more l.at.before)
 
-  pub no_hose_in_cert : (now after : DueLines) (ls : List NumLine) (e : TableFault) → InCert (hose_cert_due nodes) [] now ls →
-      TakesDue (BeginsWithHose nodes) (LeavesAtHose nodes) (Err e) now after ls → SpellsKeptCert nodes bytes (Err e)
-  no_hose_in_cert now after ls e at fails =
-      cert_stops (BeginsWithHose nodes) (LeavesAtHose nodes) (hose_cert_due nodes) [] now after ls e at (λ j leaves. leaves (bound_then_blocks nodes)) fails
+  pub cert_begins : (now : DueLines) → (ls : List NumLine) × (bytes ≡ table_text cert_first ls) × IsBefore now ls → next_line now ≡ 2 → Left (hose_cert_due nodes) [] now
+  cert_begins now table second =
+      record { more = table.0; at = stands_first cert_first (hose_cert_due nodes) bytes now table.0 table.1 table.2 second }
 
-  pub behind_hose_in_cert : (now after : DueLines) (h : Hose) (ls : List NumLine) → InCert (hose_cert_due nodes) [] now ls →
-      (t : TakesDue (BeginsWithHose nodes) (LeavesAtHose nodes) (Ok h) now after ls) → InCert (bound_then_blocks nodes) (hose_lines h) after t.0
-  behind_hose_in_cert now after h ls at t =
-      stands_on cert_first (hose_cert_due nodes) bytes (hose_cert_due nodes) (bound_then_blocks nodes) [] (hose_lines h) now after ls t.0 at t.1.1 t.2 t.3
-      (hose_on nodes h (bound_then_blocks nodes) t.1.0)
+  pub no_hose_in_cert : (now after : DueLines) (e : TableFault) → Left (hose_cert_due nodes) [] now →
+      Takes (BeginsWithHose nodes) (LeavesAtHose nodes) (Err e) now after → SpellsKeptCert nodes bytes (Err e)
+  no_hose_in_cert now after e l fails =
+      cert_stops (BeginsWithHose nodes) (LeavesAtHose nodes) (hose_cert_due nodes) [] now after e l (λ j leaves. leaves (bound_then_blocks nodes)) fails
 
-  pub no_bound : (now after : DueLines) (taken more : List NumLine) (e : TableFault) → InCert (bound_then_blocks nodes) taken now more →
-      TakesDue (BeginsWithNumber (codes "bound")) (LeavesAtLine (codes "bound") (has_count 1)) (Err e) now after more → SpellsKeptCert nodes bytes (Err e)
-  no_bound now after taken more e at fails =
-      cert_stops (BeginsWithNumber (codes "bound")) (LeavesAtLine (codes "bound") (has_count 1)) (bound_then_blocks nodes) taken now after more e at
+  pub behind_hose_in_cert : (now after : DueLines) (h : Hose) → Left (hose_cert_due nodes) [] now →
+      Takes (BeginsWithHose nodes) (LeavesAtHose nodes) (Ok h) now after → BehindHose h after
+  behind_hose_in_cert now after h l takes =
+      let t = takes l.more l.at.before in
+      record {
+        shaped = t.1.0;
+        left = record {
+          more = t.0;
+          at = stands_on cert_first (hose_cert_due nodes) bytes (hose_cert_due nodes) (bound_then_blocks nodes) [] (hose_lines h) now after l.more t.0 l.at t.1.1 t.2 t.3
+              (hose_on nodes h (bound_then_blocks nodes) t.1.0);
+        };
+      }
+
+  pub no_bound : (now after : DueLines) (h : Hose) (e : TableFault) → BehindHose h now →
+      Takes (BeginsWithNumber (codes "bound")) (LeavesAtLine (codes "bound") (has_count 1)) (Err e) now after → SpellsKeptCert nodes bytes (Err e)
+  no_bound now after h e was fails =
+      cert_stops (BeginsWithNumber (codes "bound")) (LeavesAtLine (codes "bound") (has_count 1)) (bound_then_blocks nodes) (hose_lines h) now after e was.left
       (λ j leaves. leaves (λ _. count_due nodes)) fails
 
-  pub behind_bound : (now after : DueLines) (bound : ℕ) (taken more : List NumLine) → InCert (bound_then_blocks nodes) taken now more →
-      (t : TakesDue (BeginsWithNumber (codes "bound")) (LeavesAtLine (codes "bound") (has_count 1)) (Ok bound) now after more) →
-      InCert (count_due nodes) (taken ++ bound_line bound ∷ []) after t.0
-  behind_bound now after bound taken more at t =
-      stands_on cert_first (hose_cert_due nodes) bytes (bound_then_blocks nodes) (count_due nodes) taken (bound_line bound ∷ []) now after more t.0 at t.1 t.2 t.3
-      (goes_line (codes "bound") (has_count 1) (λ _. count_due nodes) (bound ∷ []) [] (count_due nodes) refl (goes_nowhere (count_due nodes)))
+  pub behind_bound : (now after : DueLines) (h : Hose) (bound : ℕ) → BehindHose h now →
+      Takes (BeginsWithNumber (codes "bound")) (LeavesAtLine (codes "bound") (has_count 1)) (Ok bound) now after → BehindBound h bound after
+  behind_bound now after h bound was takes =
+      let l = was.left in
+      let t = takes l.more l.at.before in
+      record {
+        shaped = was.shaped;
+        left = record {
+          more = t.0;
+          at = stands_on cert_first (hose_cert_due nodes) bytes (bound_then_blocks nodes) (count_due nodes) (hose_lines h) (bound_line bound ∷ []) now after l.more t.0 l.at t.1 t.2 t.3
+              (goes_line (codes "bound") (has_count 1) (λ _. count_due nodes) (bound ∷ []) [] (count_due nodes) refl (goes_nowhere (count_due nodes)));
+        };
+      }
 
-  pub no_count : (now after : DueLines) (taken more : List NumLine) (e : TableFault) → InCert (count_due nodes) taken now more →
-      TakesDue BeginsWithBlockCount (LeavesAtLine (codes "blocks") is_block_count) (Err e) now after more → SpellsKeptCert nodes bytes (Err e)
-  no_count now after taken more e at fails =
-      cert_stops BeginsWithBlockCount (LeavesAtLine (codes "blocks") is_block_count) (count_due nodes) taken now after more e at
+  pub no_count : (now after : DueLines) (h : Hose) (bound : ℕ) (e : TableFault) → BehindBound h bound now →
+      Takes BeginsWithBlockCount (LeavesAtLine (codes "blocks") is_block_count) (Err e) now after → SpellsKeptCert nodes bytes (Err e)
+  no_count now after h bound e was fails =
+      cert_stops BeginsWithBlockCount (LeavesAtLine (codes "blocks") is_block_count) (count_due nodes) (hose_lines h ++ bound_line bound ∷ []) now after e was.left
       (λ j leaves. leaves (λ numbers. blocks_due nodes (slice_index numbers 0))) fails
 
-  pub behind_count : (now after : DueLines) (count : ℕ) (taken more : List NumLine) → InCert (count_due nodes) taken now more →
-      (t : TakesDue BeginsWithBlockCount (LeavesAtLine (codes "blocks") is_block_count) (Ok count) now after more) →
-      InCert (blocks_due nodes count) (taken ++ count_line count ∷ []) after t.0
-  behind_count now after count taken more at t =
-      stands_on cert_first (hose_cert_due nodes) bytes (count_due nodes) (blocks_due nodes count) taken (count_line count ∷ []) now after more t.0 at t.1.1 t.2 t.3
-      (goes_line (codes "blocks") is_block_count (λ numbers. blocks_due nodes (slice_index numbers 0)) (count ∷ []) [] (blocks_due nodes count) t.1.0
-      (goes_nowhere (blocks_due nodes count)))
+  pub behind_count : (now after : DueLines) (h : Hose) (bound count : ℕ) → BehindBound h bound now →
+      Takes BeginsWithBlockCount (LeavesAtLine (codes "blocks") is_block_count) (Ok count) now after → BehindCount h bound count after
+  behind_count now after h bound count was takes =
+      let l = was.left in
+      let t = takes l.more l.at.before in
+      record {
+        shaped = was.shaped;
+        few = t.1.0;
+        left = record {
+          more = t.0;
+          at = stands_on cert_first (hose_cert_due nodes) bytes (count_due nodes) (blocks_due nodes count) (hose_lines h ++ bound_line bound ∷ []) (count_line count ∷ []) now after
+              l.more t.0 l.at t.1.1 t.2 t.3
+              (goes_line (codes "blocks") is_block_count (λ numbers. blocks_due nodes (slice_index numbers 0)) (count ∷ []) [] (blocks_due nodes count) t.1.0
+              (goes_nowhere (blocks_due nodes count)));
+        };
+      }
 
-  pub no_blocks_there : (now after : DueLines) (count : ℕ) (taken more : List NumLine) (e : TableFault) → InCert (blocks_due nodes count) taken now more →
-      TakesDue (BeginsWithBlocks nodes count) (LeavesAtBlocks nodes count) (Err e) now after more → SpellsKeptCert nodes bytes (Err e)
-  no_blocks_there now after count taken more e at fails =
-      cert_stops (BeginsWithBlocks nodes count) (LeavesAtBlocks nodes count) (blocks_due nodes count) taken now after more e at (λ j leaves. leaves) fails
+  pub no_blocks_there : (now after : DueLines) (h : Hose) (bound count : ℕ) (e : TableFault) → BehindCount h bound count now →
+      Takes (BeginsWithBlocks nodes count) (LeavesAtBlocks nodes count) (Err e) now after → SpellsKeptCert nodes bytes (Err e)
+  no_blocks_there now after h bound count e was fails =
+      cert_stops (BeginsWithBlocks nodes count) (LeavesAtBlocks nodes count) (blocks_due nodes count) ((hose_lines h ++ bound_line bound ∷ []) ++ count_line count ∷ []) now after e
+      was.left (λ j leaves. leaves) fails
 
-  pub behind_blocks : (now after : DueLines) (count : ℕ) (kept : List HoseBlock) (taken more : List NumLine) → InCert (blocks_due nodes count) taken now more →
-      (t : TakesDue (BeginsWithBlocks nodes count) (LeavesAtBlocks nodes count) (Ok kept) now after more) →
-      InCert Due.done (taken ++ flat_map hose_block_lines t.1.0) after t.0
-  behind_blocks now after count kept taken more at t =
-      stands_on cert_first (hose_cert_due nodes) bytes (blocks_due nodes count) Due.done taken (flat_map hose_block_lines t.1.0) now after more t.0 at t.1.4 t.2 t.3
-      (blocks_on nodes t.1.0 count 0 (let e = t.1.1 in omega (arith, e)) t.1.2)
+  pub behind_blocks : (now after : DueLines) (h : Hose) (bound count : ℕ) (kept : List HoseBlock) → BehindCount h bound count now →
+      Takes (BeginsWithBlocks nodes count) (LeavesAtBlocks nodes count) (Ok kept) now after → BehindBlocks h bound count kept after
+  behind_blocks now after h bound count kept was takes =
+      let l = was.left in
+      let t = takes l.more l.at.before in
+      let taken : List NumLine = (hose_lines h ++ bound_line bound ∷ []) ++ count_line count ∷ [] in
+      record {
+        shaped = was.shaped;
+        few = was.few;
+        blocks = t.1.0;
+        many = t.1.1;
+        each = t.1.2;
+        same = t.1.3;
+        left = record {
+          more = t.0;
+          at = stands_on cert_first (hose_cert_due nodes) bytes (blocks_due nodes count) Due.done taken (flat_map hose_block_lines t.1.0) now after l.more t.0 l.at t.1.4 t.2 t.3
+              (blocks_on nodes t.1.0 count 0 (let e = t.1.1 in omega (arith, e)) t.1.2);
+        };
+      }
 
-  pub no_end_of_cert : (now after : DueLines) (taken more : List NumLine) (e : TableFault) → InCert Due.done taken now more →
-      TakesDue BeginsWithEnd LeavesAtEnd (Err e) now after more → SpellsKeptCert nodes bytes (Err e)
-  no_end_of_cert now after taken more e at fails = cert_stops BeginsWithEnd LeavesAtEnd Due.done taken now after more e at (λ j leaves. leaves) fails
+  pub no_end_of_cert : (now after : DueLines) (h : Hose) (bound count : ℕ) (kept : List HoseBlock) (e : TableFault) → BehindBlocks h bound count kept now →
+      Takes BeginsWithEnd LeavesAtEnd (Err e) now after → SpellsKeptCert nodes bytes (Err e)
+  no_end_of_cert now after h bound count kept e was fails =
+      cert_stops BeginsWithEnd LeavesAtEnd Due.done (((hose_lines h ++ bound_line bound ∷ []) ++ count_line count ∷ []) ++ flat_map hose_block_lines was.blocks) now after e was.left
+      (λ j leaves. leaves) fails
 
-  pub cert_spells : (now after : DueLines) (h : Hose) (bound count : ℕ) (kept blocks : List HoseBlock) (more : List NumLine) → IsTrue (is_shaped_hose nodes h) →
-      IsTrue (is_block_count (count ∷ [])) → length blocks ≡ count → All (λ b. IsTrue (is_shaped_hose_block nodes b)) blocks → kept ≡ map keep_block blocks →
-      InCert Due.done (((hose_lines h ++ bound_line bound ∷ []) ++ count_line count ∷ []) ++ flat_map hose_block_lines blocks) now more →
-      TakesDue BeginsWithEnd LeavesAtEnd (Ok tt) now after more → SpellsKeptCert nodes bytes (Ok (record { hose = h; bound = bound; blocks = kept }))
-  cert_spells now after h bound count kept blocks more shaped few many each same at ended =
+  pub cert_spells : (now after : DueLines) (h : Hose) (bound count : ℕ) (kept : List HoseBlock) → BehindBlocks h bound count kept now →
+      Takes BeginsWithEnd LeavesAtEnd (Ok tt) now after → SpellsKeptCert nodes bytes (Ok (record { hose = h; bound = bound; blocks = kept }))
+  cert_spells now after h bound count kept was ends =
+      let blocks = was.blocks in
+      let at = was.left.at in
+      let more = was.left.more in
+      let many = was.many in
+      let ended = ends more at.before in
       let c : HoseCert = record { hose = h; bound = bound; blocks = blocks } in
       let end : (((hose_lines h ++ bound_line bound ∷ []) ++ count_line count ∷ []) ++ flat_map hose_block_lines blocks) ++ more ≡ hose_cert_lines c =
       ap (λ (m : List NumLine). (((hose_lines h ++ bound_line bound ∷ []) ++ count_line count ∷ []) ++ flat_map hose_block_lines blocks) ++ m) ended.1.0
@@ -149,14 +223,14 @@ module _ (nodes : ℕ) (bytes : List ℕ) where
       ∙ ap (λ (n : ℕ). hose_lines h ++ bound_line bound ∷ count_line n ∷ flat_map hose_block_lines blocks) (sym many) in
       let words = subst AreLines end at.lines in
       let number = words.1.1.0.numbers.0 in
-      let limit = (and_true (has_count 1 (count ∷ [])) (nat_le count FORMAT_2.links) few).1 in
+      let limit = (and_true (has_count 1 (count ∷ [])) (nat_le count FORMAT_2.links) was.few).1 in
       let most = leb-true _ _ limit in (
         c,
         (
-          record { hose = shaped; bound = lt-ltb _ _ number; count = omega (arith, many, most); blocks = each },
+          record { hose = was.shaped; bound = lt-ltb _ _ number; count = omega (arith, many, most); blocks = was.each },
           at.file ∙ ap (table_text cert_first) end,
         ),
-        λ i. record { hose = h; bound = bound; blocks = same i },
+        λ i. record { hose = h; bound = bound; blocks = was.same i },
       )
 
 -- ---- the answer

@@ -9,19 +9,14 @@ use Rattle.te_model.specs.Network.{node_count}
 use Rattle.te_model.specs.Path.{share, source_of, destination_of}
 use Rattle.routing.specs.declared.shares.PairShare.{PairShare}
 use Rattle.routing.specs.Shares.{AreSharesOn}
+use Rattle.routing.proofs.Sharing.{no_share}
 use Rattle.hose_bound.specs.declared.covers.End.TheVariants.{Source, Destination}
 use Rattle.hose_bound.specs.declared.hose.Hose.{Hose}
 use Rattle.hose_bound.specs.declared.hose.HoseBlock.{HoseBlock}
 use Rattle.hose_bound.specs.Cover.{Covers, cover_sum, greatest_share, lowered_at, IsTightCover}
 use Rattle.hose_bound.specs.Covering.{CoverShares, IsLeastFrom}
 use Rattle.hose_bound.specs.Making.{shares_to_cover}
-use Rattle.hose_bound.proofs.Covering.{end_covers}
-
-abbrev pub no_share : PairShare
-no_share = record { pair = 0; share = 0 }
-
-lowered_here : (f : ℕ → ℕ) (i : ℕ) → lowered_at f i i ≡ f i - 1
-lowered_here f i = rw (eq-eqb i i refl) refl
+use Rattle.hose_bound.proofs.Covering.{end_covers, lowered_same}
 
 module _ (net : Network) (routes : List PairRoutes) (h : Hose) (e : ℕ) (shares : List PairShare) (on : AreSharesOn routes e shares) where
   -- what covers the listed shares covers those of all pairs, and the other way round
@@ -77,13 +72,13 @@ module _ (net : Network) (routes : List PairRoutes) (h : Hose) (e : ℕ) (shares
     tight_tails : (i : ℕ) → 1 ≤ slice_index b.tails i → Covers (shares_to_cover net routes h e) (lowered_at (slice_index b.tails) i) (slice_index b.heads) → ⊥
     tight_tails i some cover =
         let within = tails_within (lowered_at (slice_index b.tails) i) (λ p below. omega (arith, cover p below, heads_fall (destination_of routes p))) i in
-        let here = lowered_here (slice_index b.tails) i in
+        let here = lowered_same (slice_index b.tails) i in
         omega (arith, some, within, here)
 
     tight_heads : (i : ℕ) → 1 ≤ slice_index b.heads i → Covers (shares_to_cover net routes h e) (slice_index b.tails) (lowered_at (slice_index b.heads) i) → ⊥
     tight_heads i some cover =
         let within = heads_within (lowered_at (slice_index b.heads) i) cover i in
-        let here = lowered_here (slice_index b.heads) i in
+        let here = lowered_same (slice_index b.heads) i in
         omega (arith, some, within, here)
 
     pub small : (bound : ℕ) → ((p : ℕ) → p < length routes → share routes p e ≤ bound) → (i : ℕ) → (slice_index b.tails i ≤ bound) × (slice_index b.heads i ≤ bound)

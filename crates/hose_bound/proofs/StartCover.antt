@@ -16,7 +16,7 @@ use Rattle.routing.specs.Shares.{AreSharesOn}
 use Rattle.ratio_checker.proofs.NoWeights.{zeros}
 use Rattle.hose_bound.specs.declared.covers.End.TheVariants.{Source}
 use Rattle.hose_bound.specs.Covering.{AreEndsOf, AreLeastNumbers, IsEndOf}
-use Rattle.hose_bound.proofs.Simple.{no_share}
+use Rattle.routing.proofs.Sharing.{no_share}
 
 module _ (net : Network) (routes : List PairRoutes) (e : ℕ) (pairs : PairsJoinNodes net routes) (most : (p : ℕ) → p < length routes → share routes p e ≤ SHARE_UNIT)
     (shares : List PairShare) (on : AreSharesOn routes e shares) where

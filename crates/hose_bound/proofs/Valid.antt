@@ -137,12 +137,3 @@ pub hose_counts : (n : ℕ) (h : Hose) → IsValidHose n h → (length h.sent �
 hose_counts n h valid =
     let both = and_true (is_row_of n h.sent) (is_row_of n h.received) valid.shaped in
     (row_length n h.sent both.0, row_length n h.received both.1)
-
--- a path routing has the splits that `Routing` asks for
-pub splits_of : (net : Network) (routes : List PairRoutes) → IsPathRouting net routes → are_splits routes ≡ true
-splits_of net routes routing =
-    all_to_tests is_split (IsPathSplit net)
-    (λ r split.
-    and_from (paths_ascend r.paths && list_all (λ s. nat_le 1 s.weight) r.paths) (total_weight r.paths == SHARE_UNIT)
-    (and_from (paths_ascend r.paths) (list_all (λ s. nat_le 1 s.weight) r.paths) split.distinct
-    (all_to_tests (λ s. nat_le 1 s.weight) (λ s. 1 ≤ s.weight) (λ s le. le-leb _ _ le) r.paths split.weights)) (eq-eqb _ _ split.whole)) routes routing

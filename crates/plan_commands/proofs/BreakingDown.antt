@@ -11,11 +11,11 @@ use Rattle.plan.specs.declared.experiment.Experiment.{Experiment}
 use Rattle.plan.specs.Plan.{InRange}
 use Rattle.step_detail.specs.declared.breakdown.Breakdown.{Breakdown}
 use Rattle.step_detail.proofs.Existence.{breakdowns_exist}
-use Rattle.command_frame.specs.Reading.{Answers, Reading, answers}
+use Rattle.command_frame.specs.Reading.{Answers}
 use Rattle.command_frame.specs.Sound.{IsSound, HasText}
 use Rattle.command_frame.specs.Table.{IsSoundEntry}
 use Rattle.plan_commands.specs.BreakDown.{breakdown_of, break_down_entry}
-use Rattle.command_files.specs.PlanReading.{with_failures, with_predictions}
+use Rattle.plan_commands.proofs.InputReads.{behind_matrices, breakdown_reading}
 use Rattle.command_files.proofs.PlanFiles.{at_end_of_failures, at_end_of_predictions, failures_regular, inputs_in_range, plan_regular, predictions_regular}
 
 module _ (breakdown : Breakdown) (k : ℕ) where
@@ -36,27 +36,24 @@ module _ (breakdown : Breakdown) (k : ℕ) where
       let (text, broken_down) = breakdowns_exist breakdown plan n traffic failures k range formed is below in
       (0, text, (refl, broken_down))
 
-  -- the answers after the predictions, and what follows them
+  -- the answers after the predictions
   abbrev broken : Experiment → Network → Series → Option Series → Failures → Answers
   broken plan n series predictions failures = breakdown_of breakdown plan n (traffic_of (node_count n) series predictions) failures k
 
-  abbrev after_predictions : Experiment → Network → Series → Option Series → Reading
-  after_predictions plan n series predictions = with_failures n series plan.failures (λ failures. answers (broken plan n series predictions failures))
-
   pub break_down_is_sound : (file : List ℕ) → IsSoundEntry (break_down_entry breakdown file k)
   break_down_is_sound file = record {
-    regular = plan_regular (Some k) file (λ plan n series. with_predictions n plan.predictions (after_predictions plan n series))
-        (λ plan n series. predictions_regular n plan.predictions (after_predictions plan n series) (λ predictions.
+    regular = plan_regular (Some k) file (behind_matrices (breakdown_reading breakdown k))
+        (λ plan n series. predictions_regular n plan.predictions (breakdown_reading breakdown k plan n series) (λ predictions.
         failures_regular n series plan.failures (broken plan n series predictions)));
     sound = λ bytes plan says rows n makes demands series reads.
-        at_end_of_predictions (IsSound (λ s text. s ≡ 0)) n plan.predictions (after_predictions plan n series)
+        at_end_of_predictions (IsSound (λ s text. s ≡ 0)) n plan.predictions (breakdown_reading breakdown k plan n series)
         (inputs_in_range (Some k) bytes rows demands plan n series says makes reads).1 (λ predictions are.
         at_end_of_failures (IsSound (λ s text. s ≡ 0)) n series plan.failures (broken plan n series predictions)
         (breakdown_sound plan n (traffic_of (node_count n) series predictions)));
     one_text = λ is. absurd is;
     some_text = λ is bytes plan says rows n makes demands series reads.
         let within = inputs_in_range (Some k) bytes rows demands plan n series says makes reads in
-        at_end_of_predictions HasText n plan.predictions (after_predictions plan n series) within.1 (λ predictions are.
+        at_end_of_predictions HasText n plan.predictions (breakdown_reading breakdown k plan n series) within.1 (λ predictions are.
         at_end_of_failures HasText n series plan.failures (broken plan n series predictions) (λ failures.
         breakdown_text plan n (traffic_of (node_count n) series predictions) failures within.0 within.1
         (traffic_limits (node_count n) series predictions within.3 are)

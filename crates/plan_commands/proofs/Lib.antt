@@ -1,3 +1,4 @@
+mod InputReads
 pub mod Publishing
 pub mod Reporting
 pub mod BreakingDown

@@ -1,5 +1,5 @@
 -- What `publish` answers: a file to which `check` says yes, or the first pair without a path.
-use Rattle.std.proofs.Common.{◌≡◌, ◌≤◌, ◌⊎◌, ℕ, List, [], Option, None, true, inl, inr, refl, sym, ◌∙◌, arith}
+use Rattle.std.proofs.Common.{◌≡◌, ◌≤◌, ◌⊎◌, ℕ, List, [], None, true, inl, inr, refl, sym, ◌∙◌, arith}
 use Rattle.te_model.specs.declared.network.Network.{Network}
 use Rattle.te_model.specs.Network.{is_well_formed, link_count, node_count}
 use Rattle.te_model.specs.Pairs.{pair_at}
@@ -9,17 +9,16 @@ use Rattle.traffic_matrix.specs.declared.series.Series.{Series}
 use Rattle.traffic_matrix.specs.Limits.{IsSeries}
 use Rattle.traffic_matrix.specs.Traffic.{traffic_of}
 use Rattle.traffic_matrix.proofs.TrafficLemmas.{traffic_limits}
-use Rattle.command_files.specs.PlanReading.{with_predictions}
 use Rattle.plan.specs.declared.experiment.Experiment.{Experiment}
 use Rattle.plan.specs.Plan.{InRange}
 use Rattle.experiment.specs.Published.{IsPublished}
 use Rattle.experiment.proofs.Accepted.{published_accepted}
 use Rattle.experiment.proofs.Existence.{publications_exist}
-use Rattle.command_frame.specs.Reading.{Reading, answers}
 use Rattle.command_frame.specs.Sound.{IsSound, HasText}
 use Rattle.command_frame.specs.Table.{IsSoundEntry}
 use Rattle.command_files.specs.Check.{IsAnsweredYes}
 use Rattle.plan_commands.specs.Publish.{IsPublicationStatus, IsPublication, IsProvedFile, no_path_line, publication_of, publish_entry}
+use Rattle.plan_commands.proofs.InputReads.{behind_matrices, publication_reading}
 use Rattle.command_files.proofs.PlanFiles.{at_end_of_predictions, inputs_in_range, plan_regular, predictions_regular}
 
 -- what is published is short enough to be checked, and is answered yes
@@ -91,22 +90,18 @@ publication_text plan n series range formed some is = go (reached_or_first n ser
         (0, text, inl (refl, reached, published))
     go (inr x) = (7, no_path_line n (pair_at series.pairs.list x.0), inr (refl, record { place = x.0; first = x.1; line_is = refl }))
 
--- what follows the predictions
-abbrev after_predictions : Experiment → Network → Series → Option Series → Reading
-after_predictions plan n series predictions = answers (publication_of plan n (traffic_of (node_count n) series predictions).sent)
-
 pub publish_is_sound : (file : List ℕ) → IsSoundEntry (publish_entry file)
 publish_is_sound file = record {
-  regular = plan_regular None file (λ plan n series. with_predictions n plan.predictions (after_predictions plan n series))
-      (λ plan n series. predictions_regular n plan.predictions (after_predictions plan n series) (λ predictions. tt));
+  regular = plan_regular None file (behind_matrices publication_reading)
+      (λ plan n series. predictions_regular n plan.predictions (publication_reading plan n series) (λ predictions. tt));
   sound = λ bytes plan says rows n makes demands series reads.
-      at_end_of_predictions (IsSound (λ s text. ((s ≡ 0) × IsAnsweredYes text) ⊎ (s ≡ 7))) n plan.predictions (after_predictions plan n series)
+      at_end_of_predictions (IsSound (λ s text. ((s ≡ 0) × IsAnsweredYes text) ⊎ (s ≡ 7))) n plan.predictions (publication_reading plan n series)
       (inputs_in_range None bytes rows demands plan n series says makes reads).1
       (λ predictions are. publication_sound plan n (traffic_of (node_count n) series predictions).sent);
   one_text = λ is. absurd is;
   some_text = λ is bytes plan says rows n makes demands series reads.
       let within = inputs_in_range None bytes rows demands plan n series says makes reads in
-      at_end_of_predictions HasText n plan.predictions (after_predictions plan n series) within.1 (λ predictions are.
+      at_end_of_predictions HasText n plan.predictions (publication_reading plan n series) within.1 (λ predictions are.
       publication_text plan n (traffic_of (node_count n) series predictions).sent within.0 within.1 within.2
       (traffic_limits (node_count n) series predictions within.3 are).sent);
 }

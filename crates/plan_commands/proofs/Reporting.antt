@@ -10,11 +10,11 @@ use Rattle.failure.specs.declared.outage.Failures.{Failures}
 use Rattle.plan.specs.declared.experiment.Experiment.{Experiment}
 use Rattle.plan.specs.Plan.{InRange}
 use Rattle.experiment.proofs.Existence.{reports_exist}
-use Rattle.command_frame.specs.Reading.{Answers, Reading, answers}
+use Rattle.command_frame.specs.Reading.{Answers}
 use Rattle.command_frame.specs.Sound.{IsSound, HasText}
 use Rattle.command_frame.specs.Table.{IsSoundEntry}
-use Rattle.command_files.specs.PlanReading.{with_failures, with_predictions}
 use Rattle.plan_commands.specs.Report.{report_of, run_entry}
+use Rattle.plan_commands.proofs.InputReads.{behind_matrices, report_reading}
 use Rattle.command_files.proofs.PlanFiles.{at_end_of_failures, at_end_of_predictions, failures_regular, inputs_in_range, plan_regular, predictions_regular}
 
 report_sound : (plan : Experiment) (n : Network) (traffic : Traffic) (failures : Failures) → IsSound (λ s text. s ≡ 0) (report_of plan n traffic failures)
@@ -33,27 +33,24 @@ report_text plan n traffic failures range formed is =
     let (text, report) = reports_exist plan n traffic failures range formed is in
     (0, text, (refl, report))
 
--- the answers after the predictions, and what follows them
+-- the answers after the predictions
 abbrev reported : Experiment → Network → Series → Option Series → Failures → Answers
 reported plan n series predictions failures = report_of plan n (traffic_of (node_count n) series predictions) failures
 
-abbrev after_predictions : Experiment → Network → Series → Option Series → Reading
-after_predictions plan n series predictions = with_failures n series plan.failures (λ failures. answers (reported plan n series predictions failures))
-
 pub run_is_sound : (file : List ℕ) → IsSoundEntry (run_entry file)
 run_is_sound file = record {
-  regular = plan_regular None file (λ plan n series. with_predictions n plan.predictions (after_predictions plan n series))
-      (λ plan n series. predictions_regular n plan.predictions (after_predictions plan n series) (λ predictions.
+  regular = plan_regular None file (behind_matrices report_reading)
+      (λ plan n series. predictions_regular n plan.predictions (report_reading plan n series) (λ predictions.
       failures_regular n series plan.failures (reported plan n series predictions)));
   sound = λ bytes plan says rows n makes demands series reads.
-      at_end_of_predictions (IsSound (λ s text. s ≡ 0)) n plan.predictions (after_predictions plan n series)
+      at_end_of_predictions (IsSound (λ s text. s ≡ 0)) n plan.predictions (report_reading plan n series)
       (inputs_in_range None bytes rows demands plan n series says makes reads).1 (λ predictions are.
       at_end_of_failures (IsSound (λ s text. s ≡ 0)) n series plan.failures (reported plan n series predictions)
       (report_sound plan n (traffic_of (node_count n) series predictions)));
   one_text = λ is. absurd is;
   some_text = λ is bytes plan says rows n makes demands series reads.
       let within = inputs_in_range None bytes rows demands plan n series says makes reads in
-      at_end_of_predictions HasText n plan.predictions (after_predictions plan n series) within.1 (λ predictions are.
+      at_end_of_predictions HasText n plan.predictions (report_reading plan n series) within.1 (λ predictions are.
       at_end_of_failures HasText n series plan.failures (reported plan n series predictions) (λ failures.
       report_text plan n (traffic_of (node_count n) series predictions) failures within.0 within.1
       (traffic_limits (node_count n) series predictions within.3 are)));

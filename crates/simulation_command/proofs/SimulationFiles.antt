@@ -1,10 +1,9 @@
 -- The files of a simulation are read in one way, and what they give is the certificate's network and pairs of its routing.
-use Rattle.std.proofs.Common.{◌≡◌, ◌⊎◌, ◌∙◌, ℕ, List, Option, Some, None, Result, Ok, Err, All, inl, inr, refl, sym, ap, subst}
+use Rattle.std.proofs.Common.{◌≡◌, ◌⊎◌, ◌∙◌, ℕ, List, Option, Some, None, Result, Ok, Err, inl, inr, refl, sym, ap, subst}
 use Rattle.std.specs.Prelude.{IsTrue}
 use Rattle.te_model.specs.declared.network.Network.{Network}
 use Rattle.te_model.specs.declared.route.Pair.{Pair}
 use Rattle.te_model.specs.Network.{is_well_formed, node_count}
-use Rattle.te_model.specs.Pairs.{IsNodePair, IsPairAmong}
 use Rattle.te_model.proofs.SameNetworks.{same_or_not}
 use Rattle.topology.specs.Topology.{topology_of}
 use Rattle.topology.specs.declared.fault.TopologyFault.{TopologyFault}
@@ -60,10 +59,6 @@ pub networks_regular : (own : Network) → IsRegular (topologies_of own)
 networks_regular own = record { limited = input_limits; once = network_once own; some = network_some own }
 
 -- ---- the matrices
-
--- two nodes, whichever
-pub node_pairs : (n : ℕ) (pairs : List Pair) → All (IsPairAmong n) pairs → All (IsNodePair n) pairs
-node_pairs n pairs all k d low = let pair = all k d low in record { src = pair.src_inside; dst = pair.dst_inside }
 
 pub routed_regular : (pairs : List Pair) (network : Network) → IsRegular (routed_matrices pairs network)
 routed_regular pairs network = record {

@@ -2,7 +2,7 @@ use Rattle.std.proofs.Common.{ℕ, List, length, arith, ap, refl, sym, subst}
 use Rattle.hose_bound.specs.Answers.{IsHoseText, IsLeastHoseText}
 use Rattle.hose_bound.proofs.Answered.{hose_text_is}
 use Rattle.hose_bound.proofs.ShortTexts.{hose_texts_are_short}
-use Rattle.hose_bound.proofs.Valid.{splits_of}
+use Rattle.routing.proofs.Splits.{splits_of}
 use Rattle.hose_bound.proofs.answers.hose_text.Goals as goal
 
 pub invariant_of-routing : goal.invariant_of-routing

@@ -5,7 +5,7 @@ use Rattle.routing.specs.declared.shares.PairShare.{PairShare}
 use Rattle.ratio_checker.proofs.NoWeights.{zeros}
 use Rattle.hose_bound.specs.Covering.{CoverShares, end_of, other_end, raised_at}
 use Rattle.hose_bound.proofs.Raising.{one_share_least, one_share_more}
-use Rattle.hose_bound.proofs.Simple.{no_share}
+use Rattle.routing.proofs.Sharing.{no_share}
 use Rattle.hose_bound.proofs.covers.least_numbers.Goals as goal
 
 pub loop-pair-init : goal.loop-pair-init

@@ -48,35 +48,32 @@ returns-clause-made c =
     let net = c.args.net.now in
     let routes = c.args.routes.now in
     let h = c.args.hose.now in
-    let e = c.args.link in
-    let shares = c.args.shares.now in
     let t = c.in_ok-cover.cover in
-    let tails : AreLeastNumbers Source (node_count net) routes shares c.in_ok-none.none.items c.in_ok-tails.tails =
+    let tails : AreLeastNumbers Source (node_count net) routes c.args.shares.now c.in_ok-none.none.items c.in_ok-tails.tails =
     rw (c.as_slice-nodes.ensures, c.as_slice.ensures.value) at c.in_ok-tails.ensures
     in
     let least : IsLeastTransport c.in_ok-ends.ends.items (node_count net) (slice_index h.sent) (slice_index h.received) t =
     rw (c.as_slice-2.ensures.value, tails.count, c.as_slice-sent.ensures, c.as_slice-received.ensures) at c.in_ok-cover.ensures
     in
-    IfOk-weaker c.lowered_from.result (IsLeastFrom (node_count net) routes e shares t.heads) (λ (b : HoseBlock). (b.link ≡ e) × IsMadeBlock net routes h b)
+    IfOk-weaker c.lowered_from.result (IsLeastFrom (node_count net) routes c.args.link c.args.shares.now t.heads) (λ (b : HoseBlock). (b.link ≡ c.args.link) × IsMadeBlock net routes h b)
     (λ b lowered.
-    made net routes h e c.requires.link (few_links net c.requires.network) c.requires.small b lowered.link lowered.tails.count lowered.heads.count
-    (least_is_tight net routes h e c.requires.ends shares c.requires.shares c.in_ok-ends.ends.items c.in_ok-ends.ensures t least b lowered))
+    made net routes h c.args.link c.requires.link (few_links net c.requires.network) c.requires.small b lowered.link lowered.tails.count lowered.heads.count
+    (least_is_tight net routes h c.args.link c.requires.ends c.args.shares.now c.requires.shares c.in_ok-ends.ends.items c.in_ok-ends.ensures t least b lowered))
     (rw (c.as_slice-nodes.ensures, c.as_slice-3.ensures) at c.lowered_from.ensures)
 
 pub returns-clause-attained : goal.returns-clause-attained
 returns-clause-attained c =
     let net = c.args.net.now in
-    let routes = c.args.routes.now in
-    let h = c.args.hose.now in
     let e = c.args.link in
     let shares = c.args.shares.now in
     let t = c.in_ok-cover.cover in
-    let tails : AreLeastNumbers Source (node_count net) routes shares c.in_ok-none.none.items c.in_ok-tails.tails =
+    let tails : AreLeastNumbers Source (node_count net) c.args.routes.now shares c.in_ok-none.none.items c.in_ok-tails.tails =
     rw (c.as_slice-nodes.ensures, c.as_slice.ensures.value) at c.in_ok-tails.ensures
     in
-    let least : IsLeastTransport c.in_ok-ends.ends.items (node_count net) (slice_index h.sent) (slice_index h.received) t =
+    let least : IsLeastTransport c.in_ok-ends.ends.items (node_count net) (slice_index c.args.hose.now.sent) (slice_index c.args.hose.now.received) t =
     rw (c.as_slice-2.ensures.value, tails.count, c.as_slice-sent.ensures, c.as_slice-received.ensures) at c.in_ok-cover.ensures
     in
-    IfOk-weaker c.lowered_from.result (IsLeastFrom (node_count net) routes e shares t.heads) (IsAttained net routes h)
-    (λ b lowered. attained net routes h e c.requires.ends shares c.requires.shares c.in_ok-ends.ends.items c.in_ok-ends.ensures t least b lowered)
+    IfOk-weaker c.lowered_from.result (IsLeastFrom (node_count net) c.args.routes.now e shares t.heads) (IsAttained net c.args.routes.now c.args.hose.now)
+    (λ b lowered.
+    attained net c.args.routes.now c.args.hose.now e c.requires.ends shares c.requires.shares c.in_ok-ends.ends.items c.in_ok-ends.ensures t least b lowered)
     (rw (c.as_slice-nodes.ensures, c.as_slice-3.ensures) at c.lowered_from.ensures)

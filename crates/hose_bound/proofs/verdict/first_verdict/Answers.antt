@@ -57,14 +57,15 @@ returns-in-Some c =
     let net = c.args.net.now in
     let routes = c.args.routes.now in
     let cert = c.args.cert.now in
-    let e = c.loop-e.e in
-    let below : e < link_count net = grind arith in
+    let none = c.loop-e.invariant.none in
+    let below : c.loop-e.e < link_count net = grind arith in
     let first = rw (c.as_slice-blocks.ensures, c.as_slice-links.ensures) at c.first_uncovered-uncovered.ensures in
-    let pairs = c.fault_of_pairs-pairs.ensures ∙ fault_here net routes cert c.first_uncovered-uncovered.result e first below c.loop-e.invariant.none in
-    let bound = c.bound_failure_on.ensures ∙ ap (λ b. unless (pays_numbers net cert.hose cert.bound e b) (failure_at 2 0)) (c.loop-e.invariant.same e (omega arith)) in
+    let pairs = c.fault_of_pairs-pairs.ensures ∙ fault_here net routes cert c.first_uncovered-uncovered.result c.loop-e.e first below none in
+    let bound = c.bound_failure_on.ensures
+    ∙ ap (λ b. unless (pays_numbers net cert.hose cert.bound c.loop-e.e b) (failure_at 2 0)) (c.loop-e.invariant.same c.loop-e.e (omega arith)) in
     c.verdict_on.ensures
-    ∙ sym (ap verdict_of (failure_found net routes cert e c.in-Some.failure below c.loop-e.invariant.none
-    (sym (found_on net routes cert e c.fault_of_pairs-pairs.result c.bound_failure_on.result (Some c.in-Some.failure) c.in-Some.ensures pairs bound))))
+    ∙ sym (ap verdict_of (failure_found net routes cert c.loop-e.e c.in-Some.failure below none
+    (sym (found_on net routes cert c.loop-e.e c.fault_of_pairs-pairs.result c.bound_failure_on.result (Some c.in-Some.failure) c.in-Some.ensures pairs bound))))
 
 pub loop-e-preserved : goal.loop-e-preserved
 loop-e-preserved c =

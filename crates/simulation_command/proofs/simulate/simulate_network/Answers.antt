@@ -1,9 +1,10 @@
+use Rattle.std.proofs.lemmas.List.Elements.{All-weaker}
 use Rattle.std.proofs.lemmas.Result.{err_from_is_err_and}
 use Rattle.std.proofs.Common.{◌≡◌, List, All, true, subst, sym}
 use Rattle.te_model.specs.declared.network.Network.{Network}
 use Rattle.te_model.specs.declared.route.Pair.{Pair}
 use Rattle.te_model.specs.Network.{is_well_formed, node_count}
-use Rattle.te_model.specs.Pairs.{IsNodePair}
+use Rattle.te_model.specs.Pairs.{IsNodePair, IsPairAmong}
 use Rattle.ratio_checker.proofs.FormedHeads.{head_formed}
 use Rattle.local_recovery.specs.Rates.{pairs_of}
 use Rattle.traffic_matrix.specs.declared.series.Series.{Series}
@@ -12,7 +13,6 @@ use Rattle.command_frame.specs.declared.answer.Fault.TheVariants.{Memory}
 use Rattle.simulation_command.specs.RoutedMatrices.{routed_matrices}
 use Rattle.simulation_command.specs.Simulate.{networked_reading, routed_reading}
 use Rattle.command_frame.proofs.Following.{falls_short, goes_on, stops}
-use Rattle.simulation_command.proofs.SimulationFiles.{node_pairs}
 use Rattle.simulation_command.proofs.simulate.simulate_network.Goals as goal
 
 pub value_in-requires : goal.value_in-requires
@@ -22,7 +22,8 @@ value_in-requires g c =
       subst (λ (n : Network). is_well_formed n ≡ true) c.requires.network (head_formed head valid),
       rw (c.as_slice-2.ensures.value, c.in_ok-pairs.ensures, c.as_slice.ensures)
           (subst (λ (n : Network). All (IsNodePair (node_count n)) (pairs_of head.routes)) c.requires.network
-          (node_pairs (node_count head.network) (pairs_of head.routes) (head_pairs_among head valid))),
+          (All-weaker (IsPairAmong (node_count head.network)) (IsNodePair (node_count head.network))
+          (λ p among. record { src = among.src_inside; dst = among.dst_inside }) (pairs_of head.routes) (head_pairs_among head valid))),
     )
 
 pub returns-in_err-pairs : goal.returns-in_err-pairs
