@@ -38,7 +38,7 @@ NETWORKS = {
     "parallel links of 1, 2^16 and 2^32": (["a,b,1,1", "a,b,65536,1", "a,b,4294967296,1"], ["0,a,b,40"], 6),
     "a line": (line(6), exchange(6), 1.0001),
     "one-way links": (one_way_ring(8), exchange(8), 2.05),
-    "capacities from 1 to 2^32": (wide_ring(6), exchange(6), 400),
+    "capacities from 1 to 2^32": (wide_ring(6), exchange(6), 1000),
     "one pair": (DIAMOND, ["0,a,d,10"], 1.01),
     "pairs that share nothing": (["a,b,10,1", "c,d,30,1"], ["0,a,b,1", "0,c,d,1"], 1.0001),
 }
