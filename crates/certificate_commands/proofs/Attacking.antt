@@ -12,7 +12,7 @@ use Rattle.ratio_witness.specs.declared.witness.Witness.{Witness}
 use Rattle.ratio_witness.specs.Answers.{verdict_line, verdict_status, yes_line, IsBoundVerdict}
 use Rattle.ratio_witness.specs.Text.{witness_text, IsWitnessOf}
 use Rattle.ratio_witness.specs.Verdict.{verdict_fault, verdict_of}
-use Rattle.ratio_checker.proofs.MoreBlocks.{valid_without_blocks}
+use Rattle.te_model.proofs.ValidHeads.{valid_without_blocks}
 use Rattle.ratio_witness.proofs.WitnessSizes.{witness_texts_are_short}
 use Rattle.witness_search.specs.Attack.{IsAttack}
 use Rattle.witness_search.specs.Attempts.{RoutesBy, pairs_of}

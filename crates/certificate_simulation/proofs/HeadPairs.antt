@@ -21,7 +21,7 @@ use Rattle.te_model.specs.Validity.{IsValidHead, fault_at, faults_from, follows_
 use Rattle.te_model.proofs.PathRoutings.{path_routing}
 use Rattle.te_model.proofs.Tests.{all_from_tests, first_failing_none_at, first_some_none_at}
 use Rattle.te_model.proofs.Valid.{Rules, rules_hold}
-use Rattle.ratio_checker.proofs.MoreBlocks.{valid_without_blocks}
+use Rattle.te_model.proofs.ValidHeads.{few_in_format, head_routing, valid_without_blocks}
 use Rattle.routing.specs.Routes.{HasFewPaths, IsRoutingOf}
 use Rattle.local_recovery.specs.Rates.{pairs_of}
 use Rattle.traffic_matrix.specs.declared.series.Series.{Series}
@@ -34,25 +34,8 @@ kept h valid = rules_hold (record { head = h; blocks = [] }) (valid_without_bloc
 
 -- ---- the routing
 
-pub head_routing : (h : Head) → IsValidHead h → IsPathRouting h.network h.routes
-head_routing h valid =
-    let all = kept h valid in
-    (path_routing h).0 (λ p below. (
-      all.paths p below,
-      first_failing_none_at (length h.routes) (has_ascending_paths h) (fault_at 5) p
-          (first_some_none_at (faults_from 1 (rules (record { head = h; blocks = [] }))) 4 (valid_without_blocks h valid).1) below,
-      all.weights p below,
-    ))
-
 pub head_routes_pairs : (h : Head) → IsValidHead h → IsRoutingOf h.network (pairs_of h.routes) h.routes
 head_routes_pairs h valid = record { in_order = refl; splits = head_routing h valid }
-
-few_in_format : (format : ℕ) → (limits_of format).paths ≤ 32
-few_in_format format = go (format == 2)
-  where
-    go : (b : Bool) → (if b then FORMAT_2 else FORMAT_1).paths ≤ 32
-    go true = omega arith
-    go false = omega arith
 
 few_of : (limits : Limits) (r : PairRoutes) → is_shaped_pair limits r ≡ true → limits.paths ≤ 32 → length r.paths ≤ 4096
 few_of limits r shaped most = grind (arith, nat_tests)

@@ -5,6 +5,7 @@ use Rattle.std.proofs.lemmas.Bool.{cases_eq, cases_lt}
 use Rattle.std.proofs.lemmas.Bool.Decides.{nat_tests}
 use Rattle.te_model.specs.Counting.{sum_below}
 use Rattle.te_model.proofs.Sums.{sum_below-same}
+use Rattle.te_model.proofs.Conditionals.{if_split}
 use Rattle.cover_search.specs.declared.transport.EndShare.{EndShare}
 use Rattle.cover_search.specs.Transport.{end_amount}
 use Rattle.cover_search.specs.Ways.{added_at, taken_at}
@@ -40,15 +41,11 @@ taken_other f p a i other = grind (arith, nat_tests)
 pub taken_le : (f : ℕ → ℕ) (p a i : ℕ) → taken_at f p a i ≤ f i
 taken_le f p a i = grind (arith, nat_tests)
 
-choice_more : (b : Bool) (x y a : ℕ) → x ≡ y + a → (if b then x else 0) ≡ (if b then y else 0) + (if b then a else 0)
-choice_more true x y a is = is
-choice_more false x y a is = refl
-
 pub end_amount_more : (shares : List EndShare) (end' f g : ℕ → ℕ) (p a i : ℕ) → p < length shares → g p ≡ f p + a → ((k : ℕ) → (k ≡ p → ⊥) → g k ≡ f k) →
     end_amount shares end' g i ≡ end_amount shares end' f i + (if end' p == i then a else 0)
 end_amount_more shares end' f g p a i below here others =
     sum_one_more (length shares) p (if end' p == i then a else 0) (λ k. if end' k == i then f k else 0) (λ k. if end' k == i then g k else 0) below
-    (choice_more (end' p == i) (g p) (f p) a here)
+    (if_split (end' p == i) (g p) (f p) a here)
     (λ k k_in other. ap (λ v. if end' k == i then v else 0) (others k other))
 
 pub end_amount_added : (shares : List EndShare) (end' f g : ℕ → ℕ) (p a i : ℕ) → p < length shares → ((k : ℕ) → g k ≡ added_at f p a k) →

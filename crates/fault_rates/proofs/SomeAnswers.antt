@@ -9,6 +9,7 @@ use Rattle.te_model.specs.declared.certificate.Head.{Head}
 use Rattle.te_model.specs.declared.route.Pair.{Pair}
 use Rattle.te_model.specs.declared.route.PairRoutes.{PairRoutes}
 use Rattle.te_model.specs.PathRouting.{IsPathRouting}
+use Rattle.te_model.proofs.SameNetworks.{by_test}
 use Rattle.routing.specs.Routes.{AreDemands}
 use Rattle.fault_rates.specs.declared.plan.RatePlan.{RatePlan}
 use Rattle.fault_rates.specs.Answers.{AnswersExist, IsProtectionAnswer, IsRatesAnswer, RoutesPairs, verdict_by, verdict_line, verdict_status}
@@ -24,10 +25,6 @@ pair_eq_Decides x y =
     (λ h i. record { src = h.0 i; dst = h.1 i })
     (λ e. (ap (λ (p : Pair). p.src) e, ap (λ (p : Pair). p.dst) e))
     (Decides-and _ _ (Decides-eqb x.src y.src) (Decides-eqb x.dst y.dst))
-
-by_test : {P : Type 0} (r : Bool) → Decides r P → P ⊎ ¬ P
-by_test true decides = inl (decides.0 refl)
-by_test false decides = inr (not_from_Decides false decides refl)
 
 -- the routes are of these pairs or not
 in_order_or_not : (routes : List PairRoutes) (pairs : List Pair) → (map (λ r. r.pair) routes ≡ pairs) ⊎ ¬ (map (λ r. r.pair) routes ≡ pairs)

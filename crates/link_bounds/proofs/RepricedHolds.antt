@@ -13,6 +13,7 @@ use Rattle.te_model.specs.Inequalities.{block_failure, failure_at, of_link, pays
 use Rattle.te_model.specs.Network.{is_well_formed, link_count}
 use Rattle.link_bounds.specs.SameLinks.{AreSameLinks}
 use Rattle.te_model.specs.Validity.{IsValid, IsValidBlock, block_at, has_block_numbers}
+use Rattle.te_model.proofs.ValidHeads.{block_link}
 use Rattle.te_model.proofs.Failures.{holds_from_none}
 use Rattle.te_model.proofs.FeasibleBlocks.{block_failure-parts, feasible_or_fails}
 use Rattle.te_model.proofs.LinkRatios.{block_of_has}
@@ -33,9 +34,6 @@ use Rattle.link_bounds.proofs.AbsentBlocks.{empty_pays}
 use Rattle.link_bounds.proofs.RepricedValid.{block_numbers, block_on}
 use Rattle.link_bounds.proofs.SameNetworks.{infeasibility_same}
 
-link_inside : (net : Network) (b : Block) → has_block_numbers net b ≡ true → b.link < link_count net
-link_inside net b numbers = grind (arith, nat_tests)
-
 -- the greatest need pays for each block, and each ratio that does is no less
 pub is_greatest_need : (net : Network) (blocks : List Block) → is_well_formed net ≡ true → All (HasNumbers net) blocks →
     IsGreatestNeed net blocks (greatest_need net blocks)
@@ -52,7 +50,7 @@ is_greatest_need net blocks formed numbers = record {
         let b = block_at blocks k in
         let has = All-get_or (HasNumbers net) blocks k (empty_block 0) below numbers in
         let small = block_small net b has.numbers has.small in
-        is_need net b (need_of net b) small.b.0 (capacities_positive net formed b.link (link_inside net b has.numbers)) refl
+        is_need net b (need_of net b) small.b.0 (capacities_positive net formed b.link (block_link net b has.numbers)) refl
 
 -- there is one
 pub greatest_need_once : (net : Network) (blocks : List Block) (x y : ℕ) → IsGreatestNeed net blocks x → IsGreatestNeed net blocks y → x ≡ y

@@ -1,19 +1,9 @@
 -- The fault that a search of rules finds is the first.
-use Rattle.std.proofs.Common.{◌≡◌, ℕ, ◌↔◌, Option, Some, None, List, arith, refl, ap, inl, inr}
+use Rattle.std.proofs.Common.{◌≡◌, ℕ, ◌↔◌, Option, Some, None, List, refl, ap}
 use Rattle.te_model.specs.declared.certificate.RuleFault.{RuleFault}
-use Rattle.te_model.specs.Counting.{IsUpTo}
 use Rattle.te_model.specs.Validity.{Rule, FailsFrom}
-use Rattle.te_model.proofs.RuleSearch.{found_fails_from, none_fails_from}
+use Rattle.te_model.proofs.RuleSearch.{found_fails_from, none_fails_from, same_fault}
 use Rattle.number_tables.specs.Rules.{first_rule_of, IsFirstRuleOf, SearchFindsFirstRule}
-
--- two faults of which each comes up to the other are one
-same_fault : (f g : RuleFault) → IsUpTo f.number f.place g.number g.place → IsUpTo g.number g.place f.number f.place → f ≡ g
-same_fault f g (inl lt) (inl gt) = absurd (omega arith)
-same_fault f g (inl lt) (inr both) = absurd (omega arith)
-same_fault f g (inr both) (inl gt) = absurd (omega arith)
-same_fault f g (inr one) (inr two) =
-    let place : f.place ≡ g.place = omega arith in
-    λ i. record { number = one.0 i; place = place i }
 
 pub first_rule_of-some : (rs : List Rule) (f : RuleFault) → (first_rule_of rs ≡ Some f) ↔ IsFirstRuleOf rs f
 first_rule_of-some rs f = (to, from (first_rule_of rs) refl)

@@ -36,6 +36,7 @@ use Rattle.best_blocks.proofs.Pushed.{all_tests}
 use Rattle.best_blocks.specs.Conditions.{IsRoutingWithin, IsSetWithin}
 use Rattle.ratio_certificate.specs.Form.{HasFormOfFormat, IsFormatFor}
 use Rattle.te_model.proofs.WellFormed.{few_links, few_nodes, well_formed_parts}
+use Rattle.te_model.proofs.Chains.{chain_some}
 use Rattle.shortest_path.proofs.PathLengths.{path_short}
 
 -- the limits of a format: a path visits each node at most once, and there are pairs of each two nodes
@@ -63,11 +64,6 @@ shaped_network limits net formed some few few_links =
 chain_links : (net : Network) (s t : ℕ) (links : List ℕ) → link_count net ≤ 1024 → chains net s t links ≡ true → are_words links ≡ true
 chain_links net s t links few chain =
     all_to_tests is_word (λ h. h < link_count net) (λ h below. lt-ltb h (2 ^ 64) (omega (arith, below, few))) links (walk_links net s t links chain)
-
--- a chain between two nodes has a link
-chain_some : (net : Network) (s t : ℕ) (links : List ℕ) → (s ≡ t → ⊥) → chains net s t links ≡ true → 1 ≤ length links
-chain_some net s t [] apart chain = absurd (apart (eqb-true s t chain))
-chain_some net s t (h ∷ hs) apart chain = omega arith
 
 shaped_path : (limits : Limits) (net : Network) (s t : ℕ) (p : PathShare) → AreRoomy limits → node_count net ≤ limits.nodes → is_well_formed net ≡ true →
     s < node_count net → (s ≡ t → ⊥) → p.weight ≤ SHARE_UNIT → is_path net s t p.links ≡ true → is_shaped_path limits p ≡ true

@@ -12,7 +12,7 @@ use Rattle.te_model.specs.Validity.{IsValidHead, fault_at, faults_from, rules}
 use Rattle.te_model.proofs.Tests.{first_failing_none_at, first_some_none_at}
 use Rattle.te_model.proofs.Valid.{limits_small, rules_hold}
 use Rattle.te_model.proofs.WellFormed.{links_join, well_formed_from}
-use Rattle.ratio_checker.proofs.MoreBlocks.{valid_without_blocks}
+use Rattle.te_model.proofs.ValidHeads.{valid_without_blocks}
 
 -- the network of a head that can be written
 shaped_network : (h : Head) → is_shaped_head (limits_of h.format) h ≡ true → is_shaped_network (limits_of h.format) h.network ≡ true

@@ -1,4 +1,4 @@
--- A valid certificate without blocks, and with one block more.
+-- A valid certificate with one block more.
 use Rattle.std.proofs.Common.{◌≡◌, ℕ, zero, suc, ◌+◌, ◌<◌, ◌≤◌, true, List, [], ◌∷◌, ◌++◌, length, length-append, arith, refl, ap, ◌∙◌, inl, inr, nat_lt}
 use Rattle.std.specs.Prelude.{All}
 use Rattle.std.proofs.Math.Seq.{get_or-append_seam}
@@ -14,15 +14,6 @@ use Rattle.te_model.specs.Network.{link_count}
 use Rattle.te_model.specs.Shape.{is_shaped_head}
 use Rattle.te_model.specs.Validity.{AscendByLink, IsValid, IsValidBlock, IsValidHead, block_at}
 use Rattle.te_model.proofs.ValidParts.{valid_parts}
-
-pub valid_without_blocks : (head : Head) → IsValidHead head → IsValid (record { head = head; blocks = [] })
-valid_without_blocks head valid =
-    (valid_parts (record { head = head; blocks = [] })).1 (record {
-      head = valid;
-      count = omega arith;
-      blocks = All-nil (IsValidBlock head);
-      ascending = λ k below. absurd (omega (arith, below));
-    })
 
 ascend_more : (blocks : List Block) (b : Block) (next : ℕ) → AscendByLink blocks → All (λ x. x.link < next) blocks → next ≤ b.link →
     AscendByLink (blocks ++ b ∷ [])

@@ -20,6 +20,7 @@ use Rattle.te_model.specs.Shape.{is_count, is_row_of, is_shaped_head, is_shaped_
 use Rattle.te_model.specs.Validity.{IsValid, fault_at, faults_from, has_ascending_paths, has_margin_numbers, has_pair_bounds, has_sound_paths, has_whole_weight, is_sound_pair, rules}
 use Rattle.te_model.proofs.PathRoutings.{path_routing}
 use Rattle.te_model.proofs.Tests.{all_from_tests, first_failing_none_at, first_some_none_at}
+use Rattle.te_model.proofs.ValidHeads.{few_in_format}
 use Rattle.te_model.proofs.Valid.{limits_small, rules_hold}
 use Rattle.te_model.proofs.ValidParts.{valid_parts}
 use Rattle.best_blocks.specs.Conditions.{AreBounds, IsRoutingWithin, IsSetWithin}
@@ -69,13 +70,6 @@ counts_of c valid =
     let shaped : is_shaped_network limits net ≡ true = (certificate_shape c valid).network in
     record { few_nodes = grind (arith, nat_tests); some_links = grind (arith, nat_tests); few_links = grind (arith, nat_tests) }
 
-paths_small : (format : ℕ) → (limits_of format).paths ≤ 32
-paths_small format = go (format == 2)
-  where
-    go : (b : Bool) → (cond b FORMAT_2 FORMAT_1).paths ≤ 32
-    go true = omega arith
-    go false = omega arith
-
 few_paths : (limits : Limits) (r : PairRoutes) → limits.paths ≤ 32 → is_shaped_pair limits r ≡ true → length r.paths ≤ 32
 few_paths limits r small shaped =
     let most : length r.paths ≤ limits.paths = grind (arith, nat_tests) in
@@ -103,7 +97,7 @@ routing_within c valid =
       ascending = λ k below. let is = sound (suc k) below in grind (arith, nat_tests);
       few = let most = shape.pairs in omega (arith, most, wide.2);
       few_paths = all_from_tests (is_shaped_pair (limits_of h.format)) (λ r. length r.paths ≤ 32)
-          (λ r is. few_paths (limits_of h.format) r (paths_small h.format) is) h.routes shape.routes;
+          (λ r is. few_paths (limits_of h.format) r (few_in_format h.format) is) h.routes shape.routes;
     }
 
 -- a row has its number of numbers

@@ -17,7 +17,7 @@ use Rattle.te_model.specs.Shape.{is_shaped_head}
 use Rattle.te_model.specs.Validity.{IsValidHead, fault_at, faults_from, paths_ascend}
 use Rattle.te_model.proofs.Tests.{and_true, first_some_none_at, first_failing_none_at, all_from_tests}
 use Rattle.te_model.proofs.Valid.{rules_hold, valid_limits}
-use Rattle.ratio_checker.proofs.MoreBlocks.{valid_without_blocks}
+use Rattle.te_model.proofs.ValidHeads.{valid_without_blocks}
 use Rattle.ratio_checker.proofs.SimplePaths.{simple_paths}
 use Rattle.ratio_witness.specs.declared.witness.Witness.{Witness}
 use Rattle.ratio_witness.specs.Judged.{CanJudge}

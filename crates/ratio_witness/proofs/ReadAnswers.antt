@@ -18,7 +18,7 @@ use Rattle.ratio_witness.specs.Reading.{SpellsWitness}
 use Rattle.ratio_witness.specs.Rules.{witness_fault, KeepsRules}
 use Rattle.ratio_witness.specs.Text.{is_shaped_witness, keep_witness, witness_due, witness_first, witness_lines, witness_text, IsWitnessOf, IsWitnessRuleFault}
 use Rattle.ratio_witness.proofs.Ending.{shaped_parts, witness_file}
-use Rattle.ratio_checker.proofs.MoreBlocks.{valid_without_blocks}
+use Rattle.te_model.proofs.ValidHeads.{valid_without_blocks}
 use Rattle.ratio_witness.proofs.Narrowing.{witness_fault_kept, witness_whole}
 use Rattle.ratio_witness.proofs.OneWitness.{one_witness}
 

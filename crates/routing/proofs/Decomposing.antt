@@ -24,6 +24,7 @@ use Rattle.te_model.proofs.Tests.{all_to_tests}
 use Rattle.routing.specs.Decomposition.{IsNumbering, IsAcyclicFlow, IsLowestPath, IsTakenOff, IsDecomposition}
 use Rattle.routing.specs.Split.{total_weight}
 use Rattle.te_model.proofs.Conditionals.{if_true, if_other}
+use Rattle.te_model.proofs.Conditionals.{if_split}
 use Rattle.routing.proofs.LowestPaths.{lowest_chains, lowest_distinct, lowest_flows, lowest_is_path, lowest_rises_more}
 
 -- less flow has the same numbering
@@ -77,10 +78,6 @@ worth_apart net flow left off worth apart =
     sum_below-same (link_count net) (λ h. flow h * worth h) (λ h. left h * worth h + off h * worth h)
     (λ h inside. ap (λ x. x * worth h) (apart h inside) ∙ omega arith)
     ∙ sum_below-add (link_count net) (λ h. left h * worth h) (λ h. off h * worth h)
-
-if_split : (b : Bool) (x y z : ℕ) → x ≡ y + z → (if b then x else 0) ≡ (if b then y else 0) + (if b then z else 0)
-if_split true x y z e = e
-if_split false x y z e = refl
 
 -- .. and at any node
 node_apart : (net : Network) (flow left off end' : ℕ → ℕ) (v : ℕ) → ((h : ℕ) → h < link_count net → flow h ≡ left h + off h) →

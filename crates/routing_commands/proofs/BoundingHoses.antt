@@ -15,7 +15,7 @@ use Rattle.hose_bound.proofs.Answered.{hose_text_is}
 use Rattle.hose_bound.proofs.Meaning.{hoses_have_one_meaning}
 use Rattle.hose_bound.proofs.ShortTexts.{hose_texts_are_short}
 use Rattle.hose_bound.proofs.SomeCert.{hose_certs_exist}
-use Rattle.update_plan.proofs.ValidHeads.{valid_routing}
+use Rattle.te_model.proofs.ValidHeads.{head_routing}
 use Rattle.witness_search.proofs.Heads.{head_pairs}
 use Rattle.command_frame.specs.Sound.{HasText, IsSound}
 use Rattle.command_frame.specs.Table.{IsSoundEntry}
@@ -54,7 +54,7 @@ hose_text_sound h hose valid = record {
 
 hose_text_of : (h : Head) (hose : Hose) → IsValidHead h → IsValidHose (node_count h.network) hose → HasText (bounding_of h hose)
 hose_text_of h hose valid kept =
-    let made = hose_certs_exist h.network h.routes hose (head_formed h valid) (valid_routing h valid) (head_pairs h valid) kept in
+    let made = hose_certs_exist h.network h.routes hose (head_formed h valid) (head_routing h valid) (head_pairs h valid) kept in
     (0, hose_cert_text made.0, (refl, hose_text_is h.network h.routes hose made.0 (head_pairs h valid) made.1))
 
 pub bound_hose_is_sound : (certificate bounds : List ℕ) → IsSoundEntry (bound_hose_entry certificate bounds)

@@ -6,7 +6,7 @@ use Rattle.te_model.specs.Validity.{IsValidHead}
 use Rattle.traffic_matrix.specs.First.{first_matrix}
 use Rattle.traffic_matrix.specs.Rows.{series_in}
 use Rattle.traffic_matrix.specs.declared.series.Series.{Series}
-use Rattle.update_plan.proofs.ValidHeads.{valid_routing}
+use Rattle.te_model.proofs.ValidHeads.{head_routing}
 use Rattle.fault_rates.specs.declared.plan.RatePlan.{RatePlan}
 use Rattle.fault_rates.specs.Answers.{verdict_by, IsRatesAnswer}
 use Rattle.fault_rates.specs.Plan.{protection_by}
@@ -41,7 +41,7 @@ rates_prove h pairs demand plan text (inl (routed, is)) =
 rates_prove h pairs demand plan text (inr (others, is)) = absurd (omega (arith, is.0))
 
 rates_text_of : (h : Head) (series : Series) (plan : RatePlan) → IsValidHead h → HasText (rate_verdict_on h series plan)
-rates_text_of h series plan valid = answers_exist.rates h series.pairs.list (first_matrix series).demand plan (valid_routing h valid)
+rates_text_of h series plan valid = answers_exist.rates h series.pairs.list (first_matrix series).demand plan (head_routing h valid)
 
 rates_sound : (h : Head) (series : Series) (plan : RatePlan) → IsValidHead h → IsSound (λ s text. s ≤ 1) (rate_verdict_on h series plan)
 rates_sound h series plan valid =

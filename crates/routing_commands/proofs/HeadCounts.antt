@@ -12,15 +12,8 @@ use Rattle.te_model.specs.Shape.{is_shaped_pair}
 use Rattle.te_model.specs.Validity.{IsValidHead}
 use Rattle.te_model.proofs.Tests.{all_from_tests}
 use Rattle.te_model.proofs.Valid.{valid_limits}
-use Rattle.ratio_checker.proofs.MoreBlocks.{valid_without_blocks}
+use Rattle.te_model.proofs.ValidHeads.{few_in_format, valid_without_blocks}
 use Rattle.routing.specs.Routes.{HasFewPaths}
-
-few_in_format : (format : ℕ) → (limits_of format).paths ≤ 32
-few_in_format format = go (format == 2)
-  where
-    go : (b : Bool) → (if b then FORMAT_2 else FORMAT_1).paths ≤ 32
-    go true = omega arith
-    go false = omega arith
 
 few_of : (limits : Limits) (r : PairRoutes) → is_shaped_pair limits r ≡ true → limits.paths ≤ 32 → length r.paths ≤ 32
 few_of limits r shaped most = grind (arith, nat_tests)

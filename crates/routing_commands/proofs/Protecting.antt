@@ -9,7 +9,7 @@ use Rattle.traffic_matrix.specs.Limits.{IsSeries}
 use Rattle.traffic_matrix.specs.Rows.{series_in}
 use Rattle.traffic_matrix.specs.declared.series.Series.{Series}
 use Rattle.traffic_matrix.proofs.FirstMatrix.{first_demands}
-use Rattle.update_plan.proofs.ValidHeads.{valid_routing}
+use Rattle.te_model.proofs.ValidHeads.{head_routing}
 use Rattle.ratio_checker.proofs.FormedHeads.{head_formed}
 use Rattle.fault_rates.specs.Answers.{IsProtectionAnswer, SaysNoPairs}
 use Rattle.fault_rates.specs.Plan.{protection_by}
@@ -64,7 +64,7 @@ status_once h pairs s t (inr p) (inl q) = absurd (p.1 q.1)
 status_once h pairs s t (inr p) (inr q) = p.0 ∙ sym q.0
 
 some_status : (h : Head) (pairs : List Pair) → IsValidHead h → (s : ℕ) × IsProtectionStatus h pairs s
-some_status h pairs valid = elim (answers_exist.routed h pairs (valid_routing h valid)) [
+some_status h pairs valid = elim (answers_exist.routed h pairs (head_routing h valid)) [
   | inl routed ↦ (0, inl (refl, routed))
   | inr others ↦ (1, inr (refl, others))
 ]
@@ -86,7 +86,7 @@ protect_sound h series failures valid =
 protect_text_of : (h : Head) (series : Series) (failures : ℕ) → IsValidHead h → IsSeries (node_count h.network) series → failures ≤ 8 →
     HasText (grants_for h series failures)
 protect_text_of h series failures valid is few =
-    answers_exist.demands h series.pairs.list (first_matrix series).demand failures (valid_routing h valid) (first_demands (node_count h.network) series is) few
+    answers_exist.demands h series.pairs.list (first_matrix series).demand failures (head_routing h valid) (first_demands (node_count h.network) series is) few
 
 pub protect_is_sound : (certificate file : List ℕ) (failures : ℕ) → IsSoundEntry (protect_entry certificate file failures)
 protect_is_sound certificate file failures = record {

@@ -9,7 +9,7 @@ use Rattle.traffic_matrix.specs.declared.series.Series.{Series}
 use Rattle.update_plan.specs.Answer.{IsUpdateText}
 use Rattle.update_plan.proofs.OneAnswer.{one_answer}
 use Rattle.update_plan.proofs.SomeAnswer.{some_answer}
-use Rattle.update_plan.proofs.ValidHeads.{valid_routing}
+use Rattle.te_model.proofs.ValidHeads.{head_routing}
 use Rattle.command_frame.specs.Sound.{HasText, IsSound}
 use Rattle.command_frame.specs.Table.{IsSoundEntry}
 use Rattle.command_files.specs.MatrixFile.{matrices_reason}
@@ -43,7 +43,7 @@ answer_proves old new pairs demand text (inr (inr (same, have, inr is))) = let o
 
 update_text_of : (old new : Head) (series : Series) → IsValidHead old → IsValidHead new → HasText (update_between old new series)
 update_text_of old new series valid valid' =
-    some_answer old new series.pairs.list (first_matrix series).demand (valid_routing old valid) (valid_routing new valid')
+    some_answer old new series.pairs.list (first_matrix series).demand (head_routing old valid) (head_routing new valid')
 
 update_sound : (old new : Head) (series : Series) → IsValidHead old → IsValidHead new →
     IsSound (λ s text. (s ≡ 1) ⊎ ((s ≡ 0) × IsTextOfPlan text)) (update_between old new series)

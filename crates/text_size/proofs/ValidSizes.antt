@@ -20,6 +20,7 @@ use Rattle.te_model.specs.Network.{node_count, link_count, no_link, is_name}
 use Rattle.te_model.specs.Path.{is_path, routes_at, source_of, destination_of, no_routes}
 use Rattle.te_model.specs.Shape.{is_shaped, is_shaped_path, is_shaped_pair, is_shaped_set, is_shaped_row, is_shaped_block, has_one_each}
 use Rattle.te_model.specs.Validity.{has_margin_numbers, has_pair_bounds, is_small, has_block_numbers, has_small_numbers, IsValid}
+use Rattle.te_model.proofs.ValidHeads.{block_link}
 use Rattle.te_model.proofs.Tests.{and_true, all_from_tests}
 use Rattle.te_model.proofs.Chains.{path_links}
 use Rattle.te_model.proofs.FileLimits.{file_limits}
@@ -145,9 +146,6 @@ shaped_block limits h b shaped = record {
 small_rows : (net : Network) (b : Block) → has_small_numbers net b ≡ true →
     list_all (λ r. nat_lt r.source (node_count net) && list_all is_small r.potential) b.rows ≡ true
 small_rows net b small = grind (arith, nat_tests)
-
-block_link : (net : Network) (b : Block) → has_block_numbers net b ≡ true → b.link < link_count net
-block_link net b numbers = grind (arith, nat_tests)
 
 short_block : (limits : Limits) (h : Head) → node_count h.network ≤ limits.nodes → link_count h.network ≤ limits.links → length h.routes ≤ limits.pairs →
     (b : Block) → is_shaped_block limits h b ≡ true → has_block_numbers h.network b ≡ true → has_small_numbers h.network b ≡ true → IsShortBlock limits b

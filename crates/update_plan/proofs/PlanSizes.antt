@@ -30,7 +30,8 @@ use Rattle.update_plan.specs.Paths.{ArePaths, AreSideBySide}
 use Rattle.update_plan.specs.Text.{path_line, plan_lines, plan_text}
 use Rattle.update_plan.proofs.OneList.{few_paths}
 use Rattle.update_plan.proofs.PlanPaths.{of_split, own_paths, split_at}
-use Rattle.update_plan.proofs.ValidHeads.{valid_alone, valid_routing}
+use Rattle.te_model.proofs.ValidHeads.{valid_without_blocks}
+use Rattle.te_model.proofs.ValidHeads.{head_routing}
 
 -- a routing within the counts of the formats
 record HasFewNumbers (routes : List PairRoutes) : Type 0 where
@@ -58,7 +59,7 @@ valid_few : (head : Head) → IsValidHead head → HasFewNumbers head.routes
 valid_few head valid =
     let limits = limits_of head.format in
     let most = few_each head.format in
-    let small = valid_limits (record { head = head; blocks = [] }) (valid_alone head valid) in
+    let small = valid_limits (record { head = head; blocks = [] }) (valid_without_blocks head valid) in
     let all_shaped : list_all (is_shaped_pair (limits_of head.format)) head.routes ≡ true = let shaped = valid.shaped in grind (arith, nat_tests) in
     let shaped : (p : ℕ) → p < length head.routes → is_shaped_pair (limits_of head.format) (routes_at head.routes p) ≡ true = λ p below.
     all_from_tests (is_shaped_pair limits) (λ q. is_shaped_pair limits q ≡ true) (λ q e. e) head.routes all_shaped p no_routes below
@@ -184,10 +185,10 @@ plan_size plan steps count short =
 pub plan_texts_are_short : PlanTextsAreShort
 plan_texts_are_short old new demand plan valid valid' nets same (are, least) =
     let net = old.network in
-    let links = valid_limits (record { head = old; blocks = [] }) (valid_alone old valid) in
-    let routing = subst (λ n. IsPathRouting n new.routes) (sym nets) (valid_routing new valid') in
+    let links = valid_limits (record { head = old; blocks = [] }) (valid_without_blocks old valid) in
+    let routing = subst (λ n. IsPathRouting n new.routes) (sym nets) (head_routing new valid') in
     let few = valid_few old valid in
-    let (short, count) = first_short net old.routes new.routes (valid_routing old valid) routing same (omega (arith, links.links)) few (valid_few new valid')
+    let (short, count) = first_short net old.routes new.routes (head_routing old valid) routing same (omega (arith, links.links)) few (valid_few new valid')
     (length old.routes) plan.paths (omega arith) are
     in
     omega (arith, plan_size plan least.few (omega (arith, count, few.pairs)) short)

@@ -27,13 +27,13 @@ use Rattle.te_model.specs.PathRouting.{IsPathSplit}
 use Rattle.te_model.specs.Validity.{fault_at, paths_ascend, rule_fault}
 use Rattle.te_model.proofs.Searches.{first_below_none}
 use Rattle.te_model.proofs.Tests.{all_to_tests}
+use Rattle.te_model.proofs.Chains.{chain_some}
 use Rattle.routing.specs.Routes.{IsRoutingOf}
 use Rattle.routing.proofs.Splits.{split_some}
 use Rattle.ratio_witness.specs.declared.witness.Witness.{Witness}
 use Rattle.witness_search.specs.Attempts.{pairs_of}
 use Rattle.witness_search.specs.Candidates.{paths_by}
 use Rattle.ratio_witness.specs.Rules.{demand_of, has_bound, has_scale, has_small_demand, has_sound_rival, has_whole_rival, is_carried, rival_paths, KeepsRules}
-use Rattle.witness_search.proofs.Heads.{chain_some}
 use Rattle.ratio_witness.proofs.KeptRules.{Kept}
 
 -- where each rule holds, none fails

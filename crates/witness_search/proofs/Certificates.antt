@@ -20,17 +20,6 @@ use Rattle.worst_matrices.specs.Usage.{HasSmallBounds}
 pub certificate_head : (c : Certificate) → IsValid c → IsValidHead c.head
 certificate_head c valid = ((valid_parts c).0 valid).head
 
--- its routing is a path routing
-pub certificate_routing : (c : Certificate) → IsValid c → IsPathRouting c.head.network c.head.routes
-certificate_routing c valid =
-    let pairs = length c.head.routes in
-    let at : (k : ℕ) → get_or (faults_from 1 (rules c)) k None ≡ None = λ k. first_some_none_at (faults_from 1 (rules c)) k valid.1 in
-    (path_routing c.head).0 (λ p below. (
-      first_failing_none_at pairs (has_sound_paths c.head) (fault_at 4) p (at 3) below,
-      first_failing_none_at pairs (has_ascending_paths c.head) (fault_at 5) p (at 4) below,
-      first_failing_none_at pairs (has_whole_weight c.head) (fault_at 6) p (at 5) below,
-    ))
-
 -- its bounds and its blocks have numbers within their limits
 pub certificate_bounds : (c : Certificate) → IsValid c → HasSmallBounds c.head.set
 certificate_bounds c valid p = let limits = valid_limits c valid in (limits.lower p, limits.upper p)

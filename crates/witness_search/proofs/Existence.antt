@@ -17,7 +17,7 @@ use Rattle.routing.specs.Routes.{HasFewPaths, IsRoutingOf}
 use Rattle.ratio_witness.specs.declared.witness.Witness.{Witness}
 use Rattle.ratio_witness.specs.Text.{witness_text}
 use Rattle.ratio_witness.specs.Verdict.{ratio_shown}
-use Rattle.ratio_checker.proofs.MoreBlocks.{valid_without_blocks}
+use Rattle.te_model.proofs.ValidHeads.{valid_without_blocks}
 use Rattle.witness_search.specs.declared.attempt.Attempt.{Attempt}
 use Rattle.witness_search.specs.declared.attempt.Tried.{Tried}
 use Rattle.witness_search.specs.Attempts.{CanTry, GivesBest, IsAttempt, IsDone, RoutesBy, pairs_of}

@@ -14,7 +14,7 @@ use Rattle.ratio_checker.proofs.SimplePaths.{simple_paths}
 use Rattle.witness_search.proofs.Heads.{ends_carry, head_apart, head_pairs, head_path}
 use Rattle.witness_search.proofs.LinkSums.{head_links_small}
 use Rattle.witness_search.proofs.PairLimits.{limit_holds}
-use Rattle.ratio_checker.proofs.MoreBlocks.{valid_without_blocks}
+use Rattle.te_model.proofs.ValidHeads.{valid_without_blocks}
 use Rattle.ratio_checker.proofs.FormedHeads.{head_links}
 
 pub limit_is : (h : Head) (p limit : ℕ) → IsValidHead h → p < length h.routes → IsRouteLimit h.network (routes_at h.routes p) limit → IsLimit h p limit

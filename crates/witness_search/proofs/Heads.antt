@@ -24,7 +24,8 @@ use Rattle.scheme.specs.Reach.{AllReached, ArePairsOf}
 use Rattle.witness_search.specs.Attempts.{pairs_of}
 use Rattle.shortest_path.specs.Paths.{HasPath}
 use Rattle.ratio_witness.specs.Witness.{capacity_from, capacity_into}
-use Rattle.ratio_checker.proofs.MoreBlocks.{valid_without_blocks}
+use Rattle.te_model.proofs.ValidHeads.{valid_without_blocks}
+use Rattle.te_model.proofs.Chains.{chain_some}
 use Rattle.witness_search.proofs.PairLimits.{some_from, some_into}
 
 -- the set of a head that can be written
@@ -72,11 +73,6 @@ first_path : (net : Network) (s t : ℕ) (paths : List PathShare) → list_all (
     (links : List ℕ) × (is_path net s t links ≡ true)
 first_path net s t [] all sum = absurd (omega (arith, sum))
 first_path net s t (q ∷ qs) all sum = (q.links, (and_parts (is_path net s t q.links) (list_all (λ r. is_path net s t r.links) qs) all).0)
-
--- a chain between two nodes has a link
-pub chain_some : (net : Network) (s t : ℕ) (links : List ℕ) → (s ≡ t → ⊥) → chains net s t links ≡ true → 1 ≤ length links
-chain_some net s t [] apart chain = absurd (apart (eqb-true s t chain))
-chain_some net s t (h ∷ hs) apart chain = omega arith
 
 pub head_path : (h : Head) → IsValidHead h → (p : ℕ) → p < length h.routes → HasPath h.network (source_of h.routes p) (destination_of h.routes p)
 head_path h valid p below =

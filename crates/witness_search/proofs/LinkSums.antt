@@ -9,7 +9,7 @@ use Rattle.te_model.specs.Validity.{IsValidHead}
 use Rattle.te_model.proofs.Sums.{sum_below-bound}
 use Rattle.te_model.proofs.Valid.{valid_limits}
 use Rattle.witness_search.specs.RouteLimits.{HasSmallLinks}
-use Rattle.ratio_checker.proofs.MoreBlocks.{valid_without_blocks}
+use Rattle.te_model.proofs.ValidHeads.{valid_without_blocks}
 
 -- what the first n of the links that pass carry together
 abbrev pub capacities_where : Network → (ℕ → Bool) → ℕ → ℕ

@@ -25,7 +25,7 @@ use Rattle.ratio_witness.specs.Verdict.{ratio_shown}
 use Rattle.witness_search.proofs.Attempted.{routed_kept, same_ends, same_length, shaped_split}
 use Rattle.witness_search.proofs.Heads.{head_apart, head_pairs}
 use Rattle.ratio_checker.proofs.FormedHeads.{head_links}
-use Rattle.ratio_checker.proofs.MoreBlocks.{valid_without_blocks}
+use Rattle.te_model.proofs.ValidHeads.{valid_without_blocks}
 
 -- the witness of bound 0
 abbrev pub witness_tried : Tried → List (List PathShare) → Witness

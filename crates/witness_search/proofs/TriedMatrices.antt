@@ -24,7 +24,7 @@ use Rattle.witness_search.specs.Candidates.{alone, base_tried, bound_tried, boun
 use Rattle.ratio_witness.specs.Verdict.{is_in_set}
 use Rattle.witness_search.proofs.BestSoFar.{all_tried}
 use Rattle.witness_search.proofs.Heads.{shaped_set}
-use Rattle.ratio_checker.proofs.MoreBlocks.{valid_without_blocks}
+use Rattle.te_model.proofs.ValidHeads.{valid_without_blocks}
 use Rattle.witness_search.proofs.TriedYes.{base_in_set, lower_in_set, upper_in_set}
 
 -- ---- what can be tried

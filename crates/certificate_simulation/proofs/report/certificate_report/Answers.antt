@@ -1,6 +1,7 @@
 use Rattle.ratio_checker.proofs.FormedHeads.{head_formed}
 use Rattle.routing.proofs.Splits.{splits_of}
-use Rattle.certificate_simulation.proofs.HeadPairs.{head_few, head_routes_pairs, head_routing, routed_in_range}
+use Rattle.certificate_simulation.proofs.HeadPairs.{head_few, head_routes_pairs, routed_in_range}
+use Rattle.te_model.proofs.ValidHeads.{head_routing}
 use Rattle.certificate_simulation.proofs.report.certificate_report.Goals as goal
 
 pub invariant_of-routing : goal.invariant_of-routing

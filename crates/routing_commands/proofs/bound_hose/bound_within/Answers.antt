@@ -1,4 +1,4 @@
-use Rattle.update_plan.proofs.ValidHeads.{valid_routing}
+use Rattle.te_model.proofs.ValidHeads.{head_routing}
 use Rattle.witness_search.proofs.Heads.{head_pairs}
 use Rattle.routing_commands.proofs.HeadCounts.{head_has_few_pairs}
 use Rattle.ratio_checker.proofs.FormedHeads.{head_formed}
@@ -8,7 +8,7 @@ pub hose_text-requires-clause-network : goal.hose_text-requires-clause-network
 hose_text-requires-clause-network c = head_formed c.args.head c.requires.head
 
 pub hose_text-requires-clause-routing : goal.hose_text-requires-clause-routing
-hose_text-requires-clause-routing c = valid_routing c.args.head c.requires.head
+hose_text-requires-clause-routing c = head_routing c.args.head c.requires.head
 
 pub hose_text-requires-clause-pairs : goal.hose_text-requires-clause-pairs
 hose_text-requires-clause-pairs c = head_pairs c.args.head c.requires.head

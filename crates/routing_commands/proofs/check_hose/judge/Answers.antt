@@ -1,4 +1,4 @@
-use Rattle.update_plan.proofs.ValidHeads.{valid_routing}
+use Rattle.te_model.proofs.ValidHeads.{head_routing}
 use Rattle.witness_search.proofs.Heads.{head_pairs}
 use Rattle.routing_commands.proofs.CheckingHoses.{hose_small}
 use Rattle.ratio_checker.proofs.FormedHeads.{head_formed}
@@ -8,7 +8,7 @@ pub check_hose_text-requires-clause-network : goal.check_hose_text-requires-clau
 check_hose_text-requires-clause-network c = head_formed c.args.head.now c.requires.head
 
 pub check_hose_text-requires-clause-routing : goal.check_hose_text-requires-clause-routing
-check_hose_text-requires-clause-routing c = valid_routing c.args.head.now c.requires.head
+check_hose_text-requires-clause-routing c = head_routing c.args.head.now c.requires.head
 
 pub check_hose_text-requires-clause-pairs : goal.check_hose_text-requires-clause-pairs
 check_hose_text-requires-clause-pairs c = head_pairs c.args.head.now c.requires.head

@@ -3,7 +3,7 @@ use Rattle.te_model.specs.declared.demand.Matrix.{Matrix}
 use Rattle.te_model.specs.Network.{node_count}
 use Rattle.te_model.specs.Pairs.{AreDemands}
 use Rattle.traffic_matrix.proofs.FirstMatrix.{first_demands}
-use Rattle.update_plan.proofs.ValidHeads.{valid_routing}
+use Rattle.te_model.proofs.ValidHeads.{head_routing}
 use Rattle.ratio_checker.proofs.FormedHeads.{head_formed}
 use Rattle.routing_commands.proofs.CheckingRates.{rates_small}
 use Rattle.routing_commands.proofs.HeadCounts.{head_has_few_pairs, head_has_few_paths}
@@ -13,7 +13,7 @@ pub check_rates_text-requires-clause-network : goal.check_rates_text-requires-cl
 check_rates_text-requires-clause-network c = head_formed c.args.head.now c.requires.head
 
 pub check_rates_text-requires-clause-routing : goal.check_rates_text-requires-clause-routing
-check_rates_text-requires-clause-routing c = valid_routing c.args.head.now c.requires.head
+check_rates_text-requires-clause-routing c = head_routing c.args.head.now c.requires.head
 
 pub check_rates_text-requires-clause-few : goal.check_rates_text-requires-clause-few
 check_rates_text-requires-clause-few c = head_has_few_paths c.args.head.now c.requires.head

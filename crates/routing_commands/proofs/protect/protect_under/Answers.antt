@@ -3,7 +3,7 @@ use Rattle.te_model.specs.declared.demand.Matrix.{Matrix}
 use Rattle.te_model.specs.Network.{node_count}
 use Rattle.te_model.specs.Pairs.{AreDemands}
 use Rattle.traffic_matrix.proofs.FirstMatrix.{first_demands}
-use Rattle.update_plan.proofs.ValidHeads.{valid_routing}
+use Rattle.te_model.proofs.ValidHeads.{head_routing}
 use Rattle.ratio_checker.proofs.FormedHeads.{head_formed}
 use Rattle.routing_commands.proofs.HeadCounts.{head_has_few_pairs, head_has_few_paths}
 use Rattle.routing_commands.proofs.Protecting.{protection_small}
@@ -13,7 +13,7 @@ pub protect_text-requires-clause-network : goal.protect_text-requires-clause-net
 protect_text-requires-clause-network c = head_formed c.args.head.now c.requires.head
 
 pub protect_text-requires-clause-routing : goal.protect_text-requires-clause-routing
-protect_text-requires-clause-routing c = valid_routing c.args.head.now c.requires.head
+protect_text-requires-clause-routing c = head_routing c.args.head.now c.requires.head
 
 pub protect_text-requires-clause-few : goal.protect_text-requires-clause-few
 protect_text-requires-clause-few c = head_has_few_paths c.args.head.now c.requires.head

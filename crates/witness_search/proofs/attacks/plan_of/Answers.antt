@@ -5,7 +5,7 @@ use Rattle.te_model.proofs.Valid.{valid_limits}
 use Rattle.scheme.specs.Reach.{AllReached, ArePairsOf}
 use Rattle.witness_search.proofs.Heads.{head_pairs_of, head_reached}
 use Rattle.ratio_checker.proofs.FormedHeads.{head_formed}
-use Rattle.ratio_checker.proofs.MoreBlocks.{valid_without_blocks}
+use Rattle.te_model.proofs.ValidHeads.{valid_without_blocks}
 use Rattle.witness_search.proofs.attacks.plan_of.Goals as goal
 
 pub plan_with-requires-clause-network : goal.plan_with-requires-clause-network
