@@ -294,7 +294,7 @@ unfolding read_number
 number_stops n s k e = number_from_stops n s k e
 
 -- digits and letters are on one line
-digits_ends : (ds : List ℕ) → all_ascii_digits ds ≡ true → line_ends ds ≡ 0
+pub digits_ends : (ds : List ℕ) → all_ascii_digits ds ≡ true → line_ends ds ≡ 0
 digits_ends [] all = refl
 digits_ends (d ∷ ds) all =
     let parts = and_parts (is_ascii_digit d) (all_ascii_digits ds) all in

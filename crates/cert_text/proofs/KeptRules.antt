@@ -30,13 +30,13 @@ use Rattle.cert_text.specs.Kept.{keep_link, keep_network, keep_path, keep_pair, 
 use Rattle.cert_text.specs.Fits.{FitsFormat}
 
 -- what a field of 32 bits holds at most
-abbrev widest : ℕ
+abbrev pub widest : ℕ
 widest = 2 ^ 32 - 1
 
 -- ---- numbers
 
 -- a number up to the widest is kept as it is
-kept_whole : (n : ℕ) → n ≤ widest → narrow_number n ≡ n
+pub kept_whole : (n : ℕ) → n ≤ widest → narrow_number n ≡ n
 kept_whole n le = omega arith
 
 kept_wide : (n : ℕ) → widest ≤ n → narrow_number n ≡ widest
@@ -73,7 +73,7 @@ and_same true b c e = e refl
 and_same false b c e = refl
 
 -- what a test is, where the parts that bound some numbers decide
-bounded_same : (a b c d : Bool) → a ≡ b → (b ≡ true → c ≡ d) → (a && c) ≡ (b && d)
+pub bounded_same : (a b c d : Bool) → a ≡ b → (b ≡ true → c ≡ d) → (a && c) ≡ (b && d)
 bounded_same a b c d e f = ap (λ (x : Bool). x && c) e ∙ and_same b c d f
 
 kept_upto : (n m : ℕ) → m < widest → leb (narrow_number n) m ≡ leb n m
@@ -109,7 +109,7 @@ list_all_same p q same [] = refl
 list_all_same p q same (x ∷ xs) = rw (same x, list_all_same p q same xs) refl
 
 -- what changes no item changes no list
-map_whole : {X : Type 0} (f : X → X) (xs : List X) (d : X) → ((k : ℕ) → k < length xs → f (get_or xs k d) ≡ get_or xs k d) → map f xs ≡ xs
+pub map_whole : {X : Type 0} (f : X → X) (xs : List X) (d : X) → ((k : ℕ) → k < length xs → f (get_or xs k d) ≡ get_or xs k d) → map f xs ≡ xs
 map_whole f [] d each = refl
 map_whole f (x ∷ xs) d each = rw (each 0 (omega arith), map_whole f xs d (λ k lt. each (suc k) (omega arith))) refl
 
@@ -204,7 +204,7 @@ pair_whole h p le sound =
 
 -- ---- paths
 
-chains_kept : (net : Network) (t : ℕ) → link_count net ≤ widest → (hs : List ℕ) (s : ℕ) → chains net s t (map narrow_number hs) ≡ chains net s t hs
+pub chains_kept : (net : Network) (t : ℕ) → link_count net ≤ widest → (hs : List ℕ) (s : ℕ) → chains net s t (map narrow_number hs) ≡ chains net s t hs
 chains_kept net t le [] s = refl
 chains_kept net t le (h ∷ hs) s = elim (cases_lt h widest) [
   | inl lt ↦
@@ -217,7 +217,7 @@ chains_kept net t le (h ∷ hs) s = elim (cases_lt h widest) [
     past : (k : ℕ) (rest : List ℕ) → link_count net ≤ k → (ltb k (link_count net) && eqb (tail_of net k) s && chains net (head_of net k) t rest) ≡ false
     past k rest above = let no : ltb k (link_count net) ≡ false = not_below k (link_count net) above in rw no refl
 
-chained_whole : (net : Network) (t : ℕ) → link_count net ≤ widest → (hs : List ℕ) (s : ℕ) → chains net s t hs ≡ true → map narrow_number hs ≡ hs
+pub chained_whole : (net : Network) (t : ℕ) → link_count net ≤ widest → (hs : List ℕ) (s : ℕ) → chains net s t hs ≡ true → map narrow_number hs ≡ hs
 chained_whole net t le [] s e = refl
 chained_whole net t le (h ∷ hs) s e =
     let f = and_true (ltb h (link_count net) && eqb (tail_of net h) s) (chains net (head_of net h) t hs) e in
@@ -225,7 +225,7 @@ chained_whole net t le (h ∷ hs) s e =
     let low : h < link_count net = ltb-true h (link_count net) g.0 in
     rw (kept_whole h (omega arith), chained_whole net t le hs (head_of net h) f.1) refl
 
-path_test_kept : (net : Network) (s t : ℕ) (hs : List ℕ) → link_count net ≤ widest → is_path net s t (map narrow_number hs) ≡ is_path net s t hs
+pub path_test_kept : (net : Network) (s t : ℕ) (hs : List ℕ) → link_count net ≤ widest → is_path net s t (map narrow_number hs) ≡ is_path net s t hs
 path_test_kept net s t hs le =
     bounded_same (chains net s t (map narrow_number hs)) (chains net s t hs) (is_distinct (nodes_visited net s (map narrow_number hs))) (is_distinct (nodes_visited net s hs)) (chains_kept net t le hs s)
     (λ chained. ap (λ (ks : List ℕ). is_distinct (nodes_visited net s ks)) (chained_whole net t le hs s chained))

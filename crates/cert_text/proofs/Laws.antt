@@ -139,7 +139,7 @@ stop_is_fault bytes k fault =
     }
 
 -- the bytes up to the end of line j
-cut : (front : List ℕ) (j : ℕ) → j ≤ line_ends front → (u : List ℕ) × (v : List ℕ) × (front ≡ u ++ v) × (line_ends u ≡ j)
+pub cut : (front : List ℕ) (j : ℕ) → j ≤ line_ends front → (u : List ℕ) × (v : List ℕ) × (front ≡ u ++ v) × (line_ends u ≡ j)
 cut [] j le = ([], [], refl, omega arith)
 cut (b ∷ bs) zero le = ([], b ∷ bs, refl, refl)
 cut (b ∷ bs) (suc j) le = chosen (eqb b 10) refl le (λ h. cut bs j h) (λ h. cut bs (suc j) h)

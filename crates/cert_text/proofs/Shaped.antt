@@ -43,10 +43,10 @@ word_of n e = ltb-true n (2 ^ 64) e
 test_word : (n : ℕ) → IsWord n → is_word n ≡ true
 test_word n small = lt-ltb n (2 ^ 64) small
 
-words_of : (ns : List ℕ) → are_words ns ≡ true → AreWords ns
+pub words_of : (ns : List ℕ) → are_words ns ≡ true → AreWords ns
 words_of ns e = all_of is_word IsWord word_of ns e
 
-test_words : (ns : List ℕ) → AreWords ns → are_words ns ≡ true
+pub test_words : (ns : List ℕ) → AreWords ns → are_words ns ≡ true
 test_words ns all = test_all is_word IsWord test_word ns all
 
 list_of : (n : ℕ) (ns : List ℕ) → is_row_of n ns ≡ true → FitsList n ns

@@ -12,7 +12,8 @@ use Rattle.te_model.proofs.Tests.{and_true, and_three}
 use Rattle.number_tables.specs.declared.line.NumLine.{NumLine}
 use Rattle.number_tables.specs.Due.{Due, AreDue, AreFile, CanEnd}
 use Rattle.number_tables.specs.Table.{AreLines}
-use Rattle.ratio_witness.proofs.TakenLines.{are_words_of}
+use Rattle.cert_text.proofs.Shaped.{test_words, words_of}
+use Rattle.ratio_witness.proofs.Ending.{zero_words}
 use Rattle.hose_bound.specs.declared.hose.Hose.{Hose}
 use Rattle.hose_bound.specs.declared.hose.HoseBlock.{HoseBlock}
 use Rattle.hose_bound.specs.declared.hose.HoseCert.{HoseCert}
@@ -21,18 +22,14 @@ use Rattle.hose_bound.specs.Files.{hose_lines, hose_block_lines, hose_cert_lines
 
 -- ---- numbers of 64 bits, by test and as a fact
 
-pub words_are : (ns : List ℕ) → are_words ns ≡ true → AreWords ns
-words_are [] all = tt
-words_are (n ∷ ns) all = let both = and_true (is_word n) (are_words ns) all in (ltb-true _ _ both.0, words_are ns both.1)
-
 pub row_count : (n : ℕ) (ns : List ℕ) → is_row_of n ns ≡ true → has_count n ns ≡ true
 row_count n ns is = (and_true (length ns == n) (are_words ns) is).0
 
 pub row_words : (n : ℕ) (ns : List ℕ) → is_row_of n ns ≡ true → AreWords ns
-row_words n ns is = words_are ns (and_true (length ns == n) (are_words ns) is).1
+row_words n ns is = words_of ns (and_true (length ns == n) (are_words ns) is).1
 
 pub row_from : (n : ℕ) (ns : List ℕ) → has_count n ns ≡ true → AreWords ns → is_row_of n ns ≡ true
-row_from n ns count all = and_from (length ns == n) (are_words ns) count (are_words_of ns all)
+row_from n ns count all = and_from (length ns == n) (are_words ns) count (test_words ns all)
 
 -- a line of one number
 pub single : (ns : List ℕ) → has_count 1 ns ≡ true → ns ≡ slice_index ns 0 ∷ []
@@ -156,30 +153,26 @@ of_cert_lines nodes (s ∷ r ∷ u ∷ k ∷ ls) al is =
 zeros_count : (n : ℕ) → has_count n (replicate n 0) ≡ true
 zeros_count n = eq-eqb _ _ (length-replicate n 0)
 
-zeros_words : (n : ℕ) → AreWords (replicate n 0)
-zeros_words zero = tt
-zeros_words (suc n) = (omega arith, zeros_words n)
-
 hose_can : (nodes : ℕ) (next : Due) → CanEnd next → CanEnd (hose_then nodes next)
 hose_can nodes next can = (
-  (replicate nodes 0, record { begun = refl; numbers = zeros_words nodes }, zeros_count nodes),
-  λ ns is. ((replicate nodes 0, record { begun = refl; numbers = zeros_words nodes }, zeros_count nodes), λ ms it. can),
+  (replicate nodes 0, record { begun = refl; numbers = zero_words nodes }, zeros_count nodes),
+  λ ns is. ((replicate nodes 0, record { begun = refl; numbers = zero_words nodes }, zeros_count nodes), λ ms it. can),
 )
 
 blocks_can : (nodes c : ℕ) → CanEnd (blocks_due nodes c)
 blocks_can nodes zero = tt
 blocks_can nodes (suc c) = (
-  (0 ∷ [], record { begun = refl; numbers = zeros_words 1 }, refl),
+  (0 ∷ [], record { begun = refl; numbers = zero_words 1 }, refl),
   λ ns is. (
-    (replicate nodes 0, record { begun = refl; numbers = zeros_words nodes }, zeros_count nodes),
-    λ ts it. ((replicate nodes 0, record { begun = refl; numbers = zeros_words nodes }, zeros_count nodes), λ hs ih. blocks_can nodes c),
+    (replicate nodes 0, record { begun = refl; numbers = zero_words nodes }, zeros_count nodes),
+    λ ts it. ((replicate nodes 0, record { begun = refl; numbers = zero_words nodes }, zeros_count nodes), λ hs ih. blocks_can nodes c),
   ),
 )
 
 bound_can : (nodes : ℕ) → CanEnd (bound_then_blocks nodes)
 bound_can nodes = (
-  (0 ∷ [], record { begun = refl; numbers = zeros_words 1 }, refl),
-  λ ns is. ((0 ∷ [], record { begun = refl; numbers = zeros_words 1 }, refl), λ ms im. blocks_can nodes (slice_index ms 0)),
+  (0 ∷ [], record { begun = refl; numbers = zero_words 1 }, refl),
+  λ ns is. ((0 ∷ [], record { begun = refl; numbers = zero_words 1 }, refl), λ ms im. blocks_can nodes (slice_index ms 0)),
 )
 
 pub files_have_forms : FilesHaveForms

@@ -6,6 +6,7 @@ use Rattle.std.proofs.lemmas.List.Concat.{flat_map-append}
 use Rattle.std.specs.List.{AllByRecursion}
 use Rattle.te_model.specs.Faults.{line_ends, BeginsOne, LeavesAt}
 use Rattle.cert_text.proofs.Completable.{ends_append}
+use Rattle.cert_text.proofs.Laws.{cut}
 use Rattle.number_tables.specs.Table.{file_of}
 use Rattle.number_tables.specs.Leaving.{LeavesAfter}
 
@@ -174,19 +175,6 @@ module _ {X : Type 0} (IsOne : X → Type 0) (lines_of : X → List (List ℕ)) 
       }
 
 -- ---- there is one such line
-
--- the bytes up to the end of line j
-cut : (front : List ℕ) (j : ℕ) → j ≤ line_ends front → (u : List ℕ) × (v : List ℕ) × (front ≡ u ++ v) × (line_ends u ≡ j)
-cut [] j le = ([], [], refl, omega arith)
-cut (b ∷ bs) zero le = ([], b ∷ bs, refl, refl)
-cut (b ∷ bs) (suc j) le = chosen (eqb b 10) refl le (λ h. cut bs j h) (λ h. cut bs (suc j) h)
-  where
-    chosen : (t : Bool) → eqb b 10 ≡ t → suc j ≤ cond t (suc (line_ends bs)) (line_ends bs)
-        → (j ≤ line_ends bs → (u : List ℕ) × (v : List ℕ) × (bs ≡ u ++ v) × (line_ends u ≡ j))
-        → (suc j ≤ line_ends bs → (u : List ℕ) × (v : List ℕ) × (bs ≡ u ++ v) × (line_ends u ≡ suc j))
-        → (u : List ℕ) × (v : List ℕ) × ((b ∷ bs) ≡ u ++ v) × (line_ends u ≡ suc j)
-    chosen true is le here later = let c = here (omega arith) in (b ∷ c.0, c.1, ap (λ (x : List ℕ). b ∷ x) c.2, rw is (ap suc c.3))
-    chosen false is le here later = let c = later le in (b ∷ c.0, c.1, ap (λ (x : List ℕ). b ∷ x) c.2, rw is c.3)
 
 module _ {X : Type 0} (IsOne : X → Type 0) (text_of : X → List ℕ) (bytes : List ℕ) where
   -- texts that share lines share fewer

@@ -22,6 +22,7 @@ use Rattle.cert_text.proofs.Completable.{ends_append}
 use Rattle.cert_text.proofs.Decimals.{own, bind_ok, where_ok, ok_is, number_takes, number_again, name_takes, name_again, begins_with_digit, begins_with_letter}
 use Rattle.cert_text.proofs.Productions.{joined, spaced_stop}
 use Rattle.cert_text.proofs.Tokens.{next_number_takes, next_number_again, line_end_takes, many_takes}
+use Rattle.cert_text.proofs.Completable.{digits_ends}
 use Rattle.number_tables.specs.declared.line.NumLine.{NumLine}
 use Rattle.number_tables.specs.Reading.{spaces_in_line, read_word_token, read_last, read_numbers_line, read_word_line, read_line}
 use Rattle.number_tables.specs.Table.{is_letter, is_word, IsLine, line_text}
@@ -46,14 +47,6 @@ spaces_are (x ∷ xs) r words =
 
 -- ---- no line feed in a line
 
-digits_end_none : (ds : List ℕ) → all_ascii_digits ds ≡ true → line_ends ds ≡ 0
-digits_end_none [] all = refl
-digits_end_none (d ∷ ds) all =
-    let parts = and_parts (is_ascii_digit d) (all_ascii_digits ds) all in
-    let digit = parts.0 in
-    let no_end : eqb d 10 ≡ false = grind (arith, nat_tests) in
-    rw no_end (digits_end_none ds parts.1)
-
 letters_end_none : (w : List ℕ) → list_all is_letter w ≡ true → line_ends w ≡ 0
 letters_end_none [] all = refl
 letters_end_none (b ∷ bs) all =
@@ -66,7 +59,7 @@ spaced_end_none : (xs : List ℕ) → AreWords xs → line_ends (flat_map with_s
 spaced_end_none [] words = refl
 spaced_end_none (x ∷ xs) words =
     ends_append (decimal x) (flat_map with_space xs)
-    ∙ rw (digits_end_none (decimal x) (digits_decimal own x words.0), spaced_end_none xs words.1) refl
+    ∙ rw (digits_ends (decimal x) (digits_decimal own x words.0), spaced_end_none xs words.1) refl
 
 -- ---- numbers to the end of the line
 
@@ -317,7 +310,7 @@ line_is_one l is = by_parts l.word l.numbers is
     by_parts [] [] is = absurd (let b = is.begun in cc)
     by_parts [] (x ∷ xs) is =
         ap line_ends (joined (decimal x) xs) ∙ ends_append (decimal x) (flat_map with_space xs)
-        ∙ both_none (line_ends (decimal x)) (line_ends (flat_map with_space xs)) (digits_end_none (decimal x) (digits_decimal own x is.numbers.0)) (spaced_end_none xs is.numbers.1)
+        ∙ both_none (line_ends (decimal x)) (line_ends (flat_map with_space xs)) (digits_ends (decimal x) (digits_decimal own x is.numbers.0)) (spaced_end_none xs is.numbers.1)
     by_parts (b ∷ w) xs is =
         let some = one_more_letter b w in
         let word : is_word (b ∷ w) ≡ true = rw some at is.begun in

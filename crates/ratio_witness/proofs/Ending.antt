@@ -8,6 +8,7 @@ use Rattle.te_model.specs.declared.limits.TheConstants.{FORMAT_2}
 use Rattle.te_model.specs.declared.route.PathShare.{PathShare}
 use Rattle.te_model.specs.Shape.{are_words, is_count, is_row_of, is_shaped_path, is_word}
 use Rattle.cert_text.specs.Fits.{AreWords}
+use Rattle.cert_text.proofs.Shaped.{words_of}
 use Rattle.number_tables.specs.declared.line.NumLine.{NumLine}
 use Rattle.number_tables.specs.Due.{Due, done, AreFile, CanEnd, has_count, one_later, first_undue, word_line}
 use Rattle.number_tables.specs.Table.{AreLines, IsLine}
@@ -18,7 +19,7 @@ use Rattle.ratio_witness.proofs.FirstUndue.{later, later_none, due_first, due_pa
 
 -- ---- each file can be ended
 
-zero_words : (n : ℕ) → AreWords (replicate n 0)
+pub zero_words : (n : ℕ) → AreWords (replicate n 0)
 zero_words zero = tt
 zero_words (suc n) = (omega arith, zero_words n)
 
@@ -47,10 +48,6 @@ witness_can pairs = (
 )
 
 -- ---- the lines of a witness that can be written
-
-words_of : (ns : List ℕ) → are_words ns ≡ true → AreWords ns
-words_of [] is = tt
-words_of (n ∷ ns) is = let both = and_parts (is_word n) (are_words ns) is in (ltb-true n (2 ^ 64) both.0, words_of ns both.1)
 
 pub lines_append : (xs ys : List NumLine) → AreLines xs → AreLines ys → AreLines (xs ++ ys)
 lines_append [] ys ax ay = ay

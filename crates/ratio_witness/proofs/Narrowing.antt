@@ -1,70 +1,26 @@
 -- A link number that is too wide for its field is refused by the same rule, at the same pair, as the greatest number that the
 -- field holds.
-use Rattle.std.proofs.Common.{◌≡◌, ℕ, suc, ◌-◌, ◌^◌, ◌<◌, ◌≤◌, Bool, true, false, ◌&&◌, ◌||◌, List, [], ◌∷◌, length, map, get_or, slice_index, Option, refl, sym, ap, ◌∙◌, arith, inl, inr, nat_lt, nat_le, ◌==◌, sum, sum_by}
+use Rattle.std.proofs.Common.{◌≡◌, ℕ, ◌-◌, ◌^◌, ◌≤◌, Bool, true, ◌&&◌, ◌||◌, List, [], ◌∷◌, length, map, slice_index, Option, refl, sym, ap, ◌∙◌, arith, nat_le, ◌==◌, sum, sum_by}
 use Rattle.std.specs.List.{list_all}
 use Rattle.std.proofs.Math.ListN.{get_or-map}
-use Rattle.std.proofs.lemmas.Bool.{cases_lt, ltb-true, and_parts}
-use Rattle.std.proofs.lemmas.Bool.Decides.{nat_tests}
+use Rattle.std.proofs.lemmas.Bool.{and_parts}
 use Rattle.std.proofs.lemmas.List.{length-map}
 use Rattle.std.proofs.lemmas.List.Sums.{sum-map}
 use Rattle.te_model.specs.declared.certificate.Head.{Head}
 use Rattle.te_model.specs.declared.certificate.RuleFault.{RuleFault}
 use Rattle.te_model.specs.declared.network.Network.{Network}
 use Rattle.te_model.specs.declared.route.PathShare.{PathShare}
-use Rattle.te_model.specs.Network.{link_count, tail_of, head_of}
+use Rattle.te_model.specs.Network.{link_count}
 use Rattle.te_model.specs.Path.{chains, is_distinct, is_path, nodes_visited, source_of, destination_of}
 use Rattle.te_model.specs.Counting.{first_some, unless}
 use Rattle.te_model.specs.Validity.{fault_at, paths_ascend, rule_fault}
 use Rattle.te_model.proofs.Searches.{first_below-same}
-use Rattle.cert_text.specs.Reading.{narrow_number}
 use Rattle.cert_text.specs.Kept.{keep_path}
+use Rattle.cert_text.proofs.KeptRules.{bounded_same, chained_whole, map_whole, path_test_kept, widest}
 use Rattle.ratio_witness.specs.declared.witness.Witness.{Witness}
 use Rattle.ratio_witness.specs.Rules.{has_bound, has_scale, has_small_demand, has_sound_rival, has_whole_rival, is_carried, rival_paths, witness_fault, KeepsRules}
 use Rattle.ratio_witness.specs.Text.{keep_witness}
 use Rattle.ratio_witness.proofs.KeptRules.{rules_kept}
-
--- what a field of 32 bits holds at most
-abbrev pub widest : ℕ
-widest = 2 ^ 32 - 1
-
-kept_whole : (n : ℕ) → n ≤ widest → narrow_number n ≡ n
-kept_whole n le = omega arith
-
-past : (net : Network) (s t k : ℕ) (rest : List ℕ) → link_count net ≤ k → chains net s t (k ∷ rest) ≡ false
-past net s t k rest above = let no : nat_lt k (link_count net) ≡ false = not_below k (link_count net) above in rw no refl
-  where
-    not_below : (a b : ℕ) → b ≤ a → nat_lt a b ≡ false
-    not_below a b le = grind (arith, nat_tests)
-
-chains_kept : (net : Network) (t : ℕ) → link_count net ≤ widest → (hs : List ℕ) (s : ℕ) → chains net s t (map narrow_number hs) ≡ chains net s t hs
-chains_kept net t le [] s = refl
-chains_kept net t le (h ∷ hs) s = elim (cases_lt h widest) [
-  | inl lt ↦
-      ap (λ (k : ℕ). nat_lt k (link_count net) && tail_of net k == s && chains net (head_of net k) t (map narrow_number hs)) (kept_whole h (omega arith))
-      ∙ ap (λ (b : Bool). nat_lt h (link_count net) && tail_of net h == s && b) (chains_kept net t le hs (head_of net h))
-  | inr ge ↦ past net s t (narrow_number h) (map narrow_number hs) (omega arith) ∙ sym (past net s t h hs (omega arith))
-]
-
-chained_whole : (net : Network) (t : ℕ) → link_count net ≤ widest → (hs : List ℕ) (s : ℕ) → chains net s t hs ≡ true → map narrow_number hs ≡ hs
-chained_whole net t le [] s e = refl
-chained_whole net t le (h ∷ hs) s e =
-    let f = and_parts (nat_lt h (link_count net) && tail_of net h == s) (chains net (head_of net h) t hs) e in
-    let g = and_parts (nat_lt h (link_count net)) (tail_of net h == s) f.0 in
-    let low : h < link_count net = ltb-true h (link_count net) g.0 in
-    rw (kept_whole h (omega arith), chained_whole net t le hs (head_of net h) f.1) refl
-
--- where the first part decides, the second matters only where the first holds
-and_same : (a b c d : Bool) → a ≡ b → (b ≡ true → c ≡ d) → (a && c) ≡ (b && d)
-and_same a b c d e f = ap (λ (x : Bool). x && c) e ∙ go b f
-  where
-    go : (b : Bool) → (b ≡ true → c ≡ d) → (b && c) ≡ (b && d)
-    go true f = f refl
-    go false f = refl
-
-path_test_kept : (net : Network) (s t : ℕ) (hs : List ℕ) → link_count net ≤ widest → is_path net s t (map narrow_number hs) ≡ is_path net s t hs
-path_test_kept net s t hs le =
-    and_same (chains net s t (map narrow_number hs)) (chains net s t hs) (is_distinct (nodes_visited net s (map narrow_number hs))) (is_distinct (nodes_visited net s hs))
-    (chains_kept net t le hs s) (λ chained. ap (λ (ks : List ℕ). is_distinct (nodes_visited net s ks)) (chained_whole net t le hs s chained))
 
 path_whole : (net : Network) (s t : ℕ) (path : PathShare) → link_count net ≤ widest → is_path net s t path.links ≡ true → keep_path path ≡ path
 path_whole net s t path le is =
@@ -88,7 +44,7 @@ sound_kept : (net : Network) (s t : ℕ) (paths : List PathShare) → link_count
     (list_all (λ q. is_path net s t q.links) (map keep_path paths) && paths_ascend (map keep_path paths))
     ≡ (list_all (λ q. is_path net s t q.links) paths && paths_ascend paths)
 sound_kept net s t paths le =
-    and_same (list_all (λ q. is_path net s t q.links) (map keep_path paths)) (list_all (λ q. is_path net s t q.links) paths) (paths_ascend (map keep_path paths)) (paths_ascend paths)
+    bounded_same (list_all (λ q. is_path net s t q.links) (map keep_path paths)) (list_all (λ q. is_path net s t q.links) paths) (paths_ascend (map keep_path paths)) (paths_ascend paths)
     (paths_test_kept net s t paths le) (λ all. ap paths_ascend (paths_whole net s t paths le all))
 
 -- weights are kept, and how many paths there are
@@ -144,11 +100,6 @@ witness_fault_kept h w le =
     (rule_same 5 n (has_sound_rival h (keep_witness w)) (has_sound_rival h w) (λ p. sound_rival_kept h w p le))
     ∙ ap (λ (o : Option RuleFault). first_some (one ∷ two ∷ three ∷ rule_fault 4 n (is_carried w) ∷ five ∷ o ∷ []))
     (rule_same 6 n (has_whole_rival (keep_witness w)) (has_whole_rival w) (whole_kept w))
-
--- what changes no item changes no list
-map_whole : {X : Type 0} (f : X → X) (xs : List X) (d : X) → ((k : ℕ) → k < length xs → f (get_or xs k d) ≡ get_or xs k d) → map f xs ≡ xs
-map_whole f [] d each = refl
-map_whole f (x ∷ xs) d each = rw (each 0 (omega arith), map_whole f xs d (λ k lt. each (suc k) (omega arith))) refl
 
 -- of a witness that keeps its rules all is kept
 pub witness_whole : (h : Head) (w : Witness) → link_count h.network ≤ widest → length w.rival ≡ length h.routes → KeepsRules h w → keep_witness w ≡ w

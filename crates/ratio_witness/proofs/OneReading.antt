@@ -20,7 +20,7 @@ use Rattle.ratio_witness.specs.Text.{are_shaped_paths, is_path_count, is_path_li
 use Rattle.ratio_witness.proofs.Ending.{witness_can, witness_file}
 use Rattle.ratio_witness.proofs.OneWitness.{one_witness}
 use Rattle.ratio_witness.proofs.SpelledLines.{shaped_all}
-use Rattle.ratio_witness.proofs.TakenLines.{are_words_of}
+use Rattle.cert_text.proofs.Shaped.{test_words}
 
 -- the bytes are the file of this witness of the head
 abbrev pub SpellsOf : Head → List ℕ → Witness → Type 0
@@ -89,7 +89,7 @@ path_of_numbers (a ∷ c ∷ links) words is =
     let hops : is_count 1 FORMAT_2.hops (length links) ≡ true = ap (is_count 1 FORMAT_2.hops) (sym same) ∙ both.0 in
     let weight = and_from (is_word a) (is_count 1 FORMAT_2.hops (length links)) (lt-ltb a (2 ^ 64) words.0) hops in (
       record { links = links; weight = a },
-      and_from (is_word a && is_count 1 FORMAT_2.hops (length links)) (are_words links) weight (are_words_of links words.1.1),
+      and_from (is_word a && is_count 1 FORMAT_2.hops (length links)) (are_words links) weight (test_words links words.1.1),
       ap (λ n. a ∷ n ∷ links) same,
     )
 

@@ -20,7 +20,7 @@ use Rattle.ratio_witness.specs.Reading.{BeginsWithRival, BeginsWithWitness, Leav
 use Rattle.ratio_witness.specs.Text.{are_shaped_paths, demand_due, is_shaped_witness, keep_witness, pair_lines, pairs_due, scale_due, witness_due, witness_first, witness_lines}
 use Rattle.ratio_witness.proofs.FirstUndue.{later, later_some, due_pairs}
 use Rattle.ratio_witness.proofs.Ending.{witness_can}
-use Rattle.ratio_witness.proofs.TakenLines.{are_words_of}
+use Rattle.cert_text.proofs.Shaped.{test_words}
 
 -- a line with one number, and one with so many
 abbrev pub TakesNumber : List ℕ → Result ℕ TableFault → DueLines → DueLines → List NumLine → Type 0
@@ -170,7 +170,7 @@ shaped_all n w words count pairs rival =
     let a = lt-ltb w.bound (2 ^ 64) words.0.0 in
     let b = lt-ltb w.x (2 ^ 64) words.1.0 in
     let c = lt-ltb w.y (2 ^ 64) words.1.1.0 in
-    let d = and_from (length w.demand.demand == n) (are_words w.demand.demand) count (are_words_of w.demand.demand words.2) in
+    let d = and_from (length w.demand.demand == n) (are_words w.demand.demand) count (test_words w.demand.demand words.2) in
     let ab = and_from (is_word w.bound) (is_word w.x) a b in
     let abc = and_from (is_word w.bound && is_word w.x) (is_word w.y) ab c in
     let abcd = and_from (is_word w.bound && is_word w.x && is_word w.y) (is_row_of n w.demand.demand) abc d in

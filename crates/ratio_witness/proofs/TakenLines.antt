@@ -11,6 +11,7 @@ use Rattle.te_model.specs.Shape.{are_words, is_count, is_shaped_path, is_word}
 use Rattle.cert_text.specs.Fits.{AreWords}
 use Rattle.cert_text.specs.Kept.{keep_path}
 use Rattle.cert_text.specs.Reading.{narrow_number}
+use Rattle.cert_text.proofs.Shaped.{test_words}
 use Rattle.number_tables.specs.declared.due.DueLines.{DueLines}
 use Rattle.number_tables.specs.declared.fault.TableFault.{TableFault}
 use Rattle.number_tables.specs.declared.fault.TableFault.TheVariants as tables
@@ -60,10 +61,6 @@ path_numbers [] e = absurd (omega (arith, e))
 path_numbers (a ∷ []) e = absurd (omega (arith, e))
 path_numbers (a ∷ b ∷ ns) e = ap (λ n. a ∷ n ∷ ns) (omega (arith, e))
 
-pub are_words_of : (ns : List ℕ) → AreWords ns → are_words ns ≡ true
-are_words_of [] all = refl
-are_words_of (n ∷ ns) all = and_from (is_word n) (are_words ns) (lt-ltb n (2 ^ 64) all.0) (are_words_of ns all.1)
-
 -- the path of these numbers
 abbrev path_of : List ℕ → PathShare
 path_of ns = record { links = drop 2 ns; weight = slice_index ns 0 }
@@ -77,7 +74,7 @@ path_shaped (a ∷ b ∷ ns) is words =
     let same : b ≡ length ns = omega (arith, e) in
     and_from (is_word a && is_count 1 FORMAT_2.hops (length ns)) (are_words ns)
     (and_from (is_word a) (is_count 1 FORMAT_2.hops (length ns)) (lt-ltb a (2 ^ 64) words.0) (ap (is_count 1 FORMAT_2.hops) (sym same) ∙ both.0))
-    (are_words_of ns words.1.1)
+    (test_words ns words.1.1)
 
 -- the numbers of the first of these lines of a table
 first_words : (ls more : List NumLine) (numbers : List ℕ) → AreLines ls → ls ≡ word_line [] numbers ∷ more → AreWords numbers
