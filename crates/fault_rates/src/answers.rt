@@ -1,5 +1,5 @@
 //! What is answered of a certificate's routing and the demands of declared pairs: the status, and the whole text.
-ghost use Rattle.std.specs.Prelude.{◌≡◌, ◌↔◌, ◌≤◌, length, map, IfOk, IsTrue, string_bytes};
+ghost use Rattle.std.specs.Prelude.{◌≡◌, ◌≤◌, length, IfOk, IsTrue, string_bytes};
 ghost use Rattle.te_model.specs.declared.limits.TheConstants.{FORMAT_2};
 ghost use Rattle.te_model.specs.Network.{is_well_formed};
 ghost use Rattle.te_model.specs.PathRouting.{IsPathRouting};
@@ -11,23 +11,9 @@ use crate::maker::made_rates;
 use crate::plan::RatePlan;
 use crate::verdict::{RateVerdict, verdict_on};
 use crate::writer::print;
+use routing::have_pairs;
 use std::alloc::Global;
-use te_model::{Head, Matrix, Memory, Pair, PairRoutes, Pairs};
-
-// Whether the routes are of these pairs, in order.
-fn have_pairs(routes: &[PairRoutes], pairs: &[Pair]) -> bool
-    ensures { IsTrue result ↔ (map (λ r. r.pair) routes.now ≡ pairs.now) }
-{
-    if routes.len() != pairs.len() {
-        return false;
-    }
-    for p in 0..pairs.len() {
-        if routes[p].pair != pairs[p] {
-            return false;
-        }
-    }
-    true
-}
+use te_model::{Head, Matrix, Memory, Pairs};
 
 // The answer where the declared pairs are others.
 fn no_pairs(alloc: Global) -> Result<(u8, Vec<u8>), Memory>

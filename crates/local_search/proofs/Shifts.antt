@@ -10,19 +10,9 @@ use Rattle.std.proofs.lemmas.Bool.{cases_lt}
 use Rattle.te_model.specs.declared.route.PathShare.{PathShare}
 use Rattle.routing.specs.Merge.{HasLinks, IsMerge, links_at, no_path, path_at, weight_where}
 use Rattle.routing.specs.Split.{total_weight}
+use Rattle.routing.proofs.Merged.{some_path}
 use Rattle.local_search.specs.Moves.{IsShift}
 use Rattle.local_search.specs.Shifting.{IsLessened}
-
--- where some weight passes the test, the links of some path do
-some_path : (test : List ℕ → Bool) (xs : List PathShare) → 1 ≤ weight_where test xs → (k : ℕ) × (k < length xs) × (test (links_at xs k) ≡ true)
-some_path test [] some = absurd (omega arith)
-some_path test (x ∷ xs) some =
-    go (test x.links) refl (some_path test xs) (subst (λ n. 1 ≤ n) (sum_by-cons (λ s. if test s.links then s.weight else 0) x xs) some)
-  where
-    go : (b : Bool) → test x.links ≡ b → (1 ≤ weight_where test xs → (k : ℕ) × (k < length xs) × (test (links_at xs k) ≡ true)) →
-        1 ≤ (if b then x.weight else 0) + weight_where test xs → (k : ℕ) × (k < length (x ∷ xs)) × (test (links_at (x ∷ xs) k) ≡ true)
-    go true is later some = (0, omega arith, is)
-    go false is later some = let (k, below, at) = later (omega (arith, some)) in (suc k, omega (arith, below), at)
 
 -- a path whose links pass the test has its weight among those that pass
 path_weight : (test : List ℕ → Bool) (xs : List PathShare) (k : ℕ) → k < length xs → All (λ s. 1 ≤ s.weight) xs → test (links_at xs k) ≡ true →

@@ -30,10 +30,6 @@ candidates_few k net pairs routes by = λ p d below.
     let (order, least, mix) = by.by_rule p d below in
     omega (arith, even_few order _ mix, least.few)
 
--- no more paths than a limit are no more than a greater one
-pub few_more : (few many : ℕ) (routes : List PairRoutes) → few ≤ many → HasFewPaths few routes → HasFewPaths many routes
-few_more few many routes within is = λ p d below. omega (arith, within, is p d below)
-
 -- the paths of two routings of the same pairs are no more than both limits together
 pub few_together : (net : Network) (pairs : List Pair) (first k : ℕ) (start candidates : List PairRoutes) →
     IsRoutingOf net pairs start → HasFewPaths first start → IsRoutingBy (IsEvenSplit k) 32 net pairs candidates →

@@ -21,7 +21,8 @@ use Rattle.mcf_lengths.specs.declared.round.FlowRound.{FlowRound}
 use Rattle.mcf_lengths.specs.declared.round.TheConstants.{ROUNDS}
 use Rattle.mcf_lengths.specs.Laws.{BalancedRoutingsExist, FlowPlansExist}
 use Rattle.mcf_lengths.specs.Rounds.{AreLeastPaths, IsRoundsRouting, IsRoundsSplit, paths_of_round, round_paths_of_pair}
-use Rattle.mcf_lengths.proofs.Balancing.{few_more, few_together, pairs_join_nodes}
+use Rattle.mcf_lengths.proofs.Balancing.{few_together, pairs_join_nodes}
+use Rattle.routing.proofs.FewPaths.{few_more}
 use Rattle.mcf_lengths.proofs.Lengthening.{round_paths}
 use Rattle.mcf_lengths.proofs.RoundsMade.{rounds_exist}
 use Rattle.mcf_lengths.proofs.Splitting.{pair_paths, rounds_split, sound_paths}

@@ -10,7 +10,7 @@ use Rattle.scheme.proofs.Existence.{least_splits_exist, routings_by_rules_exist}
 use Rattle.robust_routing.specs.Laws.{RobustPlansExist}
 use Rattle.robust_routing.specs.Robust.{ways_of}
 use Rattle.robust_routing.specs.Weights.{AreLinkWeights, AreWeightsOfLinks}
-use Rattle.robust_routing.proofs.Ways.{few_of_more}
+use Rattle.routing.proofs.FewPaths.{few_more}
 
 one_at : (n h : ℕ) → h < length (replicate {A = ℕ} n 1) → slice_index (replicate n 1) h ≡ 1
 one_at n h below = get_or-replicate n h 1 0 (omega (arith, below, length-replicate {A = ℕ} n 1))
@@ -36,5 +36,5 @@ pub robust_plans_exist : RobustPlansExist
 robust_plans_exist net formed pairs are reached asked =
     let (routes, by) = routings_by_rules_exist IsLeastSplit 1 net (least_splits_exist net formed) pairs are reached in (
       record { routing = record { routes = routes; splits = splits_of net routes by.routing.splits }; weights = replicate (link_count net) (replicate (link_count net) 1) },
-      record { routing = by.routing; few = few_of_more 1 (ways_of asked) routes (omega arith) by.few; weights = ones_of_links net },
+      record { routing = by.routing; few = few_more 1 (ways_of asked) routes (omega arith) by.few; weights = ones_of_links net },
     )

@@ -4,9 +4,11 @@ use Rattle.std.specs.Prelude.{remove}
 use Rattle.std.proofs.lemmas.Bool.{and_parts, cases_eq, cases_lt}
 use Rattle.std.proofs.lemmas.List.Edits.{length-remove, get_or-remove_below, get_or-remove_above}
 use Rattle.te_model.specs.declared.route.PathShare.{PathShare}
+use Rattle.te_model.specs.declared.route.PairRoutes.{PairRoutes}
 use Rattle.te_model.specs.Validity.{list_below, paths_ascend}
 use Rattle.te_model.proofs.ListOrder.{list_below-irrefl, list_below-trans}
 use Rattle.routing.specs.Merge.{HasLinks, links_at, no_path}
+use Rattle.routing.specs.Routes.{HasFewPaths}
 
 -- the first of ascending paths comes before each other one
 first_below : (x : PathShare) (xs : List PathShare) (k : ℕ) → paths_ascend (x ∷ xs) ≡ true → k < length xs → list_below x.links (links_at xs k) ≡ true
@@ -16,7 +18,7 @@ first_below x (y ∷ ys) (suc k) asc below =
     let both = and_parts (list_below x.links y.links) (paths_ascend (y ∷ ys)) asc in
     list_below-trans x.links y.links (links_at ys k) both.0 (first_below y ys k both.1 (omega arith))
 
-tail_ascends : (x : PathShare) (xs : List PathShare) → paths_ascend (x ∷ xs) ≡ true → paths_ascend xs ≡ true
+pub tail_ascends : (x : PathShare) (xs : List PathShare) → paths_ascend (x ∷ xs) ≡ true → paths_ascend xs ≡ true
 tail_ascends x [] asc = refl
 tail_ascends x (y ∷ ys) asc = (and_parts (list_below x.links y.links) (paths_ascend (y ∷ ys)) asc).1
 
@@ -46,3 +48,7 @@ few_among (x ∷ xs) ys asc among =
     list_below-irrefl x.links (subst (λ l. list_below x.links l ≡ true) (is ∙ (sym same ∙ at)) (first_below x xs k asc below))))
     in
     omega (arith, rest, length-remove ys j inside)
+
+-- no more paths than a limit are no more than a greater one
+pub few_more : (few many : ℕ) (routes : List PairRoutes) → few ≤ many → HasFewPaths few routes → HasFewPaths many routes
+few_more few many routes within is = λ p d below. omega (arith, within, is p d below)

@@ -2,6 +2,7 @@
 //!
 //! - `Routing`: its shares, its loads (of one link, or of all in one pass) and greatest utilisation.
 //! - `Shares`: for each link the pairs that have a share on it.
+//! - `have_pairs`: whether routes are of given pairs.
 //! - `merge`: equal paths taken together. `normalize`: weights scaled to the unit.
 //! - `even_mix`: the unit in even parts over paths, equal ones taken together.
 //! - `cut_loops`: a walk without its loops.
@@ -17,6 +18,7 @@ mod loops;
 mod merging;
 mod normal;
 mod order;
+mod pairs;
 mod routes;
 mod shares;
 
@@ -30,5 +32,6 @@ pub use loops::cut_loops;
 pub use merging::merge;
 pub use normal::normalize;
 pub use order::is_list_below;
+pub use pairs::have_pairs;
 pub use routes::Routing;
 pub use shares::{PairShare, Shares};

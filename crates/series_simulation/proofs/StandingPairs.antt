@@ -9,7 +9,7 @@ use Rattle.std.proofs.lemmas.List.Kept.{AllPairs-filter}
 use Rattle.te_model.specs.declared.route.Pair.{Pair}
 use Rattle.te_model.specs.declared.route.PairRoutes.{PairRoutes}
 use Rattle.te_model.specs.Pairs.{AscendPairs}
-use Rattle.te_model.proofs.AscendingPairs.{Below, all_ascend}
+use Rattle.te_model.proofs.AscendingPairs.{Below, all_ascend, below_differ}
 use Rattle.routing.specs.Routes.{AreDemands}
 use Rattle.local_recovery.specs.Rates.{pairs_of}
 use Rattle.local_recovery.specs.Recovery.{scaled_routes}
@@ -32,10 +32,6 @@ not_true : (b : Bool) → (b ≡ true → ⊥) → b ≡ false
 not_true true never = absurd (never refl)
 not_true false never = refl
 
-apart_of : (p q : Pair) → Below p q → p.src ≡ q.src → p.dst ≡ q.dst → ⊥
-apart_of p q (inl less) src dst = omega (arith, less, src)
-apart_of p q (inr both) src dst = omega (arith, both.1, dst)
-
 -- a pair is not that of routes of a pair above it or below it
 other_pair : (p : Pair) (r : PairRoutes) → Below p r.pair ⊎ Below r.pair p → is_pair_of p r ≡ false
 unfolding is_pair_of
@@ -44,7 +40,7 @@ other_pair p r apart =
     let parts = and_parts (r.pair.src == p.src) (r.pair.dst == p.dst) is in
     let src : r.pair.src ≡ p.src = eqb-true r.pair.src p.src parts.0 in
     let dst : r.pair.dst ≡ p.dst = eqb-true r.pair.dst p.dst parts.1 in
-    elim apart [ inl less ↦ apart_of p r.pair less (sym src) (sym dst) | inr more ↦ apart_of r.pair p more src dst ])
+    elim apart [ inl less ↦ below_differ p r.pair less (sym src) (sym dst) | inr more ↦ below_differ r.pair p more src dst ])
 
 none_among : (p : Pair) (routes : List PairRoutes) → All (λ (r : PairRoutes). Below p r.pair) routes → is_among routes p ≡ false
 unfolding is_among

@@ -19,6 +19,7 @@ use Rattle.routing.specs.Split.{total_weight}
 use Rattle.routing.proofs.Ascending.{ascending_at, ascending_from}
 use Rattle.routing.proofs.OwnPaths.{has_inside}
 use Rattle.routing.proofs.Normalizing.{length-normalized, links_at-normalized, positive-normalized, some_weight, total-normalized}
+use Rattle.routing.proofs.FewPaths.{tail_ascends}
 use Rattle.local_recovery.specs.Rates.{pairs_of}
 use Rattle.local_recovery.specs.Recovery.{is_clear, is_marked, scaled_routes}
 use Rattle.local_recovery.proofs.Rescaling.{filter_small, normalized_paths}
@@ -34,10 +35,6 @@ first_below p (q ∷ ps) asc =
     (All-weaker (λ (r : PathShare). list_below q.links r.links ≡ true) (λ (r : PathShare). list_below p.links r.links ≡ true)
     (λ r is. list_below-trans p.links q.links r.links parts.0 is) ps (first_below q ps parts.1))
 
-rest_ascends : (p : PathShare) (ps : List PathShare) → paths_ascend (p ∷ ps) ≡ true → paths_ascend ps ≡ true
-rest_ascends p [] asc = refl
-rest_ascends p (q ∷ ps) asc = (and_parts (list_below p.links q.links) (paths_ascend (q ∷ ps)) asc).1
-
 first_more : (p : PathShare) (ps : List PathShare) → All (λ (q : PathShare). list_below p.links q.links ≡ true) ps → paths_ascend ps ≡ true → paths_ascend (p ∷ ps) ≡ true
 first_more p [] below asc = refl
 first_more p (q ∷ ps) below asc =
@@ -47,7 +44,7 @@ first_more p (q ∷ ps) below asc =
 kept_ascend : (test : PathShare → Bool) (paths : List PathShare) → paths_ascend paths ≡ true → paths_ascend (filter test paths) ≡ true
 kept_ascend test [] asc = refl
 kept_ascend test (p ∷ ps) asc =
-    go (test p) (All-filter test (λ (q : PathShare). list_below p.links q.links ≡ true) ps (first_below p ps asc)) (kept_ascend test ps (rest_ascends p ps asc))
+    go (test p) (All-filter test (λ (q : PathShare). list_below p.links q.links ≡ true) ps (first_below p ps asc)) (kept_ascend test ps (tail_ascends p ps asc))
   where
     go : (b : Bool) → All (λ (q : PathShare). list_below p.links q.links ≡ true) (filter test ps) → paths_ascend (filter test ps) ≡ true →
         paths_ascend (if b then p ∷ filter test ps else filter test ps) ≡ true

@@ -2,13 +2,11 @@
 use Rattle.std.proofs.Common.{◌≡◌, ℕ, ◌+◌, Bool, List, [], ◌∷◌, ◌++◌, append_assoc, slice_index, ap, sym, ◌∙◌}
 use Rattle.std.specs.Prelude.{decimal, fold}
 use Rattle.std.specs.List.{flat_map, join_with_byte, range_with_len}
-use Rattle.std.proofs.lemmas.List.{flat_map_more}
 use Rattle.te_model.specs.declared.network.Network.{Network}
 use Rattle.te_model.specs.declared.route.PathShare.{PathShare}
 use Rattle.te_model.specs.Marks.{is_marked}
 use Rattle.te_model.specs.Network.{capacity_of, head_of, name_at, tail_of}
 use Rattle.te_model.specs.Text.{numbers}
-use Rattle.te_model.proofs.Lists.{range-more}
 use Rattle.cert_text.specs.Pieces.{with_space}
 use Rattle.cert_text.proofs.Productions.{joined as numbers_joined}
 use Rattle.series_simulation.specs.Simulation.{utilisation_on}
@@ -20,11 +18,6 @@ use Rattle.step_detail.specs.Paths.{weighted_path_line}
 pub line_put : (text word : List ℕ) (fields : List (List ℕ)) →
     fold after (text ++ word) fields ++ 10 ∷ [] ≡ text ++ (join_with_byte 44 (word ∷ fields) ++ 10 ∷ [])
 line_put text word fields = ap (λ (u : List ℕ). u ++ 10 ∷ []) (joined text word fields) ∙ append_assoc text (join_with_byte 44 (word ∷ fields)) (10 ∷ [])
-
--- the lines of one number more
-pub lines_more : (before : List ℕ) (f : ℕ → List ℕ) (k : ℕ) →
-    (before ++ flat_map f (range_with_len 0 k)) ++ f k ≡ before ++ flat_map f (range_with_len 0 (k + 1))
-lines_more before f k = flat_map_more f before (range_with_len 0 k) k ∙ ap (λ (ks : List ℕ). before ++ flat_map f ks) (sym (range-more k))
 
 -- a line of a link, from its fields
 pub link_put : (net : Network) (failed : List Bool) (asked carried word : List ℕ) (e : ℕ) (text source target answer : List ℕ)

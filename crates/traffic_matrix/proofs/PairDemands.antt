@@ -13,8 +13,9 @@ use Rattle.traffic_matrix.specs.Pairs.{begins_with, same_pair}
 use Rattle.traffic_matrix.specs.declared.series.Series.{Series}
 use Rattle.traffic_matrix.specs.Text.{no_matrix}
 use Rattle.traffic_matrix.specs.Traffic.{demand_for, matrix_over}
-use Rattle.traffic_matrix.proofs.PairLists.{below-differ}
+use Rattle.te_model.proofs.AscendingPairs.{below_differ}
 use Rattle.traffic_matrix.proofs.TableLemmas.{pair-parts, same-pair}
+use Rattle.traffic_matrix.proofs.PairLists.{tail-ascends}
 
 -- the demands of the pairs, one after another: that of the next own pair where it is the pair, and else 0
 abbrev pub joined : List Pair → List Pair → List ℕ → List ℕ
@@ -22,10 +23,10 @@ joined [] own demand = []
 joined (p ∷ ps) own demand = cond (begins_with own p) (get_or demand 0 0 ∷ joined ps (drop 1 own) (drop 1 demand)) (0 ∷ joined ps own demand)
 
 apart-after : (p q : Pair) → Below p q → same_pair p q ≡ false
-apart-after p q less = false_from_ne_true (same_pair p q) (λ h. let (s, d) = pair-parts p q h in below-differ p q less s d)
+apart-after p q less = false_from_ne_true (same_pair p q) (λ h. let (s, d) = pair-parts p q h in below_differ p q less s d)
 
 apart-before : (p q : Pair) → Below p q → same_pair q p ≡ false
-apart-before p q less = false_from_ne_true (same_pair q p) (λ h. let (s, d) = pair-parts q p h in below-differ p q less (sym s) (sym d))
+apart-before p q less = false_from_ne_true (same_pair q p) (λ h. let (s, d) = pair-parts q p h in below_differ p q less (sym s) (sym d))
 
 begins-not : (p : Pair) (own : List Pair) → All (Below p) own → begins_with own p ≡ false
 begins-not p [] after = refl
@@ -59,15 +60,12 @@ own-demand p own (d ∷ ds) = rw (same-pair p p refl refl) refl
 after-first : (p : Pair) (ps : List Pair) → AllPairs Below (p ∷ ps) → All (Below p) ps
 after-first p ps ascend k d low = ascend 0 (suc k) d (omega arith) (omega arith)
 
-rest-ascends : (p : Pair) (ps : List Pair) → AllPairs Below (p ∷ ps) → AllPairs Below ps
-rest-ascends p ps ascend i j d less low = ascend (suc i) (suc j) d (omega arith) (omega arith)
-
 -- so are the demands of all of the pairs
 pub joined-is : (test : Pair → Bool) (pairs : List Pair) (demand : List ℕ) → AllPairs Below pairs →
     joined pairs (filter test pairs) demand ≡ map (demand_for (filter test pairs) demand) pairs
 joined-is test [] demand ascend = refl
 joined-is test (p ∷ ps) demand ascend =
-    go (test p) (joined-is test ps (drop 1 demand) (rest-ascends p ps ascend)) (joined-is test ps demand (rest-ascends p ps ascend))
+    go (test p) (joined-is test ps (drop 1 demand) (tail-ascends p ps ascend)) (joined-is test ps demand (tail-ascends p ps ascend))
   where
     go : (b : Bool) → joined ps (filter test ps) (drop 1 demand) ≡ map (demand_for (filter test ps) (drop 1 demand)) ps →
         joined ps (filter test ps) demand ≡ map (demand_for (filter test ps) demand) ps →
@@ -137,7 +135,7 @@ own-only (p ∷ ps) [] ascend same = absurd (omega arith)
 own-only (p ∷ ps) (d ∷ ds) ascend same =
     rw (same-pair p p refl refl)
     (ap (λ (xs : List ℕ). d ∷ xs)
-    (sym (demands-later p ps ps (d ∷ ds) (after-first p ps ascend)) ∙ own-only ps ds (rest-ascends p ps ascend) (omega arith)))
+    (sym (demands-later p ps ps (d ∷ ds) (after-first p ps ascend)) ∙ own-only ps ds (tail-ascends p ps ascend) (omega arith)))
 
 -- the matrix of a step that the series has, and of one that it does not have
 pub matrix-there : (pairs : List Pair) (series : Series) (step : ℕ) (m other : Matrix) (demand : List ℕ) → step < length series.steps →

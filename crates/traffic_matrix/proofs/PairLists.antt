@@ -2,17 +2,11 @@
 use Rattle.std.proofs.Common.{ℕ, zero, suc, ◌*◌, ◌/◌, ◌%◌, ◌<◌, ◌≡◌, ◌∙◌, refl, sym, ap, inl, inr, List, [], ◌∷◌, length, get_or, filter, AllPairs, Bool, true, false, cond, arith}
 use Rattle.std.proofs.lemmas.List.FromFn.{get_or-map-range_with_len, length-map-range_with_len}
 use Rattle.std.proofs.lemmas.Nat.{div-mul-add}
-use Rattle.te_model.proofs.AscendingPairs.{Below}
+use Rattle.te_model.proofs.AscendingPairs.{Below, below_differ}
 use Rattle.te_model.specs.declared.route.Pair.{Pair}
 use Rattle.te_model.specs.Pairs.{no_pair, IsNodePair}
 use Rattle.traffic_matrix.specs.Pairs.{place_of_pair, pair_of_place, all_pairs, same_pair}
 use Rattle.traffic_matrix.proofs.TableLemmas.{pair-parts, place-below}
-
-pub below-differ : (p q : Pair) → Below p q → p.src ≡ q.src → p.dst ≡ q.dst → ⊥
-below-differ p q b s d = elim b [
-  | inl less ↦ absurd (omega arith)
-  | inr same ↦ absurd (omega (arith, same.1))
-]
 
 -- a pair that stands in a list
 abbrev pub Mem : Pair → List Pair → Type 0
@@ -35,9 +29,9 @@ same-tail : (x q : Pair) (xs ys : List Pair) → AllPairs Below (x ∷ xs) → M
 same-tail x q xs ys a (i, l, is) (suc j, m, back) = (j, omega arith, back)
 same-tail x q xs ys a (i, l, is) (zero, m, back) =
     let less : Below x q = rw is at (a 0 (suc i) no_pair (omega arith) (omega arith)) in
-    absurd (below-differ x q less (ap (λ (p : Pair). p.src) back) (ap (λ (p : Pair). p.dst) back))
+    absurd (below_differ x q less (ap (λ (p : Pair). p.src) back) (ap (λ (p : Pair). p.dst) back))
 
-tail-ascends : (x : Pair) (xs : List Pair) → AllPairs Below (x ∷ xs) → AllPairs Below xs
+pub tail-ascends : (x : Pair) (xs : List Pair) → AllPairs Below (x ∷ xs) → AllPairs Below xs
 tail-ascends x xs a i j d less low = a (suc i) (suc j) d (omega arith) (omega arith)
 
 later : (x q : Pair) (xs : List Pair) → Mem q xs → Mem q (x ∷ xs)

@@ -3,17 +3,11 @@ use Rattle.std.proofs.Common.{ℕ, ◌+◌, ◌<◌, ◌≡◌, ◌∙◌, refl,
 use Rattle.std.specs.List.{flat_map, range_with_len}
 use Rattle.std.proofs.lemmas.Grind.{flat_map-append}
 use Rattle.std.proofs.lemmas.List.{get_or_default}
-use Rattle.te_model.proofs.Lists.{range-more}
+use Rattle.te_model.proofs.Lists.{pieces_more}
 use Rattle.te_model.specs.Pairs.{no_pair}
 use Rattle.te_model.specs.declared.route.Pair.{Pair}
 use Rattle.te_model.specs.declared.demand.Matrix.{Matrix}
 use Rattle.traffic_matrix.specs.Text.{demand_line, line_at, step_lines, step_text, no_matrix}
-
--- what stands before, and then one piece more
-pub pieces-more : (before : List ℕ) (f : ℕ → List ℕ) (k : ℕ) → (before ++ flat_map f (range_with_len 0 k)) ++ f k ≡ before ++ flat_map f (range_with_len 0 (k + 1))
-pieces-more before f k =
-    append_assoc before (flat_map f (range_with_len 0 k)) (f k)
-    ∙ ap (λ (r : List ℕ). before ++ r) (sym (ap (flat_map f) (range-more k) ∙ flat_map-append f (range_with_len 0 k) (k ∷ []) ∙ ap (λ (r : List ℕ). flat_map f (range_with_len 0 k) ++ r) (append-nil (f k))))
 
 -- the row of a place, by the names that stand there
 pub line-of : (names : List (List ℕ)) (pairs : List Pair) (step place demand : ℕ) (demands source target : List ℕ) → demand ≡ get_or demands place 0
@@ -30,7 +24,7 @@ line-of names pairs step place demand demands source target d s t is-s is-t =
 pub step-more : (before text more demands : List ℕ) (names names' : List (List ℕ)) (pairs pairs' : List Pair) (steps : List Matrix) (k : ℕ) → more ≡ text ++ step_lines names pairs k demands
     → text ≡ before ++ flat_map (step_text names' pairs' steps) (range_with_len 0 k) → names ≡ names' → pairs ≡ pairs' → demands ≡ (get_or steps k no_matrix).demand
     → more ≡ before ++ flat_map (step_text names' pairs' steps) (range_with_len 0 (k + 1))
-step-more before text more demands names names' pairs pairs' steps k a b c d e = a ∙ rw (b, c, d, e) (pieces-more before (step_text names' pairs' steps) k)
+step-more before text more demands names names' pairs pairs' steps k a b c d e = a ∙ rw (b, c, d, e) (pieces_more before (step_text names' pairs' steps) k)
 
 -- the fields of a row, put at the end one after the other
 pub row-put : (old a b c d : List ℕ) {t u v w x y z more : List ℕ} → t ≡ old ++ a → u ≡ t ++ 44 ∷ [] → v ≡ u ++ b → w ≡ v ++ 44 ∷ [] → x ≡ w ++ c → y ≡ x ++ 44 ∷ [] → z ≡ y ++ d → more ≡ z ++ 10 ∷ []

@@ -25,7 +25,7 @@ use Rattle.traffic_matrix.proofs.NodeLemmas.{new-here}
 use Rattle.traffic_matrix.proofs.RowLemmas.{four-fields, good}
 use Rattle.traffic_matrix.proofs.DemandLemmas.{accepts}
 use Rattle.traffic_matrix.proofs.TableLemmas.{same-pair, pair-parts}
-use Rattle.traffic_matrix.proofs.PairLists.{below-differ}
+use Rattle.te_model.proofs.AscendingPairs.{below_differ}
 use Rattle.traffic_matrix.proofs.RowText.{entry_at, step_entries, entries_from, fields}
 
 -- a name stands at its place where no name before equals it
@@ -51,7 +51,7 @@ unequal p q f = go (same_pair p q) refl
 
 -- a pair below another is not the same, either way round
 pub apart : (p q : Pair) → Below p q → (same_pair p q ≡ false) × (same_pair q p ≡ false)
-apart p q b = (unequal p q (below-differ p q b), unequal q p (λ s d. below-differ p q b (sym s) (sym d)))
+apart p q b = (unequal p q (below_differ p q b), unequal q p (λ s d. below_differ p q b (sym s) (sym d)))
 
 pick-none : (a b : Bool) (x y : Option ℕ) → b ≡ false → (if a && b then x else y) ≡ y
 pick-none true b x y e = rw e refl

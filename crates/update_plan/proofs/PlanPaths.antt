@@ -16,23 +16,11 @@ use Rattle.te_model.proofs.Chains.{path_links}
 use Rattle.te_model.proofs.SimplePaths.{path_links_once}
 use Rattle.te_model.proofs.Conditionals.{if_false, if_true}
 use Rattle.routing.specs.Merge.{links_at, no_path, weight_where}
+use Rattle.routing.proofs.Merged.{some_path}
 use Rattle.update_plan.specs.declared.path.UpdatePath.{UpdatePath}
 use Rattle.update_plan.specs.Loads.{IsUpdatePath}
 use Rattle.update_plan.specs.Stages.{HasSmallWeights}
 use Rattle.update_plan.specs.Paths.{ArePaths, AreSideBySide, weight_by}
-
--- where weights sum to something, one of the paths passes
-some_passes : (test : List ℕ → Bool) (xs : List PathShare) → 1 ≤ weight_where test xs → (m : ℕ) × (m < length xs) × (test (links_at xs m) ≡ true)
-some_passes test [] some = absurd (omega (arith, some))
-some_passes test (x ∷ xs) some = go (test x.links) refl (some_passes test xs)
-  where
-    go : (b : Bool) → test x.links ≡ b → (1 ≤ weight_where test xs → (m : ℕ) × (m < length xs) × (test (links_at xs m) ≡ true)) →
-        (m : ℕ) × (m < length (x ∷ xs)) × (test (links_at (x ∷ xs) m) ≡ true)
-    go true e later = (0, omega arith, e)
-    go false e later =
-        let whole = sum_by-cons (λ (s : PathShare). if test s.links then s.weight else 0) x xs in
-        let (m, below, passes) = later (omega (arith, whole, some, if_false (test x.links) x.weight e)) in
-        (suc m, omega (arith, below), passes)
 
 -- a path with a weight in a split is one of its paths
 pub of_split : (weight : UpdatePath → ℕ) (own : List UpdatePath) (xs : List PathShare) → ((test : List ℕ → Bool) → weight_by weight test own ≡ weight_where test xs) →
@@ -42,7 +30,7 @@ of_split weight own xs sums k d below some =
     let test : List ℕ → Bool = λ l. bytes_eq l u.links in
     let term = get_or-le-sum_by (λ (v : UpdatePath). if test v.links then weight v else 0) own k d below in
     let here = if_true (test u.links) (weight u) ((bytes_eq-Decides u.links u.links).1 refl) in
-    let (m, inside, passes) = some_passes test xs (omega (arith, term, here, some, sums test)) in
+    let (m, inside, passes) = some_path test xs (omega (arith, term, here, some, sums test)) in
     (m, inside, (bytes_eq-Decides (links_at xs m) u.links).0 passes)
 
 is_path_of : (net : Network) (r : PairRoutes) → IsPathSplit net r → (links : List ℕ) → (m : ℕ) × (m < length r.paths) × (links_at r.paths m ≡ links) →

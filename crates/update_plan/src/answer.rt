@@ -1,5 +1,5 @@
 //! What is answered of two certificates and a matrix: a plan, or why there is none.
-ghost use Rattle.std.specs.Prelude.{◌≡◌, ◌^◌, ◌<◌, IfOk, IsTrue, ◌↔◌, length, map};
+ghost use Rattle.std.specs.Prelude.{◌≡◌, ◌^◌, ◌<◌, IfOk, length};
 ghost use Rattle.te_model.specs.PathRouting.{IsPathRouting};
 ghost use Rattle.routing.specs.Routes.{AreDemands};
 ghost use Rattle.update_plan.specs.Answer.{IsUpdateText, no_slack_line};
@@ -7,23 +7,9 @@ ghost use Rattle.update_plan.specs.Answer.{IsUpdateText, no_slack_line};
 use crate::fault::UpdateFault;
 use crate::planning::plan_by_routes;
 use crate::text::print;
+use routing::have_pairs;
 use std::alloc::Global;
-use te_model::{Head, Matrix, Memory, Pair, PairRoutes, Pairs, same_network};
-
-/// Whether the routes are of these pairs, in order.
-fn have_pairs(routes: &[PairRoutes], pairs: &[Pair]) -> bool
-    ensures { IsTrue result ↔ (map (λ r. r.pair) routes.now ≡ pairs.now) }
-{
-    if routes.len() != pairs.len() {
-        return false;
-    }
-    for p in 0..pairs.len() {
-        if routes[p].pair != pairs[p] {
-            return false;
-        }
-    }
-    true
-}
+use te_model::{Head, Matrix, Memory, Pairs, same_network};
 
 fn no_slack_line(alloc: Global, link: u32) -> Result<Vec<u8>, Memory>
     ensures { IfOk result (λ line. line.items ≡ no_slack_line link) }

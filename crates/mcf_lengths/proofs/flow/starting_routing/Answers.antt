@@ -5,7 +5,7 @@ use Rattle.routing.proofs.InOrder.{routes_count}
 use Rattle.scheme.specs.Reach.{AllReached, ArePairsOf}
 use Rattle.mcf_lengths.specs.declared.round.TheConstants.{ROUNDS}
 use Rattle.mcf_lengths.specs.Rounds.{IsRoundsRouting}
-use Rattle.mcf_lengths.proofs.Balancing.{few_more}
+use Rattle.routing.proofs.FewPaths.{few_more}
 use Rattle.mcf_lengths.proofs.flow.starting_routing.Goals as goal
 
 pub rounds_routing-requires-clause-pairs : goal.rounds_routing-requires-clause-pairs

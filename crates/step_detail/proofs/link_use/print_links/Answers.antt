@@ -5,7 +5,7 @@ use Rattle.te_model.specs.declared.network.Link.{Link}
 use Rattle.te_model.specs.Network.{link_count}
 use Rattle.flow_sim.specs.Asked.{all_asked_units, asked_units_on}
 use Rattle.step_detail.specs.Links.{link_use_line}
-use Rattle.step_detail.proofs.Lines.{lines_more}
+use Rattle.te_model.proofs.Lists.{pieces_more}
 use Rattle.step_detail.proofs.link_use.print_links.Goals as goal
 
 pub print_link-requires-clause-link : goal.print_link-requires-clause-link
@@ -35,7 +35,7 @@ loop-link-preserved c =
     c.in_ok-print_link.ensures
     ∙ (ap (λ (l : List ℕ). c.loop-link.text.items ++ l) line
     ∙ (ap (λ (t : List ℕ). t ++ link_use_line net failed asked carried word e) c.loop-link.invariant
-    ∙ lines_more c.args.text.now.items (link_use_line net failed asked carried word) e))
+    ∙ pieces_more c.args.text.now.items (link_use_line net failed asked carried word) e))
 
 pub returns : goal.returns
 returns c =

@@ -12,7 +12,7 @@ use Rattle.shortest_path.specs.Costs.{HasCosts}
 use Rattle.local_recovery.specs.Rates.{has_rates}
 use Rattle.flow_sim.specs.declared.result.PairResult.{PairResult}
 use Rattle.step_detail.specs.Pairs.{least_cost_at, line_of_pair, no_result, pair_result_line}
-use Rattle.step_detail.proofs.Lines.{lines_more}
+use Rattle.te_model.proofs.Lists.{pieces_more}
 use Rattle.step_detail.proofs.Pairs.{pair_of_nodes}
 use Rattle.step_detail.proofs.pair_result.print_pairs.Goals as goal
 
@@ -85,7 +85,7 @@ loop-p-preserved c =
     c.in_ok-print_pair.ensures
     ∙ (ap (λ (l : List ℕ). c.loop-p.text.items ++ l) line
     ∙ (ap (λ (t : List ℕ). t ++ line_of_pair net least word step p) c.loop-p.invariant
-    ∙ lines_more c.args.text.now.items (line_of_pair net least word step) p))
+    ∙ pieces_more c.args.text.now.items (line_of_pair net least word step) p))
 
 pub returns : goal.returns
 returns c =

@@ -2,7 +2,7 @@ use Rattle.std.proofs.Common.{◌≡◌, ℕ, suc, ◌<◌, List, [], ◌∷◌,
 use Rattle.te_model.specs.declared.route.Pair.{Pair}
 use Rattle.te_model.specs.declared.route.PairRoutes.{PairRoutes}
 use Rattle.te_model.specs.Path.{no_routes, routes_at}
-use Rattle.fault_rates.proofs.answers.have_pairs.Goals as goal
+use Rattle.routing.proofs.pairs.have_pairs.Goals as goal
 
 -- routes that have the same pair at each place as a list of pairs
 same_pairs : (routes : List PairRoutes) (pairs : List Pair) → length routes ≡ length pairs →
