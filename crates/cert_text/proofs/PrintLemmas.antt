@@ -55,7 +55,3 @@ pub one_more : {X : Type 0} (f : X → List ℕ) (old now more : List ℕ) (xs :
 one_more {X} f old now more xs i x lt is was put =
     put ∙ ap (λ (o : List ℕ). o ++ f x) was ∙ flat_map_more f old (take i xs) x
     ∙ ap (λ (ys : List X). old ++ flat_map f ys) (ap (λ (y : X). take i xs ++ y ∷ []) is ∙ sym (take_more xs i x lt))
-
--- the text of all items, after a loop over them
-pub all_put : {X : Type 0} (f : X → List ℕ) (old now : List ℕ) (xs : List X) (i : ℕ) → length xs ≤ i → now ≡ old ++ flat_map f (take i xs) → now ≡ old ++ flat_map f xs
-all_put {X} f old now xs i le was = was ∙ ap (λ (ys : List X). old ++ flat_map f ys) (take_all i xs le)

@@ -14,9 +14,6 @@ use Rattle.traffic_matrix.specs.declared.series.Series.{Series}
 use Rattle.traffic_matrix.specs.Limits.{IsSeries}
 use Rattle.experiment.specs.Envelope.{envelope_of, greatest_demand, least_demand}
 
-pub ord_max_is : (a b : ℕ) → ord_max nat_cmp a b ≡ max a b
-ord_max_is a b = search rules
-
 -- one step more, of which the demand is joined to what is so far
 pub demand_more : (join : ℕ → ℕ → ℕ) (first : ℕ) (steps : List Matrix) (p i so_far demand result : ℕ) (step : Matrix) → i < length steps →
     step ≡ get_or steps i step → so_far ≡ fold (λ d step. join d (slice_index step.demand p)) first (take i steps) →

@@ -13,13 +13,6 @@ use Rattle.routing.specs.Shares.{AreLinksOnce}
 use Rattle.fault_rates.specs.Plan.{links_of, no_path_share}
 use Rattle.fault_rates.specs.Tables.{AreSimplePaths}
 
--- before any path all is zero
-pub zeros : (n e : ℕ) → slice_index (replicate n 0) e ≡ 0
-zeros n e = elim (cases_lt e n) [
-  | inl lt ↦ get_or-replicate n e 0 0 lt
-  | inr ge ↦ get_or_past (replicate n 0) e 0 (omega (arith, length-replicate {A = ℕ} n 0))
-]
-
 -- the path at a place holds no link twice
 pub simple_at : (links : ℕ) (paths : List PathShare) (i : ℕ) → AreSimplePaths links paths → i < length paths → AreLinksOnce links (links_of paths i)
 simple_at links paths i simple below = All-get_or (λ s. AreLinksOnce links s.links) paths i no_path_share below simple
@@ -30,7 +23,3 @@ pub few_amounts : (paths : List PathShare) (amount : ℕ → ℕ) (bound n e : �
 few_amounts paths amount bound n e small =
     sum_below-bound n bound (λ i. amount_on (links_of paths i) (amount i) e)
     (λ i below. omega (arith, if_le-self (has_number (links_of paths i) e) (amount i), small i))
-
--- one term more
-pub sum_more : (n : ℕ) (f : ℕ → ℕ) → sum_below (n + 1) f ≡ sum_below n f + f n
-sum_more n f = let next : n + 1 ≡ suc n = omega arith in ap (λ k. sum_below k f) next

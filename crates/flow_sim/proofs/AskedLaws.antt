@@ -20,6 +20,7 @@ use Rattle.te_model.proofs.ApportionLaws.{sum_below-first, sum_below-more, sum_i
 use Rattle.te_model.proofs.SimplePaths.{path_links_once}
 use Rattle.te_model.proofs.Sums.{sum_below-add, sum_below-le, sum_below-mul, sum_below-same}
 use Rattle.te_model.proofs.Tests.{list_all_at}
+use Rattle.te_model.proofs.Conditionals.{if_le-self}
 use Rattle.routing.specs.Merge.{no_path}
 use Rattle.routing.specs.Split.{total_weight}
 use Rattle.local_recovery.specs.Rates.{IsRates, has_rates, have_rates}
@@ -134,10 +135,6 @@ pub flows_within : (rates : List PairRoutes) (demand : List ℕ) (p : ℕ) → p
 unfolding first_flow
 flows_within rates demand p below = omega (arith, concat_within (length rates) p (paths_of rates) below, starts-flows rates demand)
 
-amount_le : (b : Bool) (x : ℕ) → (if b then x else 0) ≤ x
-amount_le true x = omega arith
-amount_le false x = omega arith
-
 -- what the pairs before have asked, with the units of this one, is within the units of all flows
 pub asked_fits : (rates : List PairRoutes) (units : List ℕ) (e p : ℕ) → first_flow rates p + length (paths_of rates p) ≤ length units →
     asked_before rates units e p + sum_below (length (paths_of rates p)) (λ i. slice_index units (first_flow rates p + i)) ≤ sum units
@@ -146,7 +143,7 @@ asked_fits rates units e p within =
     omega (
       arith,
       sum_below-le (first_flow rates p) (asked_by (flow_paths rates) units e) (slice_index units)
-          (λ f below. amount_le (has_number (slice_index_or (flow_paths rates) f no_path).links e) (slice_index units f)),
+          (λ f below. if_le-self (has_number (slice_index_or (flow_paths rates) f no_path).links e) (slice_index units f)),
       sum_below-parts (first_flow rates p) (length (paths_of rates p)) (slice_index units),
       sum_below-more (first_flow rates p + length (paths_of rates p)) (length units) (slice_index units) within,
       sum_is_below units,
@@ -157,7 +154,7 @@ pub asked_from_le : (paths : List PathShare) (units : List ℕ) (first n e : ℕ
     asked_from paths units first n e ≤ sum_below n (λ i. slice_index units (first + i))
 asked_from_le paths units first n e =
     sum_below-le n (λ i. amount_on (slice_index_or paths i no_path).links (slice_index units (first + i)) e) (λ i. slice_index units (first + i))
-    (λ i below. amount_le (has_number (slice_index_or paths i no_path).links e) (slice_index units (first + i)))
+    (λ i below. if_le-self (has_number (slice_index_or paths i no_path).links e) (slice_index units (first + i)))
 
 -- the same of what the code holds
 pub asked_room : (rates : List PairRoutes) (demand units lent asked : List ℕ) (paths : List PathShare) (first p e : ℕ) → paths ≡ paths_of rates p →

@@ -92,6 +92,3 @@ longest_next rates lent p most links result routes paths same below paths_is mos
       ap longest paths_is,
       ap (λ (r : PairRoutes). longest r.paths) read,
     ))
-
-pub ord_max_is : (a b : ℕ) → ord_max nat_cmp a b ≡ max a b
-ord_max_is a b = search rules

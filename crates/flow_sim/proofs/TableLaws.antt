@@ -9,10 +9,8 @@ use Rattle.std.proofs.Math.Seq.{take-append_seam}
 use Rattle.te_model.specs.Counting.{sum_below}
 use Rattle.te_model.proofs.Sums.{sum_below-le}
 use Rattle.te_model.proofs.ApportionLaws.{sum_below-more, sum_is_below}
+use Rattle.te_model.proofs.Sums.{sum_below-next}
 use Rattle.flow_sim.specs.Tables.{amount_of_key, total_at}
-
-pub sum_below-next : (n : ℕ) (f : ℕ → ℕ) → sum_below (n + 1) f ≡ sum_below n f + f n
-sum_below-next n f = rw add-one refl
 
 -- one more flow fits where all do
 pub next_fits : (n i : ℕ) (f : ℕ → ℕ) → i < n → sum_below i f + f i ≤ sum_below n f

@@ -60,10 +60,6 @@ one_bound_more net h bs b bound one are pays least = record {
       omega (arith, first, rest);
 }
 
--- the greater of two numbers, as code takes it
-pub ord_max_is : (a b : ℕ) → ord_max nat_cmp a b ≡ max a b
-ord_max_is a b = search rules
-
 -- one block more in a walk along the blocks
 pub bound_pays_more : (net : Network) (h : Hose) (bs : List HoseBlock) (k : ℕ) (b : HoseBlock) (bound one next : ℕ) → k < length bs → b ≡ get_or bs k b → next ≡ max bound one →
     All (λ (x : HoseBlock). IsTrue (pays_numbers net h bound x.link x)) (take k bs) → IsTrue (pays_numbers net h one b.link b) →

@@ -13,7 +13,7 @@ use Rattle.cover_search.specs.declared.transport.EndShare.{EndShare}
 use Rattle.cover_search.specs.Transport.{AreEndShares, end_share, share_at, source_at}
 use Rattle.routing.specs.declared.shares.PairShare.{PairShare}
 use Rattle.routing.specs.Shares.{AreSharesOn}
-use Rattle.ratio_checker.proofs.NoWeights.{zeros}
+use Rattle.te_model.proofs.Lists.{zeros}
 use Rattle.hose_bound.specs.declared.covers.End.TheVariants.{Source}
 use Rattle.hose_bound.specs.Covering.{AreEndsOf, AreLeastNumbers, IsEndOf}
 use Rattle.routing.proofs.Sharing.{no_share}

@@ -1,19 +1,8 @@
 -- Where each of n things has one of m places, and no two the same, n is at most m.
 use Rattle.std.proofs.Common.{◌≡◌, ◌⊎◌, ℕ, zero, suc, ◌<◌, ◌≤◌, arith, refl, inl, inr, subst}
-use Rattle.std.proofs.lemmas.Bool.{cases_lt}
+use Rattle.std.proofs.lemmas.Bool.{cases_eq, cases_lt}
 
 -- equal, or not
-same_or_not : (a b : ℕ) → (a ≡ b) ⊎ (a ≡ b → ⊥)
-same_or_not a b =
-    elim (cases_lt a b) [
-      | inl lt ↦ inr (λ e. omega arith)
-      | inr ge ↦
-          elim (cases_lt b a) [
-            | inl gt ↦ inr (λ e. omega arith)
-            | inr le ↦ inl (omega arith)
-          ]
-    ]
-
 -- a place other than the one that is taken, or the taken one in exchange for the last
 abbrev Moved : (ℕ → ℕ → Type 0) → ℕ → ℕ → ℕ → ℕ → Type 0
 Moved R taken last k j = (R k j × (j ≡ taken → ⊥)) ⊎ ((j ≡ taken) × R k last)
@@ -28,15 +17,15 @@ moved_apart R n taken last k l j apart k_below l_below (inr a) (inr b) = apart k
 moved_place : (R : ℕ → ℕ → Type 0) (n m taken k : ℕ) → ((k l j : ℕ) → k < suc n → l < suc n → R k j → R l j → k ≡ l) →
     R n taken → taken < suc m → k < n → (place : (j : ℕ) × (j < suc m) × R k j) → (j : ℕ) × (j < m) × Moved R taken m k j
 moved_place R n m taken k apart last taken_below k_below place =
-    elim (same_or_not place.0 taken) [
+    elim (cases_eq place.0 taken) [
       | inl same ↦
           let equal = apart k n taken (omega arith) (omega arith) (subst (R k) same place.2) last in
           absurd (omega (arith, equal))
       | inr other ↦
-          elim (same_or_not place.0 m) [
+          elim (cases_eq place.0 m) [
             | inl top ↦ (
               taken,
-              (elim (same_or_not taken m) [
+              (elim (cases_eq taken m) [
                 | inl e ↦ absurd (other (omega (arith, top, e)))
                 | inr ne ↦ elim (cases_lt taken m) [ inl lt ↦ lt | inr ge ↦ absurd (ne (omega arith)) ]
               ]),

@@ -67,7 +67,7 @@ improved_progress net routes wanted e old new is better = record {
 }
 
 -- one place is the first of the greatest need
-worst_only : (n : ℕ) (need : ℕ → ℕ) (j k : ℕ) → IsWorst n need j → IsWorst n need k → j ≡ k
+pub worst_only : (n : ℕ) (need : ℕ → ℕ) (j k : ℕ) → IsWorst n need j → IsWorst n need k → j ≡ k
 worst_only n need j k one two = elim (cases_lt j k) [
   | inl lt ↦ absurd (omega (arith, two.first j lt, one.greatest k two.within))
   | inr ge ↦ elim (cases_lt k j) [

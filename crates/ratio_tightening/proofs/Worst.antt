@@ -10,6 +10,7 @@ use Rattle.te_model.specs.Validity.{IsValid, block_at}
 use Rattle.best_blocks.specs.Need.{need_of}
 use Rattle.ratio_certificate.specs.Made.{IsMade}
 use Rattle.ratio_certificate.specs.Polished.{HasNoBetterChange, IsFine, IsPolished, IsWorst, IsWorstBlock}
+use Rattle.ratio_certificate.proofs.Stepping.{worst_only}
 use Rattle.ratio_tightening.specs.Laws.{TightenedStaysPolished}
 use Rattle.ratio_tightening.specs.Tightened.{lesser_block, lesser_blocks}
 use Rattle.ratio_tightening.proofs.LesserBlocks.{lesser_need}
@@ -17,22 +18,6 @@ use Rattle.ratio_tightening.proofs.MadeOnHead.{made_in}
 use Rattle.ratio_tightening.proofs.Tighter.{rounds_within}
 
 -- there is one first place of the greatest
-worst_once : (n : ℕ) (need : ℕ → ℕ) (j k : ℕ) → IsWorst n need j → IsWorst n need k → j ≡ k
-worst_once n need j k one two = elim (cases_lt j k) [
-  | inl less ↦
-      let below = two.first j less in
-      let most = one.greatest k two.within in
-      absurd (omega (arith, below, most))
-  | inr more ↦ elim (cases_eq j k) [
-    | inl same ↦ same
-    | inr other ↦
-        let less : k < j = omega (arith, more, other) in
-        let below = one.first k less in
-        let most = two.greatest j one.within in
-        absurd (omega (arith, below, most))
-  ]
-]
-
 module _ (net : Network) (blocks made : List Block) where
   abbrev lessers : List Block
   lessers = lesser_blocks net blocks made
@@ -80,7 +65,7 @@ stays_polished c made valid k is worst stays = record {
 
     block_is : (j : ℕ) → IsWorstBlock net (lesser_blocks net c.blocks made.blocks) j → block_at made.blocks k ≡ block_at (lesser_blocks net c.blocks made.blocks) j
     block_is j also =
-        let once = worst_once (length (lesser_blocks net c.blocks made.blocks)) (λ i. need_of net (block_at (lesser_blocks net c.blocks made.blocks) i)) k j
+        let once = worst_only (length (lesser_blocks net c.blocks made.blocks)) (λ i. need_of net (block_at (lesser_blocks net c.blocks made.blocks) i)) k j
         (worst_stays net c.blocks made.blocks k worst stays) also
         in
         sym (at_place net c.blocks made.blocks k worst.within ∙ stays) ∙ ap (block_at (lesser_blocks net c.blocks made.blocks)) once

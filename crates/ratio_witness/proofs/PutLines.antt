@@ -27,8 +27,3 @@ pub one_more : {X A : Type 0} (f : X → List A) (old now more : List A) (xs : L
 one_more {X} {A} f old now more xs i x lt is was put =
     put ∙ ap (λ (o : List A). o ++ f x) was ∙ flat_map_more f old (take i xs) x
     ∙ ap (λ (ys : List X). old ++ flat_map f ys) (ap (λ (y : X). take i xs ++ y ∷ []) is ∙ sym (take_more xs i x lt))
-
--- what all items give
-pub all_put : {X A : Type 0} (f : X → List A) (old now : List A) (xs : List X) (i : ℕ) → length xs ≤ i → now ≡ old ++ flat_map f (take i xs) →
-    now ≡ old ++ flat_map f xs
-all_put {X} f old now xs i le was = was ∙ ap (λ (ys : List X). old ++ flat_map f ys) (take_all i xs le)

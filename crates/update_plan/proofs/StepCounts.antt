@@ -45,7 +45,3 @@ of_link net loads h whole before after growth decline steps w b a g d least K so
     (subst (λ x. AreEnough whole before x (slice_index loads.growth h) (slice_index loads.decline h) K ↔ (steps ≤ K)) a
     (subst (λ x. AreEnough whole before after x (slice_index loads.decline h) K ↔ (steps ≤ K)) g
     (subst (λ x. AreEnough whole before after growth x K ↔ (steps ≤ K)) d (least K some few)))))
-
--- the greater of two numbers
-pub max_is : (a b : ℕ) → ord_max nat_cmp a b ≡ max a b
-max_is a b = search rules

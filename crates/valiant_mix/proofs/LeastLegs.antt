@@ -17,15 +17,6 @@ use Rattle.shortest_path.proofs.Walks.{walk_of_chains}
 use Rattle.scheme.proofs.LeastSplit.{least_way_path}
 use Rattle.valiant_mix.specs.Valiant.{IsLeg}
 
-same_or_other : (s t : ℕ) → (s ≡ t) ⊎ (s ≡ t → ⊥)
-same_or_other s t = elim (cases_lt s t) [
-  | inl lt ↦ inr (λ e. omega (arith, lt, e))
-  | inr ge ↦ elim (cases_lt t s) [
-    | inl gt ↦ inr (λ e. omega (arith, gt, e))
-    | inr le ↦ inl (omega (arith, ge, le))
-  ]
-]
-
 -- a leg is a walk
 pub leg_chains : (net : Network) (s t : ℕ) (links : List ℕ) → IsLeg net s t links → chains net s t links ≡ true
 leg_chains net s t links (inl (same, none)) = subst (λ l. chains net s t l ≡ true) (sym none) (eq-eqb s t same)
@@ -34,7 +25,7 @@ leg_chains net s t links (inr (other, least)) = chains_of_path net s t links lea
 -- there is a leg, or no links lead there
 pub leg_or_none : (net : Network) → is_well_formed net ≡ true → (s t : ℕ) → s < node_count net → t < node_count net →
     ((links : List ℕ) × IsLeg net s t links) ⊎ ((links : List ℕ) → chains net s t links ≡ true → ⊥)
-leg_or_none net formed s t s_in t_in = elim (same_or_other s t) [
+leg_or_none net formed s t s_in t_in = elim (cases_eq s t) [
   | inl same ↦ inl ([], inl (same, refl))
   | inr other ↦
       let costs = has_costs net formed in
@@ -56,7 +47,7 @@ nothing_below lengths (h ∷ hs) (inr (inr below)) = absurd (false≢true below.
 
 -- the least way is a leg
 pub leg_of_way : (net : Network) (ways : Ways) (s : ℕ) (links : List ℕ) → AreWays net ways → IsLeastWay net ways s (Some links) → IsLeg net s ways.dst links
-leg_of_way net ways s links are least = elim (same_or_other s ways.dst) [
+leg_of_way net ways s links are least = elim (cases_eq s ways.dst) [
   | inl same ↦ inl (same, nothing_below ways.costs links (least.1 [] same))
   | inr other ↦ inr (other, least_way_path net ways s ways.dst (Some links) are refl least)
 ]

@@ -14,6 +14,7 @@ use Rattle.te_model.specs.Network.{link_count, capacity_of, tail_of, head_of}
 use Rattle.te_model.specs.Path.{chains, share, source_of, destination_of}
 use Rattle.te_model.proofs.Chains.{first_link}
 use Rattle.te_model.proofs.Sums.{sum_below-term, sum_below-zero}
+use Rattle.te_model.proofs.Conditionals.{if_true}
 use Rattle.ratio_witness.specs.Witness.{capacity_from, capacity_into, performance_ratio, IsRivalOf}
 use Rattle.ratio_witness.proofs.Ends.{ends_bound}
 use Rattle.ratio_witness.proofs.Lower.{limit_rivals}
@@ -27,16 +28,13 @@ last_head net [] s t h chain =
     (h, first.inside, eqb-true (head_of net h) t first.rest)
 last_head net (k ∷ ks) s t h chain = last_head net ks (head_of net h) t k (first_link net s t h (k ∷ ks) chain).rest
 
-counted : (b : Bool) (c : ℕ) → b ≡ true → (if b then c else 0) ≡ c
-counted b c e = ap (λ (x : Bool). if x then c else 0) e
-
 -- a walk leaves its start by a link, and enters its end by one
 pub some_from : (net : Network) (s t h : ℕ) (hs : List ℕ) → ((k : ℕ) → k < link_count net → 1 ≤ capacity_of net k) → chains net s t (h ∷ hs) ≡ true →
     1 ≤ capacity_from net s
 some_from net s t h hs some chain =
     let first = first_link net s t h hs chain in
     let term = sum_below-term (link_count net) h (λ k. if tail_of net k == s then capacity_of net k else 0) first.inside in
-    let here = counted (tail_of net h == s) (capacity_of net h) (eq-eqb (tail_of net h) s first.from) in
+    let here = if_true (tail_of net h == s) (capacity_of net h) (eq-eqb (tail_of net h) s first.from) in
     omega (arith, term, here, some h first.inside)
 
 pub some_into : (net : Network) (s t h : ℕ) (hs : List ℕ) → ((k : ℕ) → k < link_count net → 1 ≤ capacity_of net k) → chains net s t (h ∷ hs) ≡ true →
@@ -44,7 +42,7 @@ pub some_into : (net : Network) (s t h : ℕ) (hs : List ℕ) → ((k : ℕ) →
 some_into net s t h hs some chain =
     let last = last_head net hs s t h chain in
     let term = sum_below-term (link_count net) last.0 (λ k. if head_of net k == t then capacity_of net k else 0) last.1 in
-    let here = counted (head_of net last.0 == t) (capacity_of net last.0) (eq-eqb (head_of net last.0) t last.2) in
+    let here = if_true (head_of net last.0 == t) (capacity_of net last.0) (eq-eqb (head_of net last.0) t last.2) in
     omega (arith, term, here, some last.0 last.1)
 
 -- ---- the load of a pair alone

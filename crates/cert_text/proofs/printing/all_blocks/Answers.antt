@@ -1,5 +1,6 @@
 use Rattle.cert_text.specs.Pieces.{block_text}
-use Rattle.cert_text.proofs.PrintLemmas.{all_put, one_more}
+use Rattle.cert_text.proofs.PrintLemmas.{one_more}
+use Rattle.te_model.proofs.Lists.{all_put}
 use Rattle.cert_text.proofs.printing.all_blocks.Goals as goal
 
 pub loop-block-preserved : goal.loop-block-preserved

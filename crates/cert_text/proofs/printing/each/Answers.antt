@@ -1,4 +1,5 @@
-use Rattle.cert_text.proofs.PrintLemmas.{all_put, one_more}
+use Rattle.cert_text.proofs.PrintLemmas.{one_more}
+use Rattle.te_model.proofs.Lists.{all_put}
 use Rattle.cert_text.proofs.printing.each.Goals as goal
 
 pub loop-item-preserved : goal.loop-item-preserved

@@ -1,5 +1,6 @@
 use Rattle.std.proofs.Common.{◌∷◌}
-use Rattle.cert_text.proofs.PrintLemmas.{all_put, one_more}
+use Rattle.cert_text.proofs.PrintLemmas.{one_more}
+use Rattle.te_model.proofs.Lists.{all_put}
 use Rattle.cert_text.proofs.printing.spaced_all.Goals as goal
 
 pub loop-n-preserved : goal.loop-n-preserved

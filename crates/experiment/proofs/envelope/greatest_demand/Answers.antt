@@ -1,5 +1,6 @@
 use Rattle.std.proofs.Common.{◌∙◌, ap, max, slice_index}
-use Rattle.experiment.proofs.Envelopes.{demand_more, ord_max_is}
+use Rattle.experiment.proofs.Envelopes.{demand_more}
+use Rattle.te_model.proofs.Choices.{ord_max_is}
 use Rattle.experiment.proofs.envelope.greatest_demand.Goals as goal
 
 pub loop-step-preserved : goal.loop-step-preserved

@@ -1,7 +1,8 @@
 use Rattle.std.proofs.Common.{◌≡◌, ℕ, ◌<◌, ◌^◌, List, All, length, slice_index, arith, ap, subst, sym, true}
 use Rattle.te_model.specs.Path.{amount_on, is_distinct}
 use Rattle.fault_rates.specs.Plan.{links_of}
-use Rattle.fault_rates.proofs.LinkSums.{few_amounts, simple_at, sum_more}
+use Rattle.fault_rates.proofs.LinkSums.{few_amounts, simple_at}
+use Rattle.te_model.proofs.Sums.{sum_below-next}
 use Rattle.fault_rates.proofs.sums.add_allocations.Goals as goal
 
 pub add_along-requires-clause-within : goal.add_along-requires-clause-within
@@ -34,4 +35,4 @@ loop-i-preserved c = λ h.
     let amount = slice_index c.args.allocation.now in
     let lent : amount_on c.links_of-links.result.now (amount c.loop-i.i) h ≡ amount_on (links_of paths c.loop-i.i) (amount c.loop-i.i) h =
     ap (λ (l : List ℕ). amount_on l (amount c.loop-i.i) h) c.links_of-links.ensures in
-    omega (arith, c.add_along.ensures h, c.loop-i.invariant h, lent, sum_more c.loop-i.i (λ i. amount_on (links_of paths i) (amount i) h))
+    omega (arith, c.add_along.ensures h, c.loop-i.invariant h, lent, sum_below-next c.loop-i.i (λ i. amount_on (links_of paths i) (amount i) h))

@@ -3,11 +3,11 @@ use Rattle.std.proofs.lemmas.List.{length-replicate}
 use Rattle.te_model.specs.declared.route.PathShare.{PathShare}
 use Rattle.te_model.specs.Network.{link_count}
 use Rattle.te_model.specs.Path.{routes_at}
-use Rattle.te_model.proofs.Lists.{written_whole}
+use Rattle.te_model.proofs.Lists.{written_whole, zeros}
 use Rattle.fault_rates.specs.Plan.{allocations_at, amount_of_paths}
 use Rattle.fault_rates.specs.Tables.{AreSimplePaths}
 use Rattle.fault_rates.proofs.Judged.{few_allocated}
-use Rattle.fault_rates.proofs.LinkSums.{sum_more, zeros}
+use Rattle.te_model.proofs.Sums.{sum_below-next}
 use Rattle.fault_rates.proofs.sums.allocated.Goals as goal
 
 pub loop-p-init : goal.loop-p-init
@@ -70,5 +70,5 @@ loop-p-preserved c =
     in
     rw (written_whole c.loop-p.sums.len new old kept c.loop-p.sums.ok.0) (record {
       count = kept ∙ c.loop-p.invariant.count;
-      each = λ e. omega (arith, added e, c.loop-p.invariant.each e, sum_more p (λ q. amount q e));
+      each = λ e. omega (arith, added e, c.loop-p.invariant.each e, sum_below-next p (λ q. amount q e));
     })

@@ -3,7 +3,8 @@ use Rattle.te_model.specs.declared.limits.TheConstants.{FORMAT_2}
 use Rattle.te_model.specs.Path.{has_number, is_distinct}
 use Rattle.te_model.proofs.Counts.{count_below-bound}
 use Rattle.fault_rates.specs.Plan.{links_of}
-use Rattle.fault_rates.proofs.LinkSums.{simple_at, zeros}
+use Rattle.fault_rates.proofs.LinkSums.{simple_at}
+use Rattle.te_model.proofs.Lists.{zeros}
 use Rattle.fault_rates.proofs.sums.paths_on_links.Goals as goal
 
 pub loop-i-init : goal.loop-i-init

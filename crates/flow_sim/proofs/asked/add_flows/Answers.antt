@@ -6,7 +6,8 @@ use Rattle.te_model.specs.Path.{amount_on, is_distinct}
 use Rattle.routing.specs.Merge.{no_path}
 use Rattle.flow_sim.specs.Asked.{asked_from}
 use Rattle.flow_sim.proofs.AskedLaws.{asked_from_le}
-use Rattle.flow_sim.proofs.TableLaws.{next_fits, sum_below-next}
+use Rattle.flow_sim.proofs.TableLaws.{next_fits}
+use Rattle.te_model.proofs.Sums.{sum_below-next}
 use Rattle.flow_sim.proofs.asked.add_flows.Goals as goal
 
 pub add_along-requires-clause-links : goal.add_along-requires-clause-links

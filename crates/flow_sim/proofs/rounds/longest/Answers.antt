@@ -1,5 +1,6 @@
 use Rattle.std.proofs.Common.{length, ap, ◌∙◌}
-use Rattle.flow_sim.proofs.StartLaws.{longest_more, ord_max_is}
+use Rattle.flow_sim.proofs.StartLaws.{longest_more}
+use Rattle.te_model.proofs.Choices.{ord_max_is}
 use Rattle.flow_sim.proofs.rounds.longest.Goals as goal
 
 pub loop-path-preserved : goal.loop-path-preserved

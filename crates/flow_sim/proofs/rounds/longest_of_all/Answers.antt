@@ -1,5 +1,6 @@
 use Rattle.std.proofs.Common.{◌∙◌}
-use Rattle.flow_sim.proofs.StartLaws.{longest_next, ord_max_is}
+use Rattle.flow_sim.proofs.StartLaws.{longest_next}
+use Rattle.te_model.proofs.Choices.{ord_max_is}
 use Rattle.flow_sim.proofs.rounds.longest_of_all.Goals as goal
 
 pub loop-p-preserved : goal.loop-p-preserved

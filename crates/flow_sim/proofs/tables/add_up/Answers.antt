@@ -1,6 +1,7 @@
 use Rattle.std.proofs.Common.{◌<◌, slice_index, length, arith}
 use Rattle.flow_sim.specs.Tables.{amount_of_key}
-use Rattle.flow_sim.proofs.TableLaws.{sum_below-next, next_fits, amount_at-own}
+use Rattle.flow_sim.proofs.TableLaws.{next_fits, amount_at-own}
+use Rattle.te_model.proofs.Sums.{sum_below-next}
 use Rattle.flow_sim.proofs.tables.add_up.Goals as goal
 
 pub add_at-requires : goal.add_at-requires

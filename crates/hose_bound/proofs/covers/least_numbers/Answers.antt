@@ -2,7 +2,7 @@ use Rattle.std.proofs.Common.{◌≡◌, ◌∙◌, ℕ, ◌-◌, ◌<◌, List,
 use Rattle.std.proofs.lemmas.List.{get_or_default, length-replicate, take_all}
 use Rattle.std.proofs.lemmas.List.Elements.{All-get_or, All-nil}
 use Rattle.routing.specs.declared.shares.PairShare.{PairShare}
-use Rattle.ratio_checker.proofs.NoWeights.{zeros}
+use Rattle.te_model.proofs.Lists.{zeros}
 use Rattle.hose_bound.specs.Covering.{CoverShares, end_of, other_end, raised_at}
 use Rattle.hose_bound.proofs.Raising.{one_share_least, one_share_more}
 use Rattle.routing.proofs.Sharing.{no_share}

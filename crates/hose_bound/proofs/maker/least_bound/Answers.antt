@@ -3,7 +3,8 @@ use Rattle.std.specs.Prelude.{All, IsTrue}
 use Rattle.std.proofs.lemmas.List.{take_all}
 use Rattle.hose_bound.specs.declared.hose.HoseBlock.{HoseBlock}
 use Rattle.hose_bound.specs.Verdict.{pays_numbers}
-use Rattle.hose_bound.proofs.LeastBounds.{bound_pays_more, one_of_all, ord_max_is}
+use Rattle.hose_bound.proofs.LeastBounds.{bound_pays_more, one_of_all}
+use Rattle.te_model.proofs.Choices.{ord_max_is}
 use Rattle.hose_bound.proofs.maker.least_bound.Goals as goal
 
 pub loop-block-preserved : goal.loop-block-preserved

@@ -1,5 +1,6 @@
 use Rattle.link_bounds.specs.Table.{header, need_row}
-use Rattle.link_bounds.proofs.Rows.{all_put, one_more}
+use Rattle.link_bounds.proofs.Rows.{one_more}
+use Rattle.te_model.proofs.Lists.{all_put}
 use Rattle.link_bounds.proofs.table.table_text.Goals as goal
 
 pub loop-need-preserved : goal.loop-need-preserved

@@ -1,5 +1,6 @@
 use Rattle.std.proofs.Common.{◌++◌, ◌∷◌, []}
-use Rattle.cert_text.proofs.PrintLemmas.{all_put, one_more}
+use Rattle.cert_text.proofs.PrintLemmas.{one_more}
+use Rattle.te_model.proofs.Lists.{all_put}
 use Rattle.number_tables.specs.Table.{line_text}
 use Rattle.number_tables.proofs.writer.lines.Goals as goal
 

@@ -1,6 +1,6 @@
 use Rattle.std.proofs.Common.{arith, refl}
 use Rattle.te_model.specs.declared.limits.TheConstants.{FORMAT_2}
-use Rattle.ratio_checker.proofs.NoWeights.{zeros}
+use Rattle.te_model.proofs.Lists.{zeros}
 use Rattle.ratio_checker.proofs.WeightOn.{weight_on_more_le}
 use Rattle.ratio_checker.proofs.link_shares.shares_by_link.Goals as goal
 

@@ -9,7 +9,7 @@ use Rattle.ratio_checker.specs.Checked.{IsSimplePath}
 use Rattle.ratio_witness.specs.Rules.{demand_of, rival_paths}
 use Rattle.ratio_witness.specs.Witness.{rival_share}
 use Rattle.ratio_witness.proofs.LinkLoads.{load_more, load_small, split_small}
-use Rattle.ratio_checker.proofs.NoWeights.{zeros}
+use Rattle.te_model.proofs.Lists.{zeros}
 use Rattle.ratio_witness.proofs.loads.loads_by_rival.Goals as goal
 
 pub loop-p-init : goal.loop-p-init

@@ -9,7 +9,7 @@ use Rattle.te_model.specs.Path.{no_routes, routes_at, share, weight_on}
 use Rattle.ratio_checker.specs.Checked.{IsSimplePath}
 use Rattle.ratio_witness.specs.Rules.{demand_of}
 use Rattle.ratio_witness.proofs.LinkLoads.{load_more, load_small, split_small}
-use Rattle.ratio_checker.proofs.NoWeights.{zeros}
+use Rattle.te_model.proofs.Lists.{zeros}
 use Rattle.ratio_witness.proofs.loads.loads_by_routes.Goals as goal
 
 pub loop-p-init : goal.loop-p-init

@@ -1,7 +1,8 @@
 use Rattle.std.proofs.Common.{◌∙◌, ◌++◌, List, ap}
 use Rattle.te_model.specs.declared.route.PathShare.{PathShare}
 use Rattle.ratio_witness.specs.Text.{pair_lines}
-use Rattle.ratio_witness.proofs.PutLines.{all_put, one_more}
+use Rattle.ratio_witness.proofs.PutLines.{one_more}
+use Rattle.te_model.proofs.Lists.{all_put}
 use Rattle.ratio_witness.proofs.printing.add_pairs.Goals as goal
 
 pub loop-paths-preserved : goal.loop-paths-preserved

@@ -2,7 +2,8 @@ use Rattle.std.proofs.Common.{ℕ, List, ◌≡◌, ◌++◌, ap, ◌∙◌}
 use Rattle.std.specs.List.{flat_map}
 use Rattle.te_model.specs.declared.route.PathShare.{PathShare}
 use Rattle.te_model.specs.Network.{name_at}
-use Rattle.cert_text.proofs.PrintLemmas.{all_put, one_more}
+use Rattle.cert_text.proofs.PrintLemmas.{one_more}
+use Rattle.te_model.proofs.Lists.{all_put}
 use Rattle.step_detail.specs.Paths.{weighted_path_line}
 use Rattle.step_detail.proofs.weighted_path.print_pair_paths.Goals as goal
 

@@ -5,7 +5,8 @@ use Rattle.te_model.specs.declared.route.PairRoutes.{PairRoutes}
 use Rattle.te_model.specs.Network.{node_count}
 use Rattle.te_model.specs.Pairs.{IsNodePair}
 use Rattle.te_model.specs.Path.{no_routes, routes_at}
-use Rattle.cert_text.proofs.PrintLemmas.{all_put, one_more}
+use Rattle.cert_text.proofs.PrintLemmas.{one_more}
+use Rattle.te_model.proofs.Lists.{all_put}
 use Rattle.step_detail.specs.Paths.{path_lines_of}
 use Rattle.step_detail.proofs.Pairs.{pair_of_nodes}
 use Rattle.step_detail.proofs.weighted_path.print_paths.Goals as goal

@@ -4,7 +4,8 @@ use Rattle.te_model.specs.declared.network.Link.{Link}
 use Rattle.te_model.specs.declared.units.TheConstants.{SHARE_UNIT}
 use Rattle.te_model.specs.Network.{link_count, no_link}
 use Rattle.update_plan.specs.declared.path.TheConstants.{MAX_STEPS}
-use Rattle.update_plan.proofs.StepCounts.{max_is, of_link, one_more}
+use Rattle.update_plan.proofs.StepCounts.{of_link, one_more}
+use Rattle.te_model.proofs.Choices.{ord_max_is}
 use Rattle.update_plan.proofs.steps.least_steps.Goals as goal
 
 pub returns-then-steps-from-clause-none : goal.returns-then-steps-from-clause-none
@@ -42,7 +43,7 @@ loop-h-preserved c =
     c.steps_on-steps.ensures.least
     in
     let few : steps ≤ MAX_STEPS = omega (arith, c.if-steps-from.false, c.from.ensures) in
-    let next : c.max-most.result ≡ max most steps = c.max-most.ensures ∙ max_is most steps in
+    let next : c.max-most.result ≡ max most steps = c.max-most.ensures ∙ ord_max_is most steps in
     let both = one_more net loads most steps h c.loop-h.invariant.least here in
     record {
       some = omega (arith, next, c.loop-h.invariant.some);
