@@ -23,3 +23,4 @@ pub mod SharedExist
 pub mod MetricsExist
 pub mod ScalesExist
 pub mod BlocksExist
+pub mod ValidNumbers

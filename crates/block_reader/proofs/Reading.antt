@@ -57,8 +57,5 @@ reads_short {A} d name fault is = reads_none {A = A} d name (Err fault) (λ e. c
 pub ok_sound : {A : Type 0} (x : A) → ◌≢◌ {A = Result A StreamFault} (Ok x) (Err Failed)
 ok_sound x e = cc
 
-pub at_least : (a b c : ℕ) → a ≤ b → b ≤ c → a ≤ c
-at_least a b c first next = omega (arith, first, next)
-
 pub at_most_itself : (a : ℕ) → a ≤ a
 at_most_itself a = omega arith

@@ -55,3 +55,7 @@ pub one_more : {X : Type 0} (f : X → List ℕ) (old now more : List ℕ) (xs :
 one_more {X} f old now more xs i x lt is was put =
     put ∙ ap (λ (o : List ℕ). o ++ f x) was ∙ flat_map_more f old (take i xs) x
     ∙ ap (λ (ys : List X). old ++ flat_map f ys) (ap (λ (y : X). take i xs ++ y ∷ []) is ∙ sym (take_more xs i x lt))
+
+-- numbers that are put one after another, with a blank before each but the first
+pub numbers_put : (old : List ℕ) (x : ℕ) (xs : List ℕ) → (old ++ decimal x) ++ flat_map with_space xs ≡ old ++ numbers (x ∷ xs)
+numbers_put old x xs = append_assoc old (decimal x) (flat_map with_space xs) ∙ ap (λ (l : List ℕ). old ++ l) (sym (joined (decimal x) xs))

@@ -1,5 +1,5 @@
 -- The choice of the best bracket, one after another.
-use Rattle.std.proofs.Common.{◌≡◌, ℕ, ◌+◌, ◌*◌, ◌/◌, ◌<◌, ◌≤◌, Bool, true, false, List, [], ◌∷◌, ◌++◌, length, take, get_or, arith, refl, ap, sym, subst, ◌∙◌, nat_lt, le_of_lt}
+use Rattle.std.proofs.Common.{◌≡◌, ℕ, ◌+◌, ◌*◌, ◌/◌, ◌<◌, ◌≤◌, Bool, true, false, List, [], ◌∷◌, ◌++◌, length, take, get_or, arith, refl, ap, sym, subst, ◌∙◌, nat_lt, le_of_lt, le_trans}
 use Rattle.std.specs.Prelude.{All, max, if◌then◌else◌}
 use Rattle.std.specs.List.{Contains}
 use Rattle.std.proofs.lemmas.Bool.{ltb-true, ltb-false}
@@ -34,9 +34,6 @@ pub record IsChoice (net : Network) (n : ℕ) (demand : List ℕ) (most : ℕ) (
 
 up_to_same : (a b : ℕ) → a ≡ b → a ≤ b
 up_to_same a b same = omega (arith, same)
-
-up_to_through : (a b c : ℕ) → a ≤ b → b ≤ c → a ≤ c
-up_to_through a b c first second = omega (arith, first, second)
 
 -- whatever distances its lengths make, they give the bound of the bracket
 low_is : (net : Network) (n : ℕ) (demand : List ℕ) (most : ℕ) (makes : List ℕ → (ℕ → ℕ) → Type 0) (b : Bracket) (distance : ℕ → ℕ) → IsUnique n makes →
@@ -91,7 +88,7 @@ choice_push net n demand most makes keeps came best other unique choice of rows 
           chosen = Contains-push came other.lengths;
           greatest = All-push (IsNotAbove net n demand makes other) came other.lengths
               (All-weaker (IsNotAbove net n demand makes best) (IsNotAbove net n demand makes other)
-              (λ lengths up distance made. up_to_through (low_under net n demand lengths distance) (low_of best) (low_of other) (up distance made) (le_of_lt greater))
+              (λ lengths up distance made. le_trans (up distance made) (le_of_lt greater))
               came choice.greatest)
               (λ distance made. up_to_same (low_under net n demand other.lengths distance) (low_of other) (low_is net n demand most makes other distance unique of made));
         }
@@ -106,7 +103,7 @@ choice_push net n demand most makes keeps came best other unique choice of rows 
           above = choice.above;
           chosen = Contains-append_left came (other.lengths ∷ []) best.lengths choice.chosen;
           greatest = All-push (IsNotAbove net n demand makes best) came other.lengths choice.greatest
-              (λ distance made. up_to_through (low_under net n demand other.lengths distance) (low_of other) (low_of best)
+              (λ distance made. le_trans
               (up_to_same (low_under net n demand other.lengths distance) (low_of other) (low_is net n demand most makes other distance unique of made)) least);
         }
 

@@ -4,14 +4,10 @@ use Rattle.std.proofs.lemmas.Bool.{le-leb, leb-true}
 use Rattle.te_model.specs.declared.certificate.RuleFault.{RuleFault}
 use Rattle.te_model.specs.Counting.{or_else, unless}
 use Rattle.te_model.specs.Validity.{fault_at, rule_fault}
-use Rattle.te_model.proofs.Searches.{first_below_none}
+use Rattle.te_model.proofs.Searches.{first_below_none, rule_fault_none}
 use Rattle.te_model.proofs.Tests.{first_failing_none_at, or_else_none}
 use Rattle.fault_rates.specs.Protection.{AreGuarded, guard, sum_on_link}
 use Rattle.fault_rates.specs.Verdict.{GuardedIsFaultless, guard_fault}
-
--- a rule that holds at each of its places has no fault
-pub passed : (number n : ℕ) (test : ℕ → Bool) → ((k : ℕ) → k < n → test k ≡ true) → rule_fault number n test ≡ None
-passed number n test holds = first_below_none n (λ k. unless (test k) (fault_at number k)) (λ k below. ap (λ b. unless b (fault_at number k)) (holds k below))
 
 pub guarded_is_faultless : GuardedIsFaultless
 guarded_is_faultless x = (to, from)
@@ -29,9 +25,9 @@ guarded_is_faultless x = (to, from)
 
     from : AreGuarded x → guard_fault x ≡ None
     from holds =
-        let one = passed 1 x.links (λ e. nat_le (sum_on_link x x.allocation e) (x.capacity e)) (λ e below. le-leb _ _ (holds.fits e below)) in
-        let two = passed 2 x.pairs (λ p. nat_le (x.grant p) (guard x p)) (λ p below. le-leb _ _ (holds.guarded p below)) in
-        let three = passed 3 x.pairs (λ p. nat_le (x.grant p) (x.demand p)) (λ p below. le-leb _ _ (holds.wanted p below)) in
+        let one = rule_fault_none 1 x.links (λ e. nat_le (sum_on_link x x.allocation e) (x.capacity e)) (λ e below. le-leb _ _ (holds.fits e below)) in
+        let two = rule_fault_none 2 x.pairs (λ p. nat_le (x.grant p) (guard x p)) (λ p below. le-leb _ _ (holds.guarded p below)) in
+        let three = rule_fault_none 3 x.pairs (λ p. nat_le (x.grant p) (x.demand p)) (λ p below. le-leb _ _ (holds.wanted p below)) in
         let guards = rule_fault 2 x.pairs (λ p. nat_le (x.grant p) (guard x p)) in
         let wanted = rule_fault 3 x.pairs (λ p. nat_le (x.grant p) (x.demand p)) in
         ap (λ (r : Option RuleFault). or_else r (or_else guards (or_else wanted None))) one

@@ -26,7 +26,7 @@ use Rattle.fault_rates.specs.Plan.{IsShapedPlan, allocations_at, has_small_rates
 use Rattle.fault_rates.specs.Protection.{AreGuarded, paths_left, sum_on_link}
 use Rattle.fault_rates.specs.Tables.{CanAdd, paths_on}
 use Rattle.fault_rates.proofs.Existence.{KeepsEven, guarded_by, raised_same, raised_other}
-use Rattle.fault_rates.proofs.Faultless.{passed}
+use Rattle.te_model.proofs.Searches.{rule_fault_none}
 use Rattle.fault_rates.proofs.Survival.{even_guard}
 
 -- ---- one allocation for all paths of each pair, on the links
@@ -247,8 +247,8 @@ made_valid : (net : Network) (routes : List PairRoutes) (demand : List ℕ) (fai
     AreDemands (length routes) demand → failures ≤ 8 → plan_fault plan ≡ None
 made_valid net routes demand failures a plan made demands few =
     let same = made.failures in
-    let one = passed 1 1 (λ k. nat_le plan.failures 8) (λ k below. le-leb plan.failures 8 (omega (arith, same, few))) in
-    let two = passed 2 (length plan.grant) (has_small_rates plan) (made_small net routes demand failures a plan made demands) in
+    let one = rule_fault_none 1 1 (λ k. nat_le plan.failures 8) (λ k below. le-leb plan.failures 8 (omega (arith, same, few))) in
+    let two = rule_fault_none 2 (length plan.grant) (has_small_rates plan) (made_small net routes demand failures a plan made demands) in
     ap (λ (r : Option RuleFault). or_else r (or_else (rule_fault 2 (length plan.grant) (has_small_rates plan)) None)) one
     ∙ ap (λ (r : Option RuleFault). or_else r None) two
 

@@ -16,7 +16,8 @@ use Rattle.hose_bound.specs.Answers.{HoseTextsAreShort}
 use Rattle.hose_bound.specs.Files.{hose_block_lines, hose_cert_lines, is_shaped_hose_block}
 use Rattle.hose_bound.specs.Judging.{IsSmallBlock}
 use Rattle.hose_bound.specs.Rules.{hose_block_at, link_before_block, zero_hose_block}
-use Rattle.hose_bound.proofs.Valid.{row_length, rules_hold, small_blocks, valid_amounts}
+use Rattle.hose_bound.proofs.Valid.{rules_hold, small_blocks, valid_amounts}
+use Rattle.te_model.proofs.ValidHeads.{row_length}
 
 -- the bytes of a number with what stands beside it
 eleven : widest (2 ^ 32) ≡ 11

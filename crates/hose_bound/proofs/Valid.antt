@@ -16,6 +16,7 @@ use Rattle.te_model.specs.PathRouting.{IsPathSplit, IsPathRouting}
 use Rattle.te_model.specs.Shape.{is_row_of, are_words}
 use Rattle.te_model.specs.Validity.{rule_fault, fault_at, follows, paths_ascend}
 use Rattle.te_model.proofs.Tests.{and_true, or_else_none, first_failing_none_at, list_all_at, get_or_past, all_to_tests}
+use Rattle.te_model.proofs.ValidHeads.{row_length}
 use Rattle.routing.specs.Split.{are_splits, is_split, total_weight}
 use Rattle.routing.proofs.Splits.{weight_on-le}
 use Rattle.ratio_checker.specs.Ascending.{AscendsFrom}
@@ -68,9 +69,6 @@ blocks_in_order net c valid =
     let rules = rules_hold net c valid.no_fault in
     ascends_from_steps (λ b. b.link) 0 c.blocks (zero_hose_block 0) (λ some. omega arith)
     (λ k below. ltb-true _ _ (and_true _ (follows (link_before_block c.blocks (suc k)) (hose_block_at c.blocks (suc k)).link) (rules.links (suc k) below)).1)
-
-pub row_length : (n : ℕ) (numbers : List ℕ) → is_row_of n numbers ≡ true → length numbers ≡ n
-row_length n numbers is = eqb-true _ _ (and_true (length numbers == n) (are_words numbers) is).0
 
 past_is_small : (numbers : List ℕ) (i : ℕ) → length numbers ≤ i → slice_index numbers i ≤ 2 ^ 32
 past_is_small numbers i past = let none = get_or_past numbers i 0 past in omega (arith, none)

@@ -13,17 +13,14 @@ use Rattle.ratio_checker.specs.Ascending.{AscendsFrom}
 use Rattle.ratio_checker.specs.Shares.{AreShareNumbers}
 use Rattle.ratio_checker.proofs.Absent.{empty_failure_is, no_block}
 use Rattle.ratio_checker.proofs.FedBlocks.{shares_alone}
+use Rattle.ratio_checker.proofs.Absent.{pays_holds}
 use Rattle.te_model.specs.Feasible.{infeasibility}
 use Rattle.te_model.proofs.FeasibleBlocks.{block_failure-parts}
-
--- nothing is to be paid
-pub empty_pays : (net : Network) (e ratio : ℕ) → pays_weights net (empty_block e) ratio ≡ true
-empty_pays net e ratio = le-leb _ _ (omega arith)
 
 pub empty_infeasibility_is : (head : Head) (e : ℕ) → infeasibility head (empty_block e) ≡ shares_failure head.routes (empty_block e)
 empty_infeasibility_is head e =
     sym (block_failure-parts head (empty_block e)
-    ∙ ap (λ t. or_else (infeasibility head (empty_block e)) (unless t (failure_at 4 0))) (empty_pays head.network e head.ratio)
+    ∙ ap (λ t. or_else (infeasibility head (empty_block e)) (unless t (failure_at 4 0))) (pays_holds head.network e head.ratio)
     ∙ or_else-none (infeasibility head (empty_block e)))
     ∙ empty_failure_is head e
 

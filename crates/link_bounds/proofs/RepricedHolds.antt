@@ -30,8 +30,9 @@ use Rattle.best_blocks.proofs.Needs.{is_need, pays_more}
 use Rattle.ratio_checker.proofs.FormedHeads.{head_formed}
 use Rattle.link_bounds.specs.Laws.{CanReprice, LastRepricingCounts, RepricedHolds, RepricingKeepsFailures, RepricingLowersRatio}
 use Rattle.link_bounds.specs.Repriced.{greatest_need, repriced}
-use Rattle.link_bounds.proofs.AbsentBlocks.{empty_pays}
-use Rattle.link_bounds.proofs.RepricedValid.{block_numbers, block_on}
+use Rattle.ratio_checker.proofs.Absent.{pays_holds}
+use Rattle.link_bounds.proofs.RepricedValid.{block_on}
+use Rattle.best_blocks.proofs.ValidNumbers.{block_numbers}
 use Rattle.link_bounds.proofs.SameNetworks.{infeasibility_same}
 
 -- the greatest need pays for each block, and each ratio that does is no less
@@ -66,7 +67,7 @@ numbers_on c net valid same = λ k d below.
 pub ratio_pays : (c : Certificate) (net : Network) → IsValid c → CanReprice c net → (e : ℕ) →
     pays_weights net (block_of c.blocks e) (greatest_need net c.blocks) ≡ true
 ratio_pays c net valid can e =
-    block_of_has (λ b. pays_weights net b (greatest_need net c.blocks) ≡ true) c.blocks e (empty_pays net e (greatest_need net c.blocks))
+    block_of_has (λ b. pays_weights net b (greatest_need net c.blocks) ≡ true) c.blocks e (pays_holds net e (greatest_need net c.blocks))
     (is_greatest_need net c.blocks can.formed (numbers_on c net valid can.same)).enough
 
 pub failures_kept : RepricingKeepsFailures

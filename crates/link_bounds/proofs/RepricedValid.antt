@@ -69,13 +69,6 @@ block_on x y same format routes set b valid = record {
         && is_count 0 limits.nodes (length b.rows) && list_all (is_shaped_row n) b.rows
         && has_one_each s pairs b.plus && has_one_each s pairs b.minus
 
--- the numbers of a valid block of a head
-pub block_numbers : (h : Head) (b : Block) → IsValidBlock h b → HasNumbers h.network b
-block_numbers h b valid =
-    let shaped = valid.shaped in
-    let row : is_row_of (link_count h.network) b.weights ≡ true = grind (arith, nat_tests) in
-    record { numbers = valid.numbers; small = valid.small; weights = grind (arith, nat_tests) }
-
 -- the certificate on the network, of any ratio
 abbrev pub with_ratio : Certificate → Network → ℕ → Certificate
 with_ratio c net ratio = record {

@@ -14,10 +14,6 @@ use Rattle.number_tables.specs.Table.{line_text, table_text}
 pub put_two : (old a b all : List ℕ) → all ≡ a ++ b → (old ++ a) ++ b ≡ old ++ all
 put_two old a b all e = append_assoc old a b ∙ ap (λ (y : List ℕ). old ++ y) (sym e)
 
--- `grind` is shown the call first
-pub numbers_put : (old : List ℕ) (x : ℕ) (xs : List ℕ) → (old ++ decimal x) ++ flat_map with_space xs ≡ old ++ numbers (x ∷ xs)
-numbers_put old x xs = put_two old (decimal x) (flat_map with_space xs) (numbers (x ∷ xs)) (joined (decimal x) xs)
-
 pub words_put : (old word xs : List ℕ) → (old ++ word) ++ flat_map with_space xs ≡ old ++ words word xs
 words_put old word xs = put_two old word (flat_map with_space xs) (words word xs) (joined word xs)
 

@@ -27,7 +27,7 @@ use Rattle.te_model.specs.Path.{chains, is_path, is_distinct, nodes_visited, rou
 use Rattle.te_model.specs.PathRouting.{IsPathSplit}
 use Rattle.te_model.specs.Shape.{is_word, are_words, is_row_of, is_shaped_link, is_shaped_network, is_shaped_path, is_shaped_pair, is_shaped_set}
 use Rattle.te_model.specs.Validity.{pair_below, fault_at, rule_fault, is_sound_pair, has_sound_paths, has_ascending_paths, has_whole_weight, with_first, has_margin_numbers, has_pair_bounds, IsValidHead}
-use Rattle.te_model.proofs.Searches.{first_below_none, all_below_at}
+use Rattle.te_model.proofs.Searches.{all_below_at, first_below_none, rule_fault_none}
 use Rattle.te_model.proofs.SoundLinks.{sound_links}
 use Rattle.te_model.proofs.Tests.{all_to_tests}
 use Rattle.te_model.proofs.PathRoutings.{path_routing}
@@ -198,10 +198,6 @@ pair_bounds pairs (Margin num den base) within p below =
     le-leb _ _ (All-get_or (λ d. d ≤ 2 ^ 32) base.demand p 0 (omega (arith, below, within.1.count)) within.1.small)
 pair_bounds pairs (Box lower upper) within p below = let each = within.each p below in and_from _ _ (le-leb _ _ each.0) (le-leb _ _ each.1)
 
--- a rule that holds at each place has no fault
-no_fault : (r n : ℕ) (test : ℕ → Bool) → ((k : ℕ) → k < n → test k ≡ true) → rule_fault r n test ≡ None
-no_fault r n test each = first_below_none n (λ k. unless (test k) (fault_at r k)) (λ k below. ap (λ b. unless b (fault_at r k)) (each k below))
-
 -- a head whose format has room for its network and sets of its form, and whose ratio is within the limit
 pub made_head : (h : Head) → IsFormatFor h.network h.set h.format → is_well_formed h.network ≡ true → 1 ≤ link_count h.network → IsRoutingWithin h.network h.routes →
     IsSetWithin (length h.routes) h.set → h.ratio < 10 ^ 19 → IsValidHead h
@@ -223,13 +219,13 @@ made_head h format formed some within wanted small =
     let margin : (k : ℕ) → k < 1 + pairs → with_first (has_margin_numbers h.set) (has_pair_bounds h.set) k ≡ true =
     λ k below. at_margin k below (margin_numbers pairs h.set wanted) (pair_bounds pairs h.set wanted)
     in
-    let first = no_fault 1 (node_count net) (is_new_name net) new in
-    let second = no_fault 2 (link_count net) (is_sound_link net) (sound_links net formed) in
-    let third = no_fault 3 pairs (is_sound_pair h) (sound_pair h within) in
-    let fourth = no_fault 4 pairs (has_sound_paths h) (λ p below. (paths p below).0) in
-    let fifth = no_fault 5 pairs (has_ascending_paths h) (λ p below. (paths p below).1) in
-    let sixth = no_fault 6 pairs (has_whole_weight h) (λ p below. (paths p below).2) in
-    let seventh = no_fault 7 (1 + pairs) (with_first (has_margin_numbers h.set) (has_pair_bounds h.set)) margin in
+    let first = rule_fault_none 1 (node_count net) (is_new_name net) new in
+    let second = rule_fault_none 2 (link_count net) (is_sound_link net) (sound_links net formed) in
+    let third = rule_fault_none 3 pairs (is_sound_pair h) (sound_pair h within) in
+    let fourth = rule_fault_none 4 pairs (has_sound_paths h) (λ p below. (paths p below).0) in
+    let fifth = rule_fault_none 5 pairs (has_ascending_paths h) (λ p below. (paths p below).1) in
+    let sixth = rule_fault_none 6 pairs (has_whole_weight h) (λ p below. (paths p below).2) in
+    let seventh = rule_fault_none 7 (1 + pairs) (with_first (has_margin_numbers h.set) (has_pair_bounds h.set)) margin in
     record {
       shaped = and_from _ _ (and_from _ _ (and_from _ _ (and_from _ _ (and_from _ _ (eq-eqb h.format limits.format (sym number)) network)
           (and_from _ _ (le-leb 0 pairs (omega arith)) (le-leb pairs limits.pairs few))) shaped_pairs) set_is) ratio;

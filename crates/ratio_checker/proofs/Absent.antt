@@ -33,7 +33,7 @@ bounds_hold All n e = refl
 bounds_hold (Margin num den base) n e = le-leb _ _ (omega (arith, nothing_added n (upper_of (Margin num den base))))
 bounds_hold (Box lower upper) n e = le-leb _ _ (omega (arith, nothing_added n (upper_of (Box lower upper))))
 
-pays_holds : (net : Network) (e ratio : ℕ) → pays_weights net (empty_block e) ratio ≡ true
+pub pays_holds : (net : Network) (e ratio : ℕ) → pays_weights net (empty_block e) ratio ≡ true
 pays_holds net e ratio = le-leb _ _ (omega arith)
 
 pub empty_failure_is : (head : Head) (e : ℕ) → block_failure head (empty_block e) ≡ shares_failure head.routes (empty_block e)

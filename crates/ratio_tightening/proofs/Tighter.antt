@@ -32,7 +32,8 @@ use Rattle.link_bounds.specs.Repriced.{greatest_need}
 use Rattle.te_model.proofs.FeasibleBlocks.{holds_where_pays}
 use Rattle.ratio_checker.proofs.FormedHeads.{head_formed}
 use Rattle.link_bounds.proofs.RepricedHolds.{greatest_need_once, is_greatest_need, ratio_lowered, repriced_holds}
-use Rattle.link_bounds.proofs.RepricedValid.{block_numbers, repriced_valid}
+use Rattle.link_bounds.proofs.RepricedValid.{repriced_valid}
+use Rattle.best_blocks.proofs.ValidNumbers.{block_numbers, certificate_numbers}
 use Rattle.ratio_certificate.specs.Form.{made_format, made_set}
 use Rattle.ratio_certificate.specs.Made.{IsMade, IsOwnBest}
 use Rattle.ratio_certificate.specs.Offers.{IsWithinWeights}
@@ -54,9 +55,6 @@ ratio_small : (c : Certificate) → IsValid c → c.head.ratio < 10 ^ 19
 ratio_small c valid =
     ltb-true _ _ (first_failing_none_at (1 + length c.blocks) (with_first (has_ratio c.head) (sound_at c)) (fault_at 8) 0
     (first_some_none_at (faults_from 1 (rules c)) 7 valid.1) (omega arith))
-
-pub block_formed : (c : Certificate) → IsValid c → All (HasNumbers c.head.network) c.blocks
-block_formed c valid = λ k d below. block_numbers c.head (get_or c.blocks k d) (((valid_parts c).0 valid).blocks k d below)
 
 -- a link with a share has a block of which the first two inequalities hold
 shared_has_block : (head : Head) (e : ℕ) → IsFeasible head (empty_block e) → HasShare head.routes e → ⊥
@@ -304,7 +302,7 @@ tightened_exist c valid =
     let format = made_format net c.head.set in
     let offers = offers_of c.blocks in
     let some = made_in_exists format net c.head.routes (made_set net c.head.set) offers formed (counts_of c valid).some_links (routing_within c valid)
-    (made_set_within (length c.head.routes) format c.head.set (set_within c valid)) (format_for net c.head.set formed) (offers_good net c.blocks (block_formed c valid))
+    (made_set_within (length c.head.routes) format c.head.set (set_within c valid)) (format_for net c.head.set formed) (offers_good net c.blocks (certificate_numbers c valid))
     in
     let within = given_within net c.head.routes (made_set net c.head.set) c.blocks some.0.blocks some.2 in (
       tightened c some.0,

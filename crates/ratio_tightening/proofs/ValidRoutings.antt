@@ -20,7 +20,7 @@ use Rattle.te_model.specs.Shape.{is_count, is_row_of, is_shaped_head, is_shaped_
 use Rattle.te_model.specs.Validity.{IsValid, fault_at, faults_from, has_ascending_paths, has_margin_numbers, has_pair_bounds, has_sound_paths, has_whole_weight, is_sound_pair, rules}
 use Rattle.te_model.proofs.PathRoutings.{path_routing}
 use Rattle.te_model.proofs.Tests.{all_from_tests, first_failing_none_at, first_some_none_at}
-use Rattle.te_model.proofs.ValidHeads.{few_in_format}
+use Rattle.te_model.proofs.ValidHeads.{few_in_format, row_length}
 use Rattle.te_model.proofs.Valid.{limits_small, rules_hold}
 use Rattle.te_model.proofs.ValidParts.{valid_parts}
 use Rattle.best_blocks.specs.Conditions.{AreBounds, IsRoutingWithin, IsSetWithin}
@@ -100,17 +100,13 @@ routing_within c valid =
           (λ r is. few_paths (limits_of h.format) r (few_in_format h.format) is) h.routes shape.routes;
     }
 
--- a row has its number of numbers
-row_count : (n : ℕ) (numbers : List ℕ) → is_row_of n numbers ≡ true → length numbers ≡ n
-row_count n numbers shaped = grind (arith, nat_tests)
-
 -- the demands of a margin
 margin_demands : (limits : Limits) (pairs num den : ℕ) (demand : Matrix) → is_shaped_set limits pairs (Margin num den demand) ≡ true →
     ((p : ℕ) → p < pairs → has_pair_bounds (Margin num den demand) p ≡ true) → AreDemands pairs demand.demand
 margin_demands limits pairs num den demand shaped base =
     let first = limits.format == 1 in
     let row = and_parts (first && is_word num && is_word den) (is_row_of pairs demand.demand) shaped in
-    let count = row_count pairs demand.demand row.1 in
+    let count = row_length pairs demand.demand row.1 in
     record {
       count = count;
       small = All-from_get_or (λ d. d ≤ 2 ^ 32) demand.demand 0 (λ p below. leb-true (slice_index demand.demand p) (2 ^ 32) (base p (omega (arith, below, count))));
@@ -124,8 +120,8 @@ box_bounds limits pairs lower upper shaped base =
     let high = and_parts (second && is_row_of pairs lower.demand) (is_row_of pairs upper.demand) shaped in
     let low = and_parts second (is_row_of pairs lower.demand) high.0 in
     record {
-      lower_count = row_count pairs lower.demand low.1;
-      upper_count = row_count pairs upper.demand high.1;
+      lower_count = row_length pairs lower.demand low.1;
+      upper_count = row_length pairs upper.demand high.1;
       each = λ p below.
           let both = and_parts (nat_le (slice_index lower.demand p) (slice_index upper.demand p)) (nat_le (slice_index upper.demand p) (2 ^ 52)) (base p below) in
           (leb-true (slice_index lower.demand p) (slice_index upper.demand p) both.0, leb-true (slice_index upper.demand p) (2 ^ 52) both.1);

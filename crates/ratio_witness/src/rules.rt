@@ -1,14 +1,13 @@
 //! The rules U1 to U6 of a witness.
-ghost use Rattle.std.specs.Prelude.{◌≡◌, ◌&&◌, ◌<◌, length, nat_le, sum_by};
-ghost use Rattle.std.specs.List.{list_all};
-ghost use Rattle.te_model.specs.Path.{is_path};
+ghost use Rattle.std.specs.Prelude.{◌≡◌, ◌&&◌, ◌<◌, length};
 ghost use Rattle.te_model.specs.Counting.{unless};
-ghost use Rattle.te_model.specs.Validity.{fault_at, paths_ascend, rule_fault};
+ghost use Rattle.te_model.specs.Validity.{fault_at, rule_fault};
 ghost use Rattle.ratio_witness.specs.Rules.{has_bound, has_scale, has_small_demand, has_sound_rival, has_whole_rival, is_carried, witness_fault};
 
 use crate::witness::Witness;
-use routing::is_list_below;
-use te_model::{Head, Network, PathShare, RuleFault, SHARE_UNIT, first_fault, is_path};
+use te_model::{
+    Head, RuleFault, SHARE_UNIT, all_paths, all_weighted, first_fault, paths_ascend, weights_sum,
+};
 
 fn has_bound(witness: &Witness) -> bool
     ensures { result ≡ has_bound witness.now }
@@ -34,29 +33,6 @@ fn is_carried(witness: &Witness, p: usize) -> bool
     witness.demand_of(p) == 0 || 1 <= witness.rival_paths(p).len()
 }
 
-fn all_paths(network: &Network, from: u32, to: u32, paths: &[PathShare]) -> bool
-    ensures { result ≡ list_all (λ s. is_path network.now from to s.links) paths.now }
-{
-    for path in paths {
-        if !is_path(network, from, to, path.links.as_slice()) {
-            return false;
-        }
-    }
-    true
-}
-
-fn paths_ascend(paths: &[PathShare]) -> bool
-    ensures { result ≡ paths_ascend paths.now }
-{
-    match paths {
-        [p, rest @ ..] => match rest {
-            [q, ..] => is_list_below(p.links.as_slice(), q.links.as_slice()) && paths_ascend(rest),
-            [] => true,
-        },
-        [] => true,
-    }
-}
-
 fn has_sound_rival(head: &Head, witness: &Witness, p: usize) -> bool
     requires { p < length head.now.routes }
     ensures { result ≡ has_sound_rival head.now witness.now p }
@@ -64,22 +40,6 @@ fn has_sound_rival(head: &Head, witness: &Witness, p: usize) -> bool
     let pair = head.routes.as_slice()[p].pair;
     let paths = witness.rival_paths(p);
     all_paths(&head.network, pair.src, pair.dst, paths) && paths_ascend(paths)
-}
-
-fn weights_sum(paths: &[PathShare]) -> u128
-    ensures { result ≡ sum_by (λ s. s.weight) paths.now }
-{
-    let mut total: u128 = 0;
-    for path in paths {
-        total += path.weight as u128;
-    }
-    total
-}
-
-fn all_weighted(paths: &[PathShare]) -> bool
-    ensures { result ≡ list_all (λ s. nat_le 1 s.weight) paths.now }
-{
-    paths.iter().all(|s| 1 <= s.weight)
 }
 
 fn has_whole_rival(witness: &Witness, p: usize) -> bool

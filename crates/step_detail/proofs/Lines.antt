@@ -8,7 +8,6 @@ use Rattle.te_model.specs.Marks.{is_marked}
 use Rattle.te_model.specs.Network.{capacity_of, head_of, name_at, tail_of}
 use Rattle.te_model.specs.Text.{numbers}
 use Rattle.cert_text.specs.Pieces.{with_space}
-use Rattle.cert_text.proofs.Productions.{joined as numbers_joined}
 use Rattle.series_simulation.specs.Simulation.{utilisation_on}
 use Rattle.experiment.proofs.JoinedFields.{after, joined}
 use Rattle.step_detail.specs.Links.{link_use_line, yes_or_no}
@@ -40,7 +39,3 @@ path_put text word source target links path weight a b =
     rw (a, b) (ap (λ (u : List ℕ). u ++ 10 ∷ [])
     (append_assoc (after (after (after (text ++ word) source) target) (decimal path.weight)) (44 ∷ []) (numbers path.links))
     ∙ line_put text word (source ∷ target ∷ decimal path.weight ∷ numbers path.links ∷ []))
-
--- numbers behind the first
-pub numbers_put : (old : List ℕ) (x : ℕ) (xs : List ℕ) → (old ++ decimal x) ++ flat_map with_space xs ≡ old ++ numbers (x ∷ xs)
-numbers_put old x xs = append_assoc old (decimal x) (flat_map with_space xs) ∙ ap (λ (l : List ℕ). old ++ l) (sym (numbers_joined (decimal x) xs))

@@ -1,5 +1,5 @@
 -- What valid certificates and valid heads give: path routings with few paths, and blocks of links that are there.
-use Rattle.std.proofs.Common.{◌≡◌, ℕ, ◌<◌, ◌≤◌, Bool, true, false, ◌==◌, None, [], length, get_or, arith, cond}
+use Rattle.std.proofs.Common.{◌≡◌, ℕ, ◌<◌, ◌≤◌, Bool, true, false, ◌==◌, None, List, [], length, get_or, arith, cond}
 use Rattle.std.proofs.lemmas.Bool.Decides.{nat_tests}
 use Rattle.std.proofs.lemmas.List.Elements.{All-nil}
 use Rattle.te_model.specs.declared.certificate.Block.{Block}
@@ -10,6 +10,7 @@ use Rattle.te_model.specs.declared.network.Network.{Network}
 use Rattle.te_model.specs.Formats.{limits_of}
 use Rattle.te_model.specs.Network.{link_count}
 use Rattle.te_model.specs.PathRouting.{IsPathRouting}
+use Rattle.te_model.specs.Shape.{is_row_of}
 use Rattle.te_model.specs.Validity.{IsValid, IsValidBlock, IsValidHead, fault_at, faults_from, has_ascending_paths, has_block_numbers, has_sound_paths, has_whole_weight, rules}
 use Rattle.te_model.proofs.PathRoutings.{path_routing}
 use Rattle.te_model.proofs.Tests.{first_failing_none_at, first_some_none_at}
@@ -50,3 +51,7 @@ few_in_format format = go (format == 2)
 -- a block that keeps its rule is of a link that is there
 pub block_link : (net : Network) (b : Block) → has_block_numbers net b ≡ true → b.link < link_count net
 block_link net b numbers = grind (arith, nat_tests)
+
+-- a row has its number of numbers
+pub row_length : (n : ℕ) (numbers : List ℕ) → is_row_of n numbers ≡ true → length numbers ≡ n
+row_length n numbers is = grind (arith, nat_tests)

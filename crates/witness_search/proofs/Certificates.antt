@@ -23,12 +23,3 @@ certificate_head c valid = ((valid_parts c).0 valid).head
 -- its bounds and its blocks have numbers within their limits
 pub certificate_bounds : (c : Certificate) → IsValid c → HasSmallBounds c.head.set
 certificate_bounds c valid p = let limits = valid_limits c valid in (limits.lower p, limits.upper p)
-
-block_numbers : (h : Head) (b : Block) → IsValidBlock h b → HasNumbers h.network b
-block_numbers h b valid =
-    let shaped = valid.shaped in
-    let row : is_row_of (link_count h.network) b.weights ≡ true = grind (arith, nat_tests) in
-    record { numbers = valid.numbers; small = valid.small; weights = grind (arith, nat_tests) }
-
-pub certificate_numbers : (c : Certificate) → IsValid c → All (HasNumbers c.head.network) c.blocks
-certificate_numbers c valid = All-weaker (IsValidBlock c.head) (HasNumbers c.head.network) (block_numbers c.head) c.blocks ((valid_parts c).0 valid).blocks

@@ -1,7 +1,7 @@
 use Rattle.std.proofs.Common.{◌∙◌, ◌∷◌, ◌++◌, [], ℕ, List, append-nil, ap, sym}
 use Rattle.link_bounds.specs.declared.needs.LinkNeed.{LinkNeed}
 use Rattle.link_bounds.proofs.OneNeed.{need_kept, need_passed}
-use Rattle.link_bounds.proofs.RepricedValid.{block_numbers}
+use Rattle.best_blocks.proofs.ValidNumbers.{block_numbers}
 use Rattle.link_bounds.proofs.needs.add_need.Goals as goal
 
 pub need-need-requires-clause-numbers : goal.need-need-requires-clause-numbers

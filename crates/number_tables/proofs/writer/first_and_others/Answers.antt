@@ -2,7 +2,7 @@ use Rattle.std.proofs.Common.{ℕ, List, ◌≡◌, ◌++◌, ap, subst, ◌∙�
 use Rattle.std.specs.Prelude.{OnOk}
 use Rattle.std.specs.List.{flat_map}
 use Rattle.cert_text.specs.Pieces.{with_space}
-use Rattle.number_tables.proofs.Printing.{numbers_put}
+use Rattle.cert_text.proofs.PrintLemmas.{numbers_put}
 use Rattle.number_tables.proofs.writer.first_and_others.Goals as goal
 
 pub returns : goal.returns

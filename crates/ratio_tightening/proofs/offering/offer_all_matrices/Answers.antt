@@ -1,7 +1,7 @@
 use Rattle.std.proofs.Common.{subst, sym}
 use Rattle.std.specs.Prelude.{All}
 use Rattle.best_blocks.specs.Need.{HasNumbers}
-use Rattle.ratio_tightening.proofs.Tighter.{block_formed}
+use Rattle.best_blocks.proofs.ValidNumbers.{certificate_numbers}
 use Rattle.ratio_tightening.proofs.offering.offer_all_matrices.Goals as goal
 
 pub offer_blocks-requires-clause-blocks : goal.offer_blocks-requires-clause-blocks
@@ -9,4 +9,4 @@ offer_blocks-requires-clause-blocks c =
     let all = c.in_ok-all.all in
     let made = c.in_ok-all.ensures.made in
     subst (All (HasNumbers c.args.net.now)) (sym c.as_slice.ensures)
-    (subst (λ n. All (HasNumbers n) all.blocks) made.network (block_formed all made.valid))
+    (subst (λ n. All (HasNumbers n) all.blocks) made.network (certificate_numbers all made.valid))

@@ -12,7 +12,8 @@ use Rattle.ratio_checker.proofs.FormedHeads.{head_formed}
 use Rattle.ratio_tightening.specs.Tightened.{AreWithinGiven, lesser_blocks, tightened, IsTighter}
 use Rattle.ratio_tightening.proofs.MadeOnHead.{made_in}
 use Rattle.ratio_tightening.proofs.SameSets.{set_same}
-use Rattle.ratio_tightening.proofs.Tighter.{block_formed, can_reprice, due, lessers, made_formed, made_tighter, valid_with}
+use Rattle.ratio_tightening.proofs.Tighter.{can_reprice, due, lessers, made_formed, made_tighter, valid_with}
+use Rattle.best_blocks.proofs.ValidNumbers.{certificate_numbers}
 use Rattle.ratio_tightening.proofs.ValidRoutings.{counts_of, routing_within, set_within}
 use Rattle.ratio_tightening.proofs.tightening.tighten.Goals as goal
 use Rattle.ratio_tightening.proofs.tightening.tighten.Goals.{After-new}
@@ -37,7 +38,7 @@ made_certificate-requires-clause-set c = set_within c.args.certificate c.require
 pub made_certificate-requires-clause-blocks : goal.made_certificate-requires-clause-blocks
 made_certificate-requires-clause-blocks c =
     let cert = c.args.certificate in
-    subst (All (HasNumbers cert.head.network)) (sym c.as_slice.ensures) (block_formed cert c.requires.valid)
+    subst (All (HasNumbers cert.head.network)) (sym c.as_slice.ensures) (certificate_numbers cert c.requires.valid)
 
 pub lesser_blocks-requires-clause-network : goal.lesser_blocks-requires-clause-network
 lesser_blocks-requires-clause-network c = head_formed c.args.certificate.head ((valid_parts c.args.certificate).0 c.requires.valid).head
@@ -45,7 +46,7 @@ lesser_blocks-requires-clause-network c = head_formed c.args.certificate.head ((
 pub lesser_blocks-requires-clause-blocks : goal.lesser_blocks-requires-clause-blocks
 lesser_blocks-requires-clause-blocks c =
     let cert = c.args.certificate in
-    subst (All (HasNumbers cert.head.network)) (sym c.as_slice-2.ensures) (block_formed cert c.requires.valid)
+    subst (All (HasNumbers cert.head.network)) (sym c.as_slice-2.ensures) (certificate_numbers cert c.requires.valid)
 
 pub lesser_blocks-requires-clause-made : goal.lesser_blocks-requires-clause-made
 lesser_blocks-requires-clause-made c =

@@ -2,7 +2,7 @@ use Rattle.std.proofs.Common.{ℕ, List, ◌≡◌, ◌++◌, ap, subst, ◌∙�
 use Rattle.std.specs.Prelude.{OnOk}
 use Rattle.std.specs.List.{flat_map}
 use Rattle.cert_text.specs.Pieces.{with_space}
-use Rattle.step_detail.proofs.Lines.{numbers_put}
+use Rattle.cert_text.proofs.PrintLemmas.{numbers_put}
 use Rattle.step_detail.proofs.weighted_path.print_first_and_others.Goals as goal
 
 pub returns : goal.returns

@@ -3,7 +3,8 @@ use Rattle.std.specs.Prelude.{All}
 use Rattle.te_model.specs.declared.certificate.Block.{Block}
 use Rattle.routing.proofs.Splits.{splits_of}
 use Rattle.best_blocks.specs.Need.{HasNumbers}
-use Rattle.witness_search.proofs.Certificates.{certificate_bounds, certificate_head, certificate_numbers}
+use Rattle.witness_search.proofs.Certificates.{certificate_bounds, certificate_head}
+use Rattle.best_blocks.proofs.ValidNumbers.{certificate_numbers}
 use Rattle.te_model.proofs.ValidHeads.{certificate_routing}
 use Rattle.witness_search.proofs.Heads.{head_pairs}
 use Rattle.ratio_checker.proofs.FormedHeads.{head_formed}

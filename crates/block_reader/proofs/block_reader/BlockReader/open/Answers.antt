@@ -1,4 +1,4 @@
-use Rattle.std.proofs.Common.{◌∙◌, [], Err, refl, sym, ap, subst}
+use Rattle.std.proofs.Common.{◌∙◌, [], Err, refl, sym, ap, subst, le_trans}
 use Rattle.std.proofs.lemmas.Result.{err_from_is_err_and}
 use Rattle.te_ports.specs.Ports.{Rose}
 use Rattle.te_ports.specs.Record.{pass}
@@ -8,7 +8,7 @@ use Rattle.block_reader.specs.Blocks.{IsFaultOf}
 use Rattle.block_reader.proofs.Handing.{valid_head, head_earliest}
 use Rattle.block_reader.proofs.Advancing.{Judges, fault_is}
 use Rattle.block_reader.proofs.Begun.{fault_begun, read_begun}
-use Rattle.block_reader.proofs.Reading.{ok_sound, at_least}
+use Rattle.block_reader.proofs.Reading.{ok_sound}
 use Rattle.block_reader.proofs.block_reader.BlockReader.open.Goals as goal
 
 pub returns-in-None-clause-head : goal.returns-in-None-clause-head
@@ -60,7 +60,7 @@ returns-in_err-reader-clause-steady g c =
     rw (p.1, p.2) (λ other. c.in_err-reader.ensures.reads.steady (λ e. other (ap (λ f. Err f) (fault_is c.in_err-reader.field-0.0 IsFailed e))))
 
 pub returns-in-Some-clause-later : goal.returns-in-Some-clause-later
-returns-in-Some-clause-later g c = λ other. at_least _ _ _ (c.in_ok-reader.ensures.reads.later other) (c.judge_rest.ensures.reads.later other)
+returns-in-Some-clause-later g c = λ other. le_trans (c.in_ok-reader.ensures.reads.later other) (c.judge_rest.ensures.reads.later other)
 
 pub returns-in-Some-clause-added : goal.returns-in-Some-clause-added
 returns-in-Some-clause-added g c = adds_then _ _ _ _ _ c.in_ok-reader.ensures.reads.content c.in_ok-reader.ensures.reads.added c.judge_rest.ensures.reads.added

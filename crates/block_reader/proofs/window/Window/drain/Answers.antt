@@ -1,11 +1,11 @@
-use Rattle.std.proofs.Common.{◌≡◌, ◌≢◌, ◌∙◌, ◌++◌, refl, sym, ap, subst, inl, inr, arith, rules, append_assoc, length, length-append}
+use Rattle.std.proofs.Common.{◌≡◌, ◌≢◌, ◌∙◌, ◌++◌, refl, sym, ap, subst, inl, inr, arith, rules, append_assoc, length, length-append, le_trans}
 use Rattle.te_ports.specs.Ports.{Rose}
 use Rattle.te_ports.specs.Record.{pass}
 use Rattle.te_ports.proofs.Giving.{adds_none, adds_then}
 use Rattle.block_reader.specs.declared.window.State.TheVariants.{Open, Failed}
 use Rattle.block_reader.specs.Standing.{ready, StandsAt, StandsIn}
 use Rattle.block_reader.proofs.Going.{at_clear, in_clear}
-use Rattle.block_reader.proofs.Reading.{at_least, at_most_itself}
+use Rattle.block_reader.proofs.Reading.{at_most_itself}
 use Rattle.block_reader.proofs.window.Window.drain.Goals as goal
 
 pub pieces-init : goal.pieces-init
@@ -57,7 +57,7 @@ pieces-preserved g c =
       (λ closed. absurd (closed (sym (all.7 closed).0 ∙ is_open))),
       (λ is. inr (subst (λ f. Rose (f name) (g.D.Depot.faults c.fetch.new.depot name)) (all.9 sound) (next.failed (sym clear.state ∙ is)))),
       (λ is. next.steady (λ failed. is (clear.state ∙ failed)) ∙ all.9 sound),
-      (λ other. at_least _ _ _ (all.10 other) (next.later other)),
+      (λ other. le_trans (all.10 other) (next.later other)),
       adds_then _ _ _ _ _ all.0 all.11 next.added,
       omega (arith, all.12, clear.fetched, next.count, ap length next.behind.1, length-append (ready c.pieces.self) next.behind.0),
       (λ closed. absurd (closed (sym (all.7 closed).0 ∙ is_open))),

@@ -1,11 +1,11 @@
-use Rattle.std.proofs.Common.{◌≡◌, ◌≢◌, ◌∙◌, ◌+◌, ◌-◌, ◌<◌, ◌≤◌, ◌++◌, ℕ, List, [], length, refl, sym, ap, subst, arith, rules, append_assoc, append-nil, inr}
+use Rattle.std.proofs.Common.{◌≡◌, ◌≢◌, ◌∙◌, ◌+◌, ◌-◌, ◌<◌, ◌≤◌, ◌++◌, ℕ, List, [], length, refl, sym, ap, subst, arith, rules, append_assoc, append-nil, inr, le_trans}
 use Rattle.te_ports.specs.Ports.{Rose}
 use Rattle.te_ports.proofs.Giving.{adds_none, adds_then}
 use Rattle.block_reader.specs.declared.window.State.TheVariants.{Open, Failed}
 use Rattle.block_reader.specs.declared.window.Window.{Window}
 use Rattle.block_reader.specs.Standing.{ready, fetched_of, limit_of, state_of, room_of, IsStateOf, StandsIn}
 use Rattle.block_reader.proofs.Going.{at_same, in_still}
-use Rattle.block_reader.proofs.Reading.{at_least, at_most_itself}
+use Rattle.block_reader.proofs.Reading.{at_most_itself}
 use Rattle.block_reader.proofs.window.Window.fill.Goals.{then-len-self, else-len-self}
 use Rattle.block_reader.proofs.window.Window.fill.Goals as goal
 
@@ -80,7 +80,7 @@ pieces-preserved g c =
       still_fits _ _ _ _ _ all.6 next.front next.room,
       (λ is. subst (λ f. Rose (f name) (g.D.Depot.faults c.fetch.new.depot name)) (all.8 sound) (next.failed is)),
       (λ is. next.steady is ∙ all.8 sound),
-      (λ other. at_least _ _ _ (all.9 other) (next.later other)),
+      (λ other. le_trans (all.9 other) (next.later other)),
       adds_then _ _ _ _ _ all.0 all.10 next.added,
       more_counts _ _ _ _ _ _ all.11 next.count,
     )
