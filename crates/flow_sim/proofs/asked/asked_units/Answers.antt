@@ -1,12 +1,12 @@
 use Rattle.std.proofs.Common.{◌≡◌, ◌<◌, ℕ, List, All, true, length, slice_index, arith, ap, sym, subst, ◌∙◌}
-use Rattle.std.proofs.lemmas.List.{get_or_read}
 use Rattle.std.proofs.lemmas.List.FromFn.{fill_by_all, length-map-range_with_len}
 use Rattle.te_model.specs.declared.network.Link.{Link}
 use Rattle.te_model.specs.declared.route.PairRoutes.{PairRoutes}
 use Rattle.te_model.specs.declared.route.PathShare.{PathShare}
 use Rattle.te_model.specs.Network.{link_count}
-use Rattle.te_model.specs.Path.{is_distinct, no_routes, routes_at}
+use Rattle.te_model.specs.Path.{is_distinct}
 use Rattle.te_model.proofs.Lists.{written_whole}
+use Rattle.te_model.proofs.LentRoutes.{below_pairs, lent_paths}
 use Rattle.flow_sim.specs.Asked.{asked_units_on}
 use Rattle.flow_sim.specs.Traffic.{paths_of}
 use Rattle.flow_sim.proofs.AskedLaws.{asked_done, asked_next, asked_none, asked_room, flows_more, flows_none, flows_within, links_distinct}
@@ -34,12 +34,9 @@ add_flows-requires-clause-flows c =
     let rates = c.args.rates.now.routes in
     let demand = c.args.matrix.now.demand in
     let p = c.loop-p.p in
-    let inside : p < length rates = omega (arith, c.loop-p-test.true, ap (λ (l : List PairRoutes). length l) c.as_slice-routes.ensures) in
+    let inside = below_pairs rates c.as_slice-routes.result.now p c.as_slice-routes.ensures c.loop-p-test.true in
     let paths : c.as_slice-paths.result.now ≡ paths_of rates p =
-    c.as_slice-paths.ensures
-    ∙ (ap (λ (r : PairRoutes). r.paths)
-    (sym c.index-routes-p.is ∙ get_or_read c.as_slice-routes.result.now p c.index-routes-p.result c.loop-p-test.true c.index-routes-p.is no_routes)
-    ∙ ap (λ (rs : List PairRoutes). (routes_at rs p).paths) c.as_slice-routes.ensures)
+    lent_paths rates c.as_slice-routes.result.now p c.index-routes-p.result c.as_slice-paths.result.now c.as_slice-routes.ensures c.loop-p-test.true c.as_slice-paths.ensures
     in
     omega (
       arith,
@@ -55,12 +52,9 @@ overflow_add-first c =
     let rates = c.args.rates.now.routes in
     let demand = c.args.matrix.now.demand in
     let p = c.loop-p.p in
-    let inside : p < length rates = omega (arith, c.loop-p-test.true, ap (λ (l : List PairRoutes). length l) c.as_slice-routes.ensures) in
+    let inside = below_pairs rates c.as_slice-routes.result.now p c.as_slice-routes.ensures c.loop-p-test.true in
     let paths : c.as_slice-paths.result.now ≡ paths_of rates p =
-    c.as_slice-paths.ensures
-    ∙ (ap (λ (r : PairRoutes). r.paths)
-    (sym c.index-routes-p.is ∙ get_or_read c.as_slice-routes.result.now p c.index-routes-p.result c.loop-p-test.true c.index-routes-p.is no_routes)
-    ∙ ap (λ (rs : List PairRoutes). (routes_at rs p).paths) c.as_slice-routes.ensures)
+    lent_paths rates c.as_slice-routes.result.now p c.index-routes-p.result c.as_slice-paths.result.now c.as_slice-routes.ensures c.loop-p-test.true c.as_slice-paths.ensures
     in
     omega (
       arith,
@@ -76,12 +70,9 @@ add_flows-requires-clause-links c =
     let net = c.args.net.now in
     let rates = c.args.rates.now.routes in
     let p = c.loop-p.p in
-    let inside : p < length rates = omega (arith, c.loop-p-test.true, ap (λ (l : List PairRoutes). length l) c.as_slice-routes.ensures) in
+    let inside = below_pairs rates c.as_slice-routes.result.now p c.as_slice-routes.ensures c.loop-p-test.true in
     let paths : c.as_slice-paths.result.now ≡ paths_of rates p =
-    c.as_slice-paths.ensures
-    ∙ (ap (λ (r : PairRoutes). r.paths)
-    (sym c.index-routes-p.is ∙ get_or_read c.as_slice-routes.result.now p c.index-routes-p.result c.loop-p-test.true c.index-routes-p.is no_routes)
-    ∙ ap (λ (rs : List PairRoutes). (routes_at rs p).paths) c.as_slice-routes.ensures)
+    lent_paths rates c.as_slice-routes.result.now p c.index-routes-p.result c.as_slice-paths.result.now c.as_slice-routes.ensures c.loop-p-test.true c.as_slice-paths.ensures
     in
     let size : link_count net ≡ length c.deref_mut.result.now = sym (ap (λ (l : List ℕ). length l) c.deref_mut.ensures.value ∙ c.loop-p.invariant.count) in
     subst (λ (ss : List PathShare). All (λ (s : PathShare). All (λ e. e < length c.deref_mut.result.now) s.links) ss) (sym paths)
@@ -92,12 +83,9 @@ add_flows-requires-clause-distinct c =
     let net = c.args.net.now in
     let rates = c.args.rates.now.routes in
     let p = c.loop-p.p in
-    let inside : p < length rates = omega (arith, c.loop-p-test.true, ap (λ (l : List PairRoutes). length l) c.as_slice-routes.ensures) in
+    let inside = below_pairs rates c.as_slice-routes.result.now p c.as_slice-routes.ensures c.loop-p-test.true in
     let paths : c.as_slice-paths.result.now ≡ paths_of rates p =
-    c.as_slice-paths.ensures
-    ∙ (ap (λ (r : PairRoutes). r.paths)
-    (sym c.index-routes-p.is ∙ get_or_read c.as_slice-routes.result.now p c.index-routes-p.result c.loop-p-test.true c.index-routes-p.is no_routes)
-    ∙ ap (λ (rs : List PairRoutes). (routes_at rs p).paths) c.as_slice-routes.ensures)
+    lent_paths rates c.as_slice-routes.result.now p c.index-routes-p.result c.as_slice-paths.result.now c.as_slice-routes.ensures c.loop-p-test.true c.as_slice-paths.ensures
     in
     subst (λ (ss : List PathShare). All (λ (s : PathShare). is_distinct s.links ≡ true) ss) (sym paths) (links_distinct net rates c.requires.rates p inside)
 
@@ -107,12 +95,9 @@ add_flows-requires-clause-room c = λ e.
     let rates = c.args.rates.now.routes in
     let demand = c.args.matrix.now.demand in
     let p = c.loop-p.p in
-    let inside : p < length rates = omega (arith, c.loop-p-test.true, ap (λ (l : List PairRoutes). length l) c.as_slice-routes.ensures) in
+    let inside = below_pairs rates c.as_slice-routes.result.now p c.as_slice-routes.ensures c.loop-p-test.true in
     let paths : c.as_slice-paths.result.now ≡ paths_of rates p =
-    c.as_slice-paths.ensures
-    ∙ (ap (λ (r : PairRoutes). r.paths)
-    (sym c.index-routes-p.is ∙ get_or_read c.as_slice-routes.result.now p c.index-routes-p.result c.loop-p-test.true c.index-routes-p.is no_routes)
-    ∙ ap (λ (rs : List PairRoutes). (routes_at rs p).paths) c.as_slice-routes.ensures)
+    lent_paths rates c.as_slice-routes.result.now p c.index-routes-p.result c.as_slice-paths.result.now c.as_slice-routes.ensures c.loop-p-test.true c.as_slice-paths.ensures
     in
     asked_room rates demand c.in_ok-units.units.items c.as_slice.result.now c.deref_mut.result.now c.as_slice-paths.result.now c.loop-p.first p e paths
     c.as_slice.ensures.value c.in_ok-units.ensures c.loop-p.invariant.first
@@ -125,12 +110,9 @@ loop-p-preserved c =
     let rates = c.args.rates.now.routes in
     let units = c.in_ok-units.units.items in
     let p = c.loop-p.p in
-    let inside : p < length rates = omega (arith, c.loop-p-test.true, ap (λ (l : List PairRoutes). length l) c.as_slice-routes.ensures) in
+    let inside = below_pairs rates c.as_slice-routes.result.now p c.as_slice-routes.ensures c.loop-p-test.true in
     let paths : c.as_slice-paths.result.now ≡ paths_of rates p =
-    c.as_slice-paths.ensures
-    ∙ (ap (λ (r : PairRoutes). r.paths)
-    (sym c.index-routes-p.is ∙ get_or_read c.as_slice-routes.result.now p c.index-routes-p.result c.loop-p-test.true c.index-routes-p.is no_routes)
-    ∙ ap (λ (rs : List PairRoutes). (routes_at rs p).paths) c.as_slice-routes.ensures)
+    lent_paths rates c.as_slice-routes.result.now p c.index-routes-p.result c.as_slice-paths.result.now c.as_slice-routes.ensures c.loop-p-test.true c.as_slice-paths.ensures
     in
     let old = c.loop-p.asked.items in
     let new = c.add_flows.new.asked in

@@ -7,28 +7,19 @@ use Rattle.te_model.specs.declared.route.PathShare.{PathShare}
 use Rattle.te_model.specs.Network.{link_count}
 use Rattle.te_model.specs.Path.{no_routes, routes_at}
 use Rattle.te_model.specs.PathRouting.{IsPathSplit}
+use Rattle.te_model.proofs.LentRoutes.{lent_paths}
 use Rattle.routing.specs.Merge.{HasLinks, links_at, no_path}
-use Rattle.routing.proofs.Splits.{split_some}
 use Rattle.rate_sweeps.specs.Choices.{IsLeastAmong}
 use Rattle.rate_sweeps.specs.Sweeps.{HaveLinks, links_in}
 use Rattle.rate_sweeps.proofs.Among.{each_more, ways_among}
-use Rattle.rate_sweeps.proofs.PathLinks.{split_on_links}
+use Rattle.rate_sweeps.proofs.PathLinks.{lent_links, lent_some}
 use Rattle.rate_sweeps.proofs.paths.cheapest_paths.Goals as goal
 
 pub cheapest-place-requires-clause-links : goal.cheapest-place-requires-clause-links
 cheapest-place-requires-clause-links c =
-    let net = c.args.net.now in
-    let routes = c.args.routing.now.routes in
-    let p = c.loop-p.p in
-    let below : p < length routes = omega (arith, c.loop-p-test.true, ap (λ (l : List PairRoutes). length l) c.as_slice-routes.ensures) in
-    let own : c.as_slice-paths.result.now ≡ (routes_at routes p).paths =
-    c.as_slice-paths.ensures
-    ∙ (ap (λ (r : PairRoutes). r.paths) (get_or_default c.as_slice-routes.result.now p c.index-routes-p.result no_routes c.loop-p-test.true)
-    ∙ ap (λ (l : List PairRoutes). (routes_at l p).paths) c.as_slice-routes.ensures)
-    in
-    let split = All-get_or (IsPathSplit net) routes p no_routes below c.requires.routing in
-    subst (λ m. HaveLinks m c.as_slice-paths.result.now) (sym c.requires.lengths)
-    (subst (HaveLinks (link_count net)) (sym own) (split_on_links net (routes_at routes p) split))
+    let routing = c.args.routing.now.routes in
+    lent_links c.args.net.now routing c.as_slice-routes.result.now c.loop-p.p _ c.index-routes-p.result c.as_slice-paths.result.now c.requires.routing c.requires.lengths
+    c.as_slice-routes.ensures c.loop-p-test.true c.as_slice-paths.ensures
 
 pub loop-p-preserved : goal.loop-p-preserved
 loop-p-preserved c =
@@ -38,9 +29,7 @@ loop-p-preserved c =
     let paths = c.as_slice-paths.result.now in
     let place = c.cheapest-place.result in
     let own : paths ≡ (routes_at routes p).paths =
-    c.as_slice-paths.ensures
-    ∙ (ap (λ (r : PairRoutes). r.paths) (get_or_default c.as_slice-routes.result.now p c.index-routes-p.result no_routes c.loop-p-test.true)
-    ∙ ap (λ (l : List PairRoutes). (routes_at l p).paths) c.as_slice-routes.ensures)
+    lent_paths routes c.as_slice-routes.result.now p c.index-routes-p.result c.as_slice-paths.result.now c.as_slice-routes.ensures c.loop-p-test.true c.as_slice-paths.ensures
     in
     let links : links_at paths place ≡ c.new.result =
     sym (c.new.ensures
@@ -73,20 +62,11 @@ returns-clause-ways c =
 
 pub cheapest-place-requires-clause-some : goal.cheapest-place-requires-clause-some
 cheapest-place-requires-clause-some c =
-    let net = c.args.net.now in
-    let routes = c.args.routing.now.routes in
-    let p = c.loop-p.p in
-    let below : p < length routes = omega (arith, c.loop-p-test.true, ap (λ (l : List PairRoutes). length l) c.as_slice-routes.ensures) in
-    let own : c.as_slice-paths.result.now ≡ (routes_at routes p).paths =
-    c.as_slice-paths.ensures
-    ∙ (ap (λ (r : PairRoutes). r.paths) (get_or_default c.as_slice-routes.result.now p c.index-routes-p.result no_routes c.loop-p-test.true)
-    ∙ ap (λ (l : List PairRoutes). (routes_at l p).paths) c.as_slice-routes.ensures)
+    let some =
+    lent_some c.args.net.now c.args.routing.now.routes c.as_slice-routes.result.now c.loop-p.p c.index-routes-p.result c.as_slice-paths.result.now c.requires.routing
+    c.as_slice-routes.ensures c.loop-p-test.true c.as_slice-paths.ensures
     in
-    omega (
-      arith,
-      ap (λ (l : List PathShare). length l) own,
-      split_some net (routes_at routes p) (All-get_or (IsPathSplit net) routes p no_routes below c.requires.routing),
-    )
+    omega (arith, some)
 
 pub returns-clause-among : goal.returns-clause-among
 returns-clause-among c =

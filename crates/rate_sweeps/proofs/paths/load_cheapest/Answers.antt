@@ -6,45 +6,30 @@ use Rattle.te_model.specs.declared.route.PathShare.{PathShare}
 use Rattle.te_model.specs.Network.{link_count}
 use Rattle.te_model.specs.Path.{no_routes, routes_at}
 use Rattle.te_model.specs.PathRouting.{IsPathSplit}
+use Rattle.te_model.proofs.LentRoutes.{lent_paths}
 use Rattle.routing.specs.Merge.{HasLinks, links_at, no_path}
 use Rattle.rate_sweeps.specs.Choices.{IsLeastAmong}
 use Rattle.centred_steps.specs.Loads.{times_on}
 use Rattle.rate_sweeps.specs.Sweeps.{AreAmong, HaveLinks, links_in}
 use Rattle.rate_sweeps.proofs.Among.{ways_among}
 use Rattle.rate_sweeps.proofs.CheapestLoads.{cheapest_more}
-use Rattle.routing.proofs.Splits.{split_some}
-use Rattle.rate_sweeps.proofs.PathLinks.{split_on_links}
+use Rattle.rate_sweeps.proofs.PathLinks.{lent_links, lent_some, split_on_links}
 use Rattle.rate_sweeps.proofs.SweepLoads.{all_pairs}
 use Rattle.rate_sweeps.proofs.paths.load_cheapest.Goals as goal
 
 pub cheapest-place-requires-clause-some : goal.cheapest-place-requires-clause-some
 cheapest-place-requires-clause-some c =
-    let net = c.args.net.now in
-    let routes = c.args.routing.now.routes in
-    let p = c.loop-p.p in
-    let below : p < length routes = omega (arith, c.loop-p-test.true, ap (λ (l : List PairRoutes). length l) c.as_slice-routes.ensures) in
-    let own : c.as_slice-paths.result.now ≡ (routes_at routes p).paths =
-    c.as_slice-paths.ensures
-    ∙ (ap (λ (r : PairRoutes). r.paths) (get_or_default c.as_slice-routes.result.now p c.index-routes-p.result no_routes c.loop-p-test.true)
-    ∙ ap (λ (l : List PairRoutes). (routes_at l p).paths) c.as_slice-routes.ensures)
+    let some =
+    lent_some c.args.net.now c.args.routing.now.routes c.as_slice-routes.result.now c.loop-p.p c.index-routes-p.result c.as_slice-paths.result.now c.requires.routing
+    c.as_slice-routes.ensures c.loop-p-test.true c.as_slice-paths.ensures
     in
-    let split = All-get_or (IsPathSplit net) routes p no_routes below c.requires.routing in
-    subst (λ (l : List PathShare). 0 < length l) (sym own) (split_some net (routes_at routes p) split)
+    omega (arith, some)
 
 pub cheapest-place-requires-clause-links : goal.cheapest-place-requires-clause-links
 cheapest-place-requires-clause-links c =
-    let net = c.args.net.now in
-    let routes = c.args.routing.now.routes in
-    let p = c.loop-p.p in
-    let below : p < length routes = omega (arith, c.loop-p-test.true, ap (λ (l : List PairRoutes). length l) c.as_slice-routes.ensures) in
-    let own : c.as_slice-paths.result.now ≡ (routes_at routes p).paths =
-    c.as_slice-paths.ensures
-    ∙ (ap (λ (r : PairRoutes). r.paths) (get_or_default c.as_slice-routes.result.now p c.index-routes-p.result no_routes c.loop-p-test.true)
-    ∙ ap (λ (l : List PairRoutes). (routes_at l p).paths) c.as_slice-routes.ensures)
-    in
-    let split = All-get_or (IsPathSplit net) routes p no_routes below c.requires.routing in
-    subst (λ m. HaveLinks m c.as_slice-paths.result.now) (sym c.requires.lengths)
-    (subst (HaveLinks (link_count net)) (sym own) (split_on_links net (routes_at routes p) split))
+    let routing = c.args.routing.now.routes in
+    lent_links c.args.net.now routing c.as_slice-routes.result.now c.loop-p.p _ c.index-routes-p.result c.as_slice-paths.result.now c.requires.routing c.requires.lengths
+    c.as_slice-routes.ensures c.loop-p-test.true c.as_slice-paths.ensures
 
 pub add_on-requires-clause-links : goal.add_on-requires-clause-links
 add_on-requires-clause-links c =
@@ -55,9 +40,7 @@ add_on-requires-clause-links c =
     let place = c.cheapest-place.result in
     let below : p < length routes = omega (arith, c.loop-p-test.true, ap (λ (l : List PairRoutes). length l) c.as_slice-routes.ensures) in
     let own : paths ≡ (routes_at routes p).paths =
-    c.as_slice-paths.ensures
-    ∙ (ap (λ (r : PairRoutes). r.paths) (get_or_default c.as_slice-routes.result.now p c.index-routes-p.result no_routes c.loop-p-test.true)
-    ∙ ap (λ (l : List PairRoutes). (routes_at l p).paths) c.as_slice-routes.ensures)
+    lent_paths routes c.as_slice-routes.result.now p c.index-routes-p.result c.as_slice-paths.result.now c.as_slice-routes.ensures c.loop-p-test.true c.as_slice-paths.ensures
     in
     let links : links_at paths place ≡ c.as_slice.result.now =
     sym (c.as_slice.ensures ∙ ap (λ (s : PathShare). s.links) (get_or_default paths place c.index-paths-place.result no_path c.cheapest-place.ensures.inside))
@@ -78,9 +61,7 @@ loop-p-preserved c =
     let place = c.cheapest-place.result in
     let taken = c.as_slice.result.now in
     let own : paths ≡ (routes_at routes p).paths =
-    c.as_slice-paths.ensures
-    ∙ (ap (λ (r : PairRoutes). r.paths) (get_or_default c.as_slice-routes.result.now p c.index-routes-p.result no_routes c.loop-p-test.true)
-    ∙ ap (λ (l : List PairRoutes). (routes_at l p).paths) c.as_slice-routes.ensures)
+    lent_paths routes c.as_slice-routes.result.now p c.index-routes-p.result c.as_slice-paths.result.now c.as_slice-routes.ensures c.loop-p-test.true c.as_slice-paths.ensures
     in
     let links : links_at paths place ≡ taken =
     sym (c.as_slice.ensures ∙ ap (λ (s : PathShare). s.links) (get_or_default paths place c.index-paths-place.result no_path c.cheapest-place.ensures.inside))

@@ -9,14 +9,13 @@ use Rattle.ratio_checker.specs.Checked.{IsSimplePath}
 use Rattle.ratio_witness.specs.Rules.{demand_of, rival_paths}
 use Rattle.ratio_witness.specs.Witness.{rival_share}
 use Rattle.ratio_witness.proofs.LinkLoads.{load_more, load_small, split_small}
+use Rattle.te_model.proofs.LentRoutes.{below_pairs}
 use Rattle.te_model.proofs.Lists.{zeros}
 use Rattle.ratio_witness.proofs.loads.loads_by_rival.Goals as goal
 
 pub loop-p-init : goal.loop-p-init
 loop-p-init c = record { count = refl; sums = λ e. zeros FORMAT_2.links e }
 
-below_pairs : (routes list : List PairRoutes) (p : ℕ) → list ≡ routes → p < length list → p < length routes
-below_pairs routes list p same below = let e = ap length same in omega (arith, below, e)
 
 pub add_demand-requires-clause-paths : goal.add_demand-requires-clause-paths
 add_demand-requires-clause-paths c =

@@ -9,27 +9,19 @@ use Rattle.te_model.specs.Path.{no_routes, routes_at, share, weight_on}
 use Rattle.ratio_checker.specs.Checked.{IsSimplePath}
 use Rattle.ratio_witness.specs.Rules.{demand_of}
 use Rattle.ratio_witness.proofs.LinkLoads.{load_more, load_small, split_small}
+use Rattle.te_model.proofs.LentRoutes.{below_pairs, lent_paths}
 use Rattle.te_model.proofs.Lists.{zeros}
 use Rattle.ratio_witness.proofs.loads.loads_by_routes.Goals as goal
 
 pub loop-p-init : goal.loop-p-init
 loop-p-init c = record { count = refl; sums = λ e. zeros FORMAT_2.links e }
 
--- the paths of the list that are lent are those of pair p
-lent : (routes list : List PairRoutes) (p : ℕ) (item : PairRoutes) (paths : List PathShare) → list ≡ routes → p < length list →
-    paths ≡ (get_or list p item).paths → paths ≡ (routes_at routes p).paths
-lent routes list p item paths same below at =
-    at ∙ ap (λ (r : PairRoutes). r.paths) (sym (get_or_default list p no_routes item below) ∙ ap (λ l. routes_at l p) same)
-
-below_pairs : (routes list : List PairRoutes) (p : ℕ) → list ≡ routes → p < length list → p < length routes
-below_pairs routes list p same below = let e = ap length same in omega (arith, below, e)
-
 pub add_demand-requires-clause-paths : goal.add_demand-requires-clause-paths
 add_demand-requires-clause-paths c =
     let routes = c.args.head.now.routes in
     let list = c.as_slice-routes.result.now in
     let p = c.loop-p.p in
-    let is = lent routes list p c.index-routes-p.result c.as_slice.result.now c.as_slice-routes.ensures c.loop-p-test.true c.as_slice.ensures in
+    let is = lent_paths routes list p c.index-routes-p.result c.as_slice.result.now c.as_slice-routes.ensures c.loop-p-test.true c.as_slice.ensures in
     subst (All IsSimplePath) (sym is) (c.requires.routes.each p (below_pairs routes list p c.as_slice-routes.ensures c.loop-p-test.true))
 
 pub add_demand-requires-clause-whole : goal.add_demand-requires-clause-whole
@@ -37,7 +29,7 @@ add_demand-requires-clause-whole c =
     let routes = c.args.head.now.routes in
     let list = c.as_slice-routes.result.now in
     let p = c.loop-p.p in
-    let is = lent routes list p c.index-routes-p.result c.as_slice.result.now c.as_slice-routes.ensures c.loop-p-test.true c.as_slice.ensures in
+    let is = lent_paths routes list p c.index-routes-p.result c.as_slice.result.now c.as_slice-routes.ensures c.loop-p-test.true c.as_slice.ensures in
     omega (arith, ap (sum_by (λ s. s.weight)) is, c.requires.routes.whole p (below_pairs routes list p c.as_slice-routes.ensures c.loop-p-test.true))
 
 pub add_demand-requires-clause-demand : goal.add_demand-requires-clause-demand
@@ -64,7 +56,7 @@ loop-p-preserved c = record {
       let list = c.as_slice-routes.result.now in
       let p = c.loop-p.p in
       let w = c.args.witness.now in
-      let is = lent routes list p c.index-routes-p.result c.as_slice.result.now c.as_slice-routes.ensures c.loop-p-test.true c.as_slice.ensures in
+      let is = lent_paths routes list p c.index-routes-p.result c.as_slice.result.now c.as_slice-routes.ensures c.loop-p-test.true c.as_slice.ensures in
       let puts : c.demand_of-demand.result * weight_on c.as_slice.result.now e ≡ demand_of w p * share routes p e =
       ap (λ d. d * weight_on c.as_slice.result.now e) c.demand_of-demand.ensures ∙ ap (λ ps. demand_of w p * weight_on ps e) is
       in
