@@ -58,3 +58,10 @@ lead_of e net sums s firsts f centers tables are same same_s same_f =
       sums_are = tables.sums_are;
       firsts_are = are;
     })))
+
+-- and so does what a tree keeps that is seen as another value
+pub lead_viewed : (e seen : Embedding) (net : Network) (sums s firsts f : List (List (Option ℕ))) (centers : List (List ℕ)) → e ≡ seen → AreTables e sums centers →
+    AreFirsts e.network e.lengths sums firsts → seen.network ≡ net → s ≡ sums → f ≡ firsts → LeadBetween net seen.lengths s f
+lead_viewed e seen net sums s firsts f centers view tables are same same_s same_f =
+    lead_of seen net sums s firsts f centers (subst (λ x. AreTables x sums centers) view tables) (subst (λ x. AreFirsts x.network x.lengths sums firsts) view are)
+    same same_s same_f

@@ -7,10 +7,10 @@ use Rattle.shortest_path.specs.Links.{HasSoundLinks}
 use Rattle.shortest_path.specs.Paths.{IsLeastPath}
 use Rattle.shortest_path.proofs.Sound.{sound}
 use Rattle.routing.specs.Loops.{IsCut, end_of}
-use Rattle.tree_embed.specs.Tables.{AreFirsts, AreTables, LeadBetween, center_in}
+use Rattle.tree_embed.specs.Tables.{AreTables, center_in}
 use Rattle.tree_embed.specs.TreePaths.{AreJoined, IsJoin, IsTreePath}
 use Rattle.tree_embed.proofs.Leading.{chain_within, tree_of_least, tree_of_walk, walk_ends, walk_to_end}
-use Rattle.tree_embed.proofs.LeastWays.{lead_of}
+use Rattle.tree_embed.proofs.LeastWays.{lead_viewed}
 use Rattle.tree_embed.proofs.embedding.Tree.tree_path.Goals as goal
 
 pub join-requires-clause-chain : goal.join-requires-clause-chain
@@ -27,12 +27,8 @@ pub cut_loops-requires : goal.cut_loops-requires
 cut_loops-requires c =
     let net = c.args.net.now in
     let lengths = c.args.self.now.lengths in
-    let lead : LeadBetween net c.args.self.now.lengths c.as_slice-sums.result.now c.as_slice-firsts.result.now =
-    lead_of c.args.self.now net c.self.inside.sums c.as_slice-sums.result.now c.self.inside.firsts c.as_slice-firsts.result.now c.self.inside.centers
-    (subst (λ e. AreTables e c.self.inside.sums c.self.inside.centers) c.self.view_is c.self.invariant.0)
-    (subst (λ e. AreFirsts e.network e.lengths c.self.inside.sums c.self.inside.firsts) c.self.view_is c.self.invariant.1)
-    c.requires.own c.as_slice-sums.ensures c.as_slice-firsts.ensures
-    in
+    let lead = lead_viewed _ c.args.self.now net c.self.inside.sums c.as_slice-sums.result.now c.self.inside.firsts c.as_slice-firsts.result.now c.self.inside.centers
+    c.self.view_is c.self.invariant.0 c.self.invariant.1 c.requires.own c.as_slice-sums.ensures c.as_slice-firsts.ensures in
     let chain = c.in_ok-chain.chain.items in
     let walk = c.in-Some.walk.items in
     let made = rw c.in-Some.is at (c.in_ok-walk.ensures lengths lead) in
@@ -44,12 +40,8 @@ pub returns-in-Some-clause-tree : goal.returns-in-Some-clause-tree
 returns-in-Some-clause-tree c =
     let net = c.args.net.now in
     let lengths = c.args.self.now.lengths in
-    let lead : LeadBetween net c.args.self.now.lengths c.as_slice-sums.result.now c.as_slice-firsts.result.now =
-    lead_of c.args.self.now net c.self.inside.sums c.as_slice-sums.result.now c.self.inside.firsts c.as_slice-firsts.result.now c.self.inside.centers
-    (subst (λ e. AreTables e c.self.inside.sums c.self.inside.centers) c.self.view_is c.self.invariant.0)
-    (subst (λ e. AreFirsts e.network e.lengths c.self.inside.sums c.self.inside.firsts) c.self.view_is c.self.invariant.1)
-    c.requires.own c.as_slice-sums.ensures c.as_slice-firsts.ensures
-    in
+    let lead = lead_viewed _ c.args.self.now net c.self.inside.sums c.as_slice-sums.result.now c.self.inside.firsts c.as_slice-firsts.result.now c.self.inside.centers
+    c.self.view_is c.self.invariant.0 c.self.invariant.1 c.requires.own c.as_slice-sums.ensures c.as_slice-firsts.ensures in
     let chain = c.in_ok-chain.chain.items in
     let walk = c.in-Some.walk.items in
     let cut = c.in_ok-links-in-Some.links.items in
@@ -67,12 +59,8 @@ pub returns-in-Some-clause-path : goal.returns-in-Some-clause-path
 returns-in-Some-clause-path c =
     let net = c.args.net.now in
     let lengths = c.args.self.now.lengths in
-    let lead : LeadBetween net c.args.self.now.lengths c.as_slice-sums.result.now c.as_slice-firsts.result.now =
-    lead_of c.args.self.now net c.self.inside.sums c.as_slice-sums.result.now c.self.inside.firsts c.as_slice-firsts.result.now c.self.inside.centers
-    (subst (λ e. AreTables e c.self.inside.sums c.self.inside.centers) c.self.view_is c.self.invariant.0)
-    (subst (λ e. AreFirsts e.network e.lengths c.self.inside.sums c.self.inside.firsts) c.self.view_is c.self.invariant.1)
-    c.requires.own c.as_slice-sums.ensures c.as_slice-firsts.ensures
-    in
+    let lead = lead_viewed _ c.args.self.now net c.self.inside.sums c.as_slice-sums.result.now c.self.inside.firsts c.as_slice-firsts.result.now c.self.inside.centers
+    c.self.view_is c.self.invariant.0 c.self.invariant.1 c.requires.own c.as_slice-sums.ensures c.as_slice-firsts.ensures in
     let chain = c.in_ok-chain.chain.items in
     let walk = c.in-Some.walk.items in
     let cut = c.in_ok-links-in-Some.links.items in
@@ -89,12 +77,8 @@ pub returns-clause-tree : goal.returns-clause-tree
 returns-clause-tree c =
     let net = c.args.net.now in
     let lengths = c.args.self.now.lengths in
-    let lead : LeadBetween net c.args.self.now.lengths c.as_slice-sums.result.now c.as_slice-firsts.result.now =
-    lead_of c.args.self.now net c.self.inside.sums c.as_slice-sums.result.now c.self.inside.firsts c.as_slice-firsts.result.now c.self.inside.centers
-    (subst (λ e. AreTables e c.self.inside.sums c.self.inside.centers) c.self.view_is c.self.invariant.0)
-    (subst (λ e. AreFirsts e.network e.lengths c.self.inside.sums c.self.inside.firsts) c.self.view_is c.self.invariant.1)
-    c.requires.own c.as_slice-sums.ensures c.as_slice-firsts.ensures
-    in
+    let lead = lead_viewed _ c.args.self.now net c.self.inside.sums c.as_slice-sums.result.now c.self.inside.firsts c.as_slice-firsts.result.now c.self.inside.centers
+    c.self.view_is c.self.invariant.0 c.self.invariant.1 c.requires.own c.as_slice-sums.ensures c.as_slice-firsts.ensures in
     let chain = c.in_ok-chain.chain.items in
     let tables : AreTables c.args.self.now c.self.inside.sums c.as_slice.result.now = subst (AreTables c.args.self.now c.self.inside.sums) (sym c.as_slice.ensures)
     (subst (λ e. AreTables e c.self.inside.sums c.self.inside.centers) c.self.view_is c.self.invariant.0)
@@ -115,12 +99,8 @@ join-requires-clause-sound c =
 pub join-requires-clause-lead : goal.join-requires-clause-lead
 join-requires-clause-lead c =
     let net = c.args.net.now in
-    let lead : LeadBetween net c.args.self.now.lengths c.as_slice-sums.result.now c.as_slice-firsts.result.now =
-    lead_of c.args.self.now net c.self.inside.sums c.as_slice-sums.result.now c.self.inside.firsts c.as_slice-firsts.result.now c.self.inside.centers
-    (subst (λ e. AreTables e c.self.inside.sums c.self.inside.centers) c.self.view_is c.self.invariant.0)
-    (subst (λ e. AreFirsts e.network e.lengths c.self.inside.sums c.self.inside.firsts) c.self.view_is c.self.invariant.1)
-    c.requires.own c.as_slice-sums.ensures c.as_slice-firsts.ensures
-    in
+    let lead = lead_viewed _ c.args.self.now net c.self.inside.sums c.as_slice-sums.result.now c.self.inside.firsts c.as_slice-firsts.result.now c.self.inside.centers
+    c.self.view_is c.self.invariant.0 c.self.invariant.1 c.requires.own c.as_slice-sums.ensures c.as_slice-firsts.ensures in
     (c.args.self.now.lengths, lead)
 
 pub least-requires-clause-sound : goal.least-requires-clause-sound
@@ -131,10 +111,6 @@ least-requires-clause-sound c =
 pub least-requires-clause-lead : goal.least-requires-clause-lead
 least-requires-clause-lead c =
     let net = c.args.net.now in
-    let lead : LeadBetween net c.args.self.now.lengths c.as_slice-sums.result.now c.as_slice-firsts.result.now =
-    lead_of c.args.self.now net c.self.inside.sums c.as_slice-sums.result.now c.self.inside.firsts c.as_slice-firsts.result.now c.self.inside.centers
-    (subst (λ e. AreTables e c.self.inside.sums c.self.inside.centers) c.self.view_is c.self.invariant.0)
-    (subst (λ e. AreFirsts e.network e.lengths c.self.inside.sums c.self.inside.firsts) c.self.view_is c.self.invariant.1)
-    c.requires.own c.as_slice-sums.ensures c.as_slice-firsts.ensures
-    in
+    let lead = lead_viewed _ c.args.self.now net c.self.inside.sums c.as_slice-sums.result.now c.self.inside.firsts c.as_slice-firsts.result.now c.self.inside.centers
+    c.self.view_is c.self.invariant.0 c.self.invariant.1 c.requires.own c.as_slice-sums.ensures c.as_slice-firsts.ensures in
     (c.args.self.now.lengths, lead)
