@@ -5,7 +5,7 @@
 //! - `have_pairs`: whether routes are of given pairs.
 //! - `merge`: equal paths taken together. `normalize`: weights scaled to the unit.
 //! - `even_mix`: the unit in even parts over paths, equal ones taken together.
-//! - `cut_loops`: a walk without its loops.
+//! - `cut_loops`, `cut_loops_into`: a walk without its loops.
 //! - `decompose`: a flow taken apart into weighted paths.
 #![tactic(auto)]
 
@@ -28,7 +28,7 @@ pub use law::{
     cuts_exist, decompositions_exist, even_mixes_exist, merges_exist, routing_shares_are_flows,
     sums_over_shares,
 };
-pub use loops::cut_loops;
+pub use loops::{cut_loops, cut_loops_into};
 pub use merging::merge;
 pub use normal::normalize;
 pub use order::is_list_below;

@@ -5,8 +5,8 @@ ghost use Rattle.routing.specs.Loops.{IsCut};
 ghost use Rattle.valiant_mix.specs.Valiant.{AreDetours, IsDetour, IsLeg};
 ghost use Rattle.valiant_mix.specs.Legs.{AreLegsToEach};
 
-use crate::cut::cut_into;
 use crate::legs::Legs;
+use routing::cut_loops_into;
 use std::alloc::Global;
 use te_model::{Items, Memory, Network, Path};
 
@@ -47,7 +47,7 @@ fn join_legs(
     space.walk.clear();
     space.walk.extend_from_slice(there)?;
     space.walk.extend_from_slice(on)?;
-    cut_into(net, src, space.walk.as_slice(), &mut space.cut)?;
+    cut_loops_into(net, src, space.walk.as_slice(), &mut space.cut)?;
     let links = Vec::from_slice(alloc, space.cut.as_slice())?;
     Ok(Path {
         links: Items::new(links),

@@ -1,7 +1,6 @@
 //! The scheme that sends each demand in even parts by way of every node (Valiant, 1982).
 #![tactic(auto)]
 
-mod cut;
 mod detours;
 mod even;
 mod law;

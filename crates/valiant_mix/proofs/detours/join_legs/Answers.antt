@@ -5,8 +5,8 @@ use Rattle.routing.proofs.Cutting.{chains_to_end}
 use Rattle.valiant_mix.proofs.DetoursMade.{legs_chain}
 use Rattle.valiant_mix.proofs.detours.join_legs.Goals as goal
 
-pub cut_into-requires : goal.cut_into-requires
-cut_into-requires c =
+pub cut_loops_into-requires : goal.cut_loops_into-requires
+cut_loops_into-requires c =
     let net = c.args.net.now in
     let s = c.args.src in
     let there = c.args.there.now in

@@ -6,7 +6,7 @@ use Rattle.te_model.specs.Network.{head_of, no_link, link_count}
 use Rattle.te_model.proofs.Chains.{walk_links}
 use Rattle.routing.specs.Loops.{after_last, end_of}
 use Rattle.routing.proofs.Cutting.{CutSoFar, cut_begin, cut_more, cut_end, after-le}
-use Rattle.valiant_mix.proofs.cut.cut_into.Goals as goal
+use Rattle.routing.proofs.loops.cut_loops_into.Goals as goal
 
 pub after_last-rest-requires : goal.after_last-rest-requires
 after_last-rest-requires c = walk_links c.args.net.now c.args.src (end_of c.args.net.now c.args.src c.args.walk.now) c.args.walk.now c.requires

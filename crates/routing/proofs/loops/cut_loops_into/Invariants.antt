@@ -1,6 +1,6 @@
 use Rattle.std.proofs.Common.{length}
 use Rattle.routing.proofs.Cutting.{CutSoFar}
-use Rattle.valiant_mix.proofs.cut.cut_into.Given as goal
+use Rattle.routing.proofs.loops.cut_loops_into.Given as goal
 
 abbrev pub invariant-loop-h : goal.invariant-loop-h
 invariant-loop-h l = CutSoFar l.net l.src l.walk l.cut.items l.rest
