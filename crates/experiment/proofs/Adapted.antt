@@ -1,5 +1,5 @@
 -- The rates that `smore` chooses anew are no worse than those of its fixed paths, scaled to the paths that stand.
-use Rattle.std.proofs.Common.{◌≡◌, Bool, Some, None, arith, subst, if◌then◌else◌}
+use Rattle.std.proofs.Common.{Bool, Some, None, arith, subst, if◌then◌else◌}
 use Rattle.std.specs.Prelude.{MatchOption}
 use Rattle.series_simulation.specs.Rows.{IsAdaptedOn, IsRouted}
 use Rattle.experiment.specs.Laws.{AdaptedIsNoGreaterThanScaled}

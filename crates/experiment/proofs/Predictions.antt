@@ -1,6 +1,6 @@
 -- Oblivious schemes have just the rows that they have without predictions: their relation takes no demands, they state no bound, and they
 -- choose no rates anew.
-use Rattle.std.proofs.Common.{◌≡◌, true, refl}
+use Rattle.std.proofs.Common.{refl}
 use Rattle.std.proofs.lemmas.Bool.{false≢true}
 use Rattle.plan.specs.declared.scheme_name.SchemeName.TheVariants.{Spf, Ecmp, Ksp, Mcf, Racke, Smore, Valiant, Robust}
 use Rattle.series_simulation.proofs.Predictions.{predictions_change_nothing}

@@ -1,8 +1,6 @@
 use Rattle.std.proofs.Common.{Result, Ok, Err, IfOk, subst}
 use Rattle.std.proofs.lemmas.Result.{IfOk-weaker}
-use Rattle.te_model.specs.declared.certificate.Certificate.{Certificate}
 use Rattle.ratio_certificate.specs.Form.{HasBounds}
-use Rattle.ratio_certificate.specs.Made.{IsMade}
 use Rattle.ratio_certificate.specs.Offers.{IsMadeWithinAll}
 use Rattle.experiment.proofs.robust_publishing.certify.Goals as goal
 
