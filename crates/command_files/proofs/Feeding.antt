@@ -10,6 +10,7 @@ use Rattle.block_reader.specs.declared.block_reader.BlockReader.{BlockReader}
 use Rattle.block_reader.specs.declared.stream_fault.StreamFault.{StreamFault}
 use Rattle.block_reader.specs.declared.stream_fault.StreamFault.TheVariants as faults
 use Rattle.block_reader.specs.Blocks.{HasRead, IsReaderOf, IsTextOf, IsFaultOf, name_of, lent_block, last_link, noted_fault}
+use Rattle.block_reader.proofs.Begun.{fault_begun}
 use Rattle.ratio_checker.specs.declared.feed.Feed.{Feed}
 use Rattle.ratio_checker.specs.Feeds.{StandsFor, head_of_feed, next_link}
 use Rattle.command_frame.specs.declared.answer.Fault.{Fault}
@@ -105,19 +106,11 @@ pub fed_file : (file : List ℕ) (old new : Shown) (feed : Feed) → ReadsOn {A 
     IsFedWhole (pass file old.gave new.gave) feed → FeedsFile file old new (Ok feed)
 fed_file file old new feed on whole = (whole.0, whole.1, whole.2, text_file feed file old new whole.0 whole.1 on whole.3)
 
--- a pass at a fault was begun
-begun_of : (p : Pass) (fault : StreamFault) → IsFaultOf p fault → IsBegun p
-begun_of p faults.Failed at = (at.bytes, inl at.given)
-begun_of p faults.TooLong at = (at.bytes, inl at.given)
-begun_of p (faults.Shape k) at = (at.0, inr at.1.read)
-begun_of p (faults.Rule rule) at = (at.0, inr at.1.read)
-begun_of p faults.Memory at = at
-
 -- memory was short for the line
 short : {A : Type 0} (file : List ℕ) (old new : Shown) (fault : StreamFault) → ReadsOn {A = A} file old new (Err fault) →
     (◌≡◌ {A = Result A StreamFault} (Err fault) (Err faults.Failed) → ⊥) → ReadsFile certificates file old new (Err Memory)
 short file old new fault on other =
-    let begun = begun_of (pass file old.gave new.gave) fault (on.refused fault refl) in
+    let begun = fault_begun (pass file old.gave new.gave) fault (on.refused fault refl) in
     record { reads = tt; begun = begun; part = tt; failed = tt; steady = λ unread. on.steady other; may = on.may }
 
 -- the file is refused for the fault, which the line says, or it is not read

@@ -64,9 +64,6 @@ after_whole file old mid new reader head blocks s whole =
 none_or_failed : (o : Option StreamFault) → o ≡ None → o ≡ Some faults.Failed → ⊥
 none_or_failed o none failed = cc
 
-same_fault : {A B : Type 0} (f t : StreamFault) → ◌≡◌ {A = Result A StreamFault} (Err f) (Err t) → ◌≡◌ {A = Result B StreamFault} (Err f) (Err t)
-same_fault f t is = let same : f ≡ t = cc in ap (λ x. Err x) same
-
 pub after_stops : {A B : Type 0} (file : List ℕ) (old mid new : Shown) (reader : BlockReader) (head : Head) (blocks : List Block) (fault : StreamFault) →
     HasReadSoFar file old mid reader head blocks →
     ((before : List FileRead) (h : Head) (some : List Block) → HasRead (pass (name_of reader) before mid.gave) reader h some →
@@ -80,8 +77,8 @@ after_stops {A} {B} file old mid new reader head blocks fault s refused failed s
       subst (IsFaultOf (pass file old.gave new.gave)) same
       (subst (λ f. IsFaultOf (pass f old.gave new.gave) fault) s.named
       (refused old.gave head blocks (subst (λ f. HasRead (pass f old.gave mid.gave) reader head blocks) (sym s.named) s.read)));
-  failed = λ is. rose (failed (same_fault {A = B} {B = A} fault faults.Failed is));
-  steady = λ other. steady (λ is. other (same_fault {A = A} {B = B} fault faults.Failed is)) ∙ s.steady;
+  failed = λ is. rose (failed cc);
+  steady = λ other. steady (λ is. other cc) ∙ s.steady;
   may = both old mid new s.may may;
 }
   where
