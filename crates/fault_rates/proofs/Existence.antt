@@ -1,7 +1,7 @@
 -- From no allocation at all one pair after the other is raised by one, while that fits; what is missing of the demands falls.
 use Rattle.std.proofs.Common.{◌≡◌, ◌⊎◌, ℕ, zero, suc, ◌-◌, ◌*◌, ◌<◌, ◌≤◌, Bool, true, false, arith, refl, ap, sym, subst, ◌∙◌, inl, inr}
 use Rattle.std.specs.Prelude.{if◌then◌else◌}
-use Rattle.std.proofs.lemmas.Bool.{cases_lt}
+use Rattle.std.proofs.lemmas.Bool.{cases_eq, cases_lt}
 use Rattle.std.proofs.lemmas.Bool.Decides.{nat_tests}
 use Rattle.std.proofs.Math.Nat.{mul-le-mul_left}
 use Rattle.te_model.specs.Counting.{sum_below}
@@ -52,23 +52,14 @@ raised_same a p = grind (arith, nat_tests)
 pub raised_other : (a : ℕ → ℕ) (p q : ℕ) → (q ≡ p → ⊥) → raised_at a p q ≡ a q
 raised_other a p q other = grind (arith, nat_tests)
 
-pub same_or_other : (q p : ℕ) → (q ≡ p) ⊎ (q ≡ p → ⊥)
-same_or_other q p = elim (cases_lt q p) [
-  | inl lt ↦ inr (λ e. omega (arith, lt, e))
-  | inr ge ↦ elim (cases_lt p q) [
-    | inl gt ↦ inr (λ e. omega (arith, gt, e))
-    | inr le ↦ inl (omega (arith, ge, le))
-  ]
-]
-
 raise_keeps : (x : Protection) (a : ℕ → ℕ) (p : ℕ) → KeepsEven x a → CanRaise x a p → KeepsEven x (raised_at a p)
 raise_keeps x a p keeps can = record {
   fits = can.fits;
-  none = λ q q_in left. elim (same_or_other q p) [
+  none = λ q q_in left. elim (cases_eq q p) [
     | inl same ↦ absurd (let l = can.left in let e : paths_left x q ≡ paths_left x p = ap (paths_left x) same in omega (arith, left, l, e))
     | inr other ↦ raised_other a p q other ∙ keeps.none q q_in left
   ];
-  cap = λ q q_in left. elim (same_or_other q p) [
+  cap = λ q q_in left. elim (cases_eq q p) [
     | inl same ↦ inr (subst (λ k. paths_left x k * (raised_at a p k - 1) < x.demand k) (sym same) (capped_at_p can.below (raised_same a p)))
     | inr other ↦ elim (keeps.cap q q_in left) [
       | inl zero' ↦ inl (raised_other a p q other ∙ zero')
@@ -104,7 +95,7 @@ lack_falls x a p p_in can =
     let below = can.below in
     let is = raised_same a p in
     sum_falls x.pairs p (λ q. x.demand q - raised_at a p q) (λ q. x.demand q - a q) p_in
-    (λ q q_in. elim (same_or_other q p) [
+    (λ q q_in. elim (cases_eq q p) [
       | inl same ↦ let e : raised_at a p q ≡ suc (a q) = subst (λ k. raised_at a p k ≡ suc (a k)) (sym same) (raised_same a p) in omega (arith, e)
       | inr other ↦ let e = raised_other a p q other in omega (arith, e)
     ])

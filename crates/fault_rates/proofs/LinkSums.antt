@@ -9,13 +9,14 @@ use Rattle.te_model.specs.Path.{amount_on, has_number}
 use Rattle.te_model.proofs.Conditionals.{if_le-self}
 use Rattle.te_model.proofs.Sums.{sum_below-bound}
 use Rattle.te_model.proofs.Tests.{get_or_past}
+use Rattle.routing.specs.Merge.{no_path}
 use Rattle.routing.specs.Shares.{AreLinksOnce}
-use Rattle.fault_rates.specs.Plan.{links_of, no_path_share}
+use Rattle.fault_rates.specs.Plan.{links_of}
 use Rattle.fault_rates.specs.Tables.{AreSimplePaths}
 
 -- the path at a place holds no link twice
 pub simple_at : (links : ℕ) (paths : List PathShare) (i : ℕ) → AreSimplePaths links paths → i < length paths → AreLinksOnce links (links_of paths i)
-simple_at links paths i simple below = All-get_or (λ s. AreLinksOnce links s.links) paths i no_path_share below simple
+simple_at links paths i simple below = All-get_or (λ s. AreLinksOnce links s.links) paths i no_path below simple
 
 -- so many paths have no more on a link than each of them at most
 pub few_amounts : (paths : List PathShare) (amount : ℕ → ℕ) (bound n e : ℕ) → ((i : ℕ) → amount i ≤ bound) →

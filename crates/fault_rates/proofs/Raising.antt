@@ -1,6 +1,6 @@
 -- Raising the allocations of the pairs, one after the other.
 use Rattle.std.proofs.Common.{◌≡◌, ◌∙◌, ℕ, suc, ◌+◌, ◌-◌, ◌*◌, ◌/◌, ◌<◌, ◌≤◌, List, length, slice_index, min, arith, refl, ap, sym, subst, inl, inr}
-use Rattle.std.proofs.lemmas.Bool.{cases_lt}
+use Rattle.std.proofs.lemmas.Bool.{cases_eq, cases_lt}
 use Rattle.std.proofs.lemmas.Bool.Decides.{nat_tests}
 use Rattle.std.proofs.lemmas.Nat.{mul-le}
 use Rattle.te_model.specs.declared.network.Network.{Network}
@@ -9,7 +9,6 @@ use Rattle.te_model.specs.Network.{capacity_of, link_count}
 use Rattle.te_model.specs.Path.{routes_at}
 use Rattle.fault_rates.specs.Making.{AreFull, AreValues, EvenFits, IsRoom, even_on, room_on_link}
 use Rattle.fault_rates.specs.Tables.{paths_on}
-use Rattle.fault_rates.proofs.Existence.{same_or_other}
 use Rattle.fault_rates.proofs.Making.{even_on_raised}
 
 -- ---- the room on the links
@@ -118,7 +117,7 @@ one_pair_raised net routes caps even sums counts even' sums' p more p_in before 
     let held = λ (e : ℕ). ap (λ k. more * k) (counted e) in
     record {
       count = same_length ∙ before.count;
-      within = λ q q_in. elim (same_or_other q p) [
+      within = λ q q_in. elim (cases_eq q p) [
         | inl same ↦
             let w = before.within p p_in in
             subst (λ k. slice_index even' k ≤ slice_index caps k) (sym same) (omega (arith, here, room.within, w))
@@ -131,7 +130,7 @@ one_pair_raised net routes caps even sums counts even' sums' p more p_in before 
             omega (arith, added e (omega (arith, e_in, count)), before.on_links.1 e e_in, raised e, held e),
       );
       fits = λ e e_in. omega (arith, room.fits e e_in, before.on_links.1 e e_in, raised e, held e);
-      full = λ q q_in below. elim (same_or_other q p) [
+      full = λ q q_in below. elim (cases_eq q p) [
         | inl same ↦
             subst (λ k. (e : ℕ) × (e < link_count net) × (capacity_of net e < even_on routes (slice_index even') e + paths_on (routes_at routes k).paths e)) (sym same)
             (blocked (subst (λ k. slice_index even' k < slice_index caps k) same below))

@@ -7,6 +7,7 @@ use Rattle.te_model.specs.Counting.{sum_below, count_below}
 use Rattle.te_model.specs.Apportion.{comes_before, is_among_first}
 use Rattle.fault_rates.specs.Protection.{Protection, most_on_a_link, paths_left, is_among_least, sum_on_link, AreGuarded}
 use Rattle.fault_rates.specs.Laws.{EvenGuards, GuardedGrantsSurvive}
+use Rattle.te_model.proofs.Conditionals.{if_le}
 use Rattle.te_model.proofs.Sums.{sum_below-same, sum_below-le, sum_below-add, sum_below-mul, sum_below-swap, sum_below-term}
 use Rattle.te_model.proofs.Quotients.{below_greatest}
 use Rattle.te_model.proofs.Counts.{count_below-same, count_below-none}
@@ -158,10 +159,6 @@ room_within : (hit : Bool) (a : ℕ) → (if not hit then a else 0) ≤ a
 room_within true a = omega arith
 room_within false a = omega arith
 
-held_within : (held : Bool) (a b : ℕ) → a ≤ b → (if held then a else 0) ≤ (if held then b else 0)
-held_within true a b le = le
-held_within false a b le = omega arith
-
 abbrev amount_of : Protection → (ℕ → Bool) → ℕ → ℕ → ℕ
 amount_of x failed p = filled_amount (room_left x failed p) (x.grant p)
 
@@ -173,7 +170,7 @@ amounts_less x failed e =
     sum_below-le x.pairs (λ p. sum_below (x.paths p) (λ i. if x.holds p i e then amount_of x failed p i else 0))
     (λ p. sum_below (x.paths p) (λ i. if x.holds p i e then x.allocation p i else 0))
     (λ p below. sum_below-le (x.paths p) (λ i. if x.holds p i e then amount_of x failed p i else 0) (λ i. if x.holds p i e then x.allocation p i else 0)
-    (λ i i_in. held_within (x.holds p i e) (amount_of x failed p i) (x.allocation p i) (amount_within x failed p i)))
+    (λ i i_in. if_le (x.holds p i e) (amount_of x failed p i) (x.allocation p i) (amount_within x failed p i)))
 
 pub survives : GuardedGrantsSurvive
 survives x holds failed few = (

@@ -9,6 +9,7 @@ use Rattle.te_model.specs.Counting.{sum_below}
 use Rattle.te_model.specs.Network.{link_count, capacity_of}
 use Rattle.te_model.specs.Path.{amount_on, has_number, routes_at}
 use Rattle.te_model.specs.Validity.{Rule}
+use Rattle.routing.specs.Merge.{path_at}
 use Rattle.number_tables.specs.Rules.{first_rule_of}
 use Rattle.fault_rates.specs.declared.plan.RatePlan.{RatePlan}
 use Rattle.fault_rates.specs.Protection.{Protection}
@@ -47,13 +48,9 @@ pub record IsValidPlan (routes : List PairRoutes) (plan : RatePlan) : Type 0 whe
   pub shaped : IsShapedPlan routes plan
   pub no_fault : plan_fault plan ≡ None
 
--- what stands for a path that is not there
-abbrev pub no_path_share : PathShare
-no_path_share = record { links = []; weight = 0 }
-
 -- the links of path i of these
 abbrev pub links_of : List PathShare → ℕ → List ℕ
-links_of paths i = (slice_index_or paths i no_path_share).links
+links_of paths i = (path_at paths i).links
 
 -- how much of the amounts, one for each of these paths, is on link e
 abbrev pub amount_of_paths : List PathShare → (ℕ → ℕ) → ℕ → ℕ
