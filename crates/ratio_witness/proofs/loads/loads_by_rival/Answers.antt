@@ -16,7 +16,6 @@ use Rattle.ratio_witness.proofs.loads.loads_by_rival.Goals as goal
 pub loop-p-init : goal.loop-p-init
 loop-p-init c = record { count = refl; sums = λ e. zeros FORMAT_2.links e }
 
-
 pub add_demand-requires-clause-paths : goal.add_demand-requires-clause-paths
 add_demand-requires-clause-paths c =
     let inside = below_pairs c.args.head.now.routes c.as_slice-p-end.result.now c.loop-p.p c.as_slice-p-end.ensures c.loop-p-test.true in
