@@ -14,3 +14,4 @@ pub mod FirstLeast
 pub mod LinkRows
 pub mod DirectPaths
 pub mod Existence
+pub mod Candidates

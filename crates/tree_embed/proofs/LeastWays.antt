@@ -1,5 +1,6 @@
 -- The first links of the least paths between all nodes, and what they lead to.
-use Rattle.std.proofs.Common.{◌≡◌, ℕ, ◌+◌, ◌<◌, List, [], ◌∷◌, ◌++◌, Option, length, arith, refl, sym, subst}
+use Rattle.std.proofs.Common.{◌≡◌, ℕ, ◌+◌, ◌<◌, List, [], ◌∷◌, ◌++◌, Option, length, get_or, arith, refl, sym, ◌∙◌, subst}
+use Rattle.std.proofs.lemmas.List.{get_or_read}
 use Rattle.te_model.specs.declared.network.Network.{Network}
 use Rattle.te_model.specs.Network.{link_count, node_count}
 use Rattle.te_model.proofs.Choices.{pushed_count, pushed_each}
@@ -45,6 +46,15 @@ leads_to net lengths sums firsts t to along lead below same_to same_along =
       sums_are = lead.sums_are.each t below;
       firsts_are = lead.firsts_are.each t below;
     }))
+
+-- .. where these are read from their tables
+pub leads_read : (net : Network) (lengths : List ℕ) (sums firsts : List (List (Option ℕ))) (t : ℕ) (row there to along : List (Option ℕ)) →
+    LeadBetween net lengths sums firsts → t < node_count net → row ≡ get_or sums t row → there ≡ get_or firsts t there → to ≡ row → along ≡ there →
+    LeadsTo net lengths (every_link net) t to along
+leads_read net lengths sums firsts t row there to along lead below read_row read_there same_to same_along =
+    leads_to net lengths sums firsts t to along lead below
+    (same_to ∙ get_or_read sums t row (omega (arith, lead.sums_are.count, below)) read_row [])
+    (same_along ∙ get_or_read firsts t there (omega (arith, lead.firsts_are.count, below)) read_there [])
 
 -- what a tree keeps leads between its nodes
 pub lead_of : (e : Embedding) (net : Network) (sums s firsts f : List (List (Option ℕ))) (centers : List (List ℕ)) → AreTables e sums centers →

@@ -1,6 +1,6 @@
-use Rattle.std.proofs.Common.{◌⊎◌, inl, inr, ◌≡◌, ◌+◌, ◌<◌, ◌++◌, ◌∷◌, [], ℕ, List, Vec, Global, length, map, get_or, arith, ap, sym, ◌∙◌, subst, rules, ◌≤◌, ◌^◌}
+use Rattle.std.proofs.Common.{◌⊎◌, inl, inr, ◌≡◌, ◌+◌, ◌<◌, ◌++◌, ◌∷◌, [], ℕ, List, Vec, Global, length, map, arith, ap, sym, ◌∙◌, subst, rules, ◌≤◌, ◌^◌}
 use Rattle.std.specs.Prelude.{All, vec_len}
-use Rattle.std.proofs.lemmas.List.{get_or_read, length-map, map_push, nil_from_length}
+use Rattle.std.proofs.lemmas.List.{length-map, map_push, nil_from_length}
 use Rattle.std.proofs.lemmas.Bool.{eqb-true}
 use Rattle.std.proofs.lemmas.List.Elements.{All-weaker}
 use Rattle.te_model.specs.declared.route.Path.{Path}
@@ -10,7 +10,8 @@ use Rattle.k_paths.specs.declared.candidate.Candidate.{Candidate}
 use Rattle.te_model.specs.declared.network.Network.{Network}
 use Rattle.shortest_path.specs.Costs.{HasCosts}
 use Rattle.k_paths.specs.declared.candidate.BoundedClass.{BoundedClass}
-use Rattle.k_paths.specs.Search.{AreFirst, IsDueSearch, candidate_links, no_candidate}
+use Rattle.k_paths.specs.Search.{AreFirst, IsDueSearch, candidate_links}
+use Rattle.k_paths.proofs.Candidates.{links_read}
 use Rattle.k_paths.proofs.Rounds.{FoundSoFar, links_inside, are_first, found_more, found_end, found_none}
 use Rattle.k_paths.proofs.least.k_least_along.Goals as goal
 use Rattle.k_paths.proofs.least.k_least_along.Goals.{then-len-k+in_ok-candidates-2, else-len-k, then-loop-candidates-test+else-not-is_empty, else-loop-candidates-test}
@@ -33,9 +34,6 @@ first_of-best-requires-clause-links c =
     (subst (λ costs. (k : ℕ) → k < length cs → All (λ h. h < length costs) (candidate_links cs k)) (sym c.as_slice.ensures)
     (links_inside net c.args.src ways.dst ways.costs cs c.requires.ways.costs now.least))
 
-read_links : (cs : List Candidate) (i : ℕ) (c : Candidate) → i < length cs → c ≡ get_or cs i c → c.links ≡ candidate_links cs i
-read_links cs i c below is = ap (λ (d : Candidate). d.links) (get_or_read cs i c below is no_candidate)
-
 -- what the choice of the first candidate says of the candidates and the costs themselves
 first_is : (net : Network) (cs cs' : List Candidate) (costs costs' : List ℕ) (i : ℕ) → cs' ≡ cs → costs' ≡ costs → HasCosts net costs →
     ((k : ℕ) → k < length cs' → (candidate_links cs' k ≡ candidate_links cs' i) ⊎ IsBelow costs' (candidate_links cs' i) (candidate_links cs' k)) → AreFirst net (candidate_links cs i) cs
@@ -51,7 +49,7 @@ advance-requires-clause-first c =
     let i = c.first_of-best.result in
     let inside : i < length cs = subst (λ (l : List Candidate). i < length l) c.deref.ensures.value c.first_of-best.ensures.inside in
     let best : c.deref-then-len-k.result.now ≡ candidate_links cs i =
-    c.deref-then-len-k.ensures.value ∙ (c.in_ok-links.ensures.items ∙ (c.as_slice-in-loop-candidates.ensures ∙ read_links cs i c.index.result.now inside c.index.ensures))
+    c.deref-then-len-k.ensures.value ∙ (c.in_ok-links.ensures.items ∙ (c.as_slice-in-loop-candidates.ensures ∙ links_read cs i c.index.result.now inside c.index.ensures))
     in
     subst (λ b. AreFirst net b cs) (sym best)
     (first_is net cs c.deref.result.now c.args.ways.now.costs c.as_slice.result.now i c.deref.ensures.value c.as_slice.ensures c.requires.ways.costs c.first_of-best.ensures.first)
@@ -78,7 +76,7 @@ loop-candidates-preserved c =
     let i = c.first_of-best.result in
     let inside : i < length cs = subst (λ (l : List Candidate). i < length l) c.deref.ensures.value c.first_of-best.ensures.inside in
     let links : c.in_ok-links.links.items ≡ candidate_links cs i =
-    c.in_ok-links.ensures.items ∙ (c.as_slice-in-loop-candidates.ensures ∙ read_links cs i c.index.result.now inside c.index.ensures)
+    c.in_ok-links.ensures.items ∙ (c.as_slice-in-loop-candidates.ensures ∙ links_read cs i c.index.result.now inside c.index.ensures)
     in
     let first = first_is net cs c.deref.result.now c.args.ways.now.costs c.as_slice.result.now i c.deref.ensures.value c.as_slice.ensures c.requires.ways.costs c.first_of-best.ensures.first in
     let pushed : c.push.new.self.items ≡ had ++ (record { links = c.new.result }) ∷ [] = search rules in

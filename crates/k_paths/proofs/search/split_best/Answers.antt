@@ -36,19 +36,14 @@ loop-candidate-preserved-then-eq c =
 
 pub loop-candidate-preserved : goal.loop-candidate-preserved
 loop-candidate-preserved c =
-    let net = c.args.net.now in
-    let ways = c.args.ways.now in
-    let best = c.args.best.now in
     let old = c.args.candidates.items in
     let was = c.args.bounded.now.items in
     let rest = c.pop.new.self.items in
-    let candidate = c.in-Some.candidate in
-    let next = c.loop-candidate.next.items in
-    let bounded = c.loop-candidate.bounded.items in
-    let popped : c.loop-candidate.candidates.items ≡ rest ++ candidate ∷ [] = c.in-Some.ensures.items in
-    let so = subst (λ l. NextSoFar net c.args.src ways best old l next was bounded) popped c.loop-candidate.invariant in
-    subst (λ n. NextSoFar net c.args.src ways best old rest n was bounded) (sym c.in_ok-push.ensures.items)
-    (next_kept net c.args.src ways best old rest candidate next was bounded c.requires.least c.requires.first so
+    let so = subst (λ l. NextSoFar c.args.net.now c.args.src c.args.ways.now c.args.best.now old l c.loop-candidate.next.items was c.loop-candidate.bounded.items)
+    c.in-Some.ensures.items c.loop-candidate.invariant in
+    subst (λ n. NextSoFar c.args.net.now c.args.src c.args.ways.now c.args.best.now old rest n was c.loop-candidate.bounded.items) (sym c.in_ok-push.ensures.items)
+    (next_kept c.args.net.now c.args.src c.args.ways.now c.args.best.now old rest c.in-Some.candidate c.loop-candidate.next.items was c.loop-candidate.bounded.items
+    c.requires.least c.requires.first so
     (λ e. false≢true (sym c.if-eq.false ∙ (slice_eq-Decides Decides-eqb _ _ _ c.eq.ensures).1 (c.as_slice.ensures ∙ e))))
 
 pub returns : goal.returns

@@ -1,13 +1,11 @@
-use Rattle.std.proofs.Common.{◌≡◌, ◌≤◌, ℕ, [], Some, None, Vec, Global, arith, sym, ◌∙◌, subst}
+use Rattle.std.proofs.Common.{◌≤◌, ℕ, Some, None, Vec, Global, arith, sym, subst}
 use Rattle.std.specs.Prelude.{MatchOption}
-use Rattle.std.proofs.lemmas.List.{get_or_read}
 use Rattle.std.proofs.lemmas.List.Elements.{All-get_or}
 use Rattle.shortest_path.specs.Least.{IsLeastWalk}
 use Rattle.shortest_path.specs.Links.{every_link}
 use Rattle.shortest_path.specs.Paths.{IsLeastPath}
 use Rattle.shortest_path.proofs.LeastSums.{least_path_of_walk, all_open}
-use Rattle.tree_embed.specs.Tables.{firsts_to, sums_to}
-use Rattle.tree_embed.proofs.LeastWays.{leads_to}
+use Rattle.tree_embed.proofs.LeastWays.{leads_read}
 use Rattle.tree_embed.proofs.join.least.Goals as goal
 
 pub walk_along-requires-clause-sound : goal.walk_along-requires-clause-sound
@@ -20,14 +18,12 @@ walk_along-requires-clause-leads c =
     let firsts = c.args.firsts.now in
     let t = c.args.dst in
     let lengths = c.requires.lead.0 in
-    let lead = c.requires.lead.1 in
-    let to : c.as_slice-to.result.now ≡ sums_to sums t =
-    c.as_slice-to.ensures ∙ get_or_read sums t c.index-sums-dst.result (omega (arith, lead.sums_are.count, c.requires.dst)) c.index-sums-dst.is []
-    in
-    let along : c.as_slice-along.result.now ≡ firsts_to firsts t =
-    c.as_slice-along.ensures ∙ get_or_read firsts t c.index-firsts-dst.result (omega (arith, lead.firsts_are.count, c.requires.dst)) c.index-firsts-dst.is []
-    in
-    (lengths, every_link net, leads_to net lengths sums firsts t c.as_slice-to.result.now c.as_slice-along.result.now lead c.requires.dst to along)
+    let lead = c.requires.lead.1 in (
+      lengths,
+      every_link net,
+      leads_read net lengths sums firsts t c.index-sums-dst.result c.index-firsts-dst.result c.as_slice-to.result.now c.as_slice-along.result.now lead c.requires.dst
+          c.index-sums-dst.is c.index-firsts-dst.is c.as_slice-to.ensures c.as_slice-along.ensures,
+    )
 
 pub returns-in-Some : goal.returns-in-Some
 returns-in-Some c = λ lengths lead.
@@ -36,13 +32,8 @@ returns-in-Some c = λ lengths lead.
     let firsts = c.args.firsts.now in
     let s = c.args.src in
     let t = c.args.dst in
-    let to : c.as_slice-to.result.now ≡ sums_to sums t =
-    c.as_slice-to.ensures ∙ get_or_read sums t c.index-sums-dst.result (omega (arith, lead.sums_are.count, c.requires.dst)) c.index-sums-dst.is []
-    in
-    let along : c.as_slice-along.result.now ≡ firsts_to firsts t =
-    c.as_slice-along.ensures ∙ get_or_read firsts t c.index-firsts-dst.result (omega (arith, lead.firsts_are.count, c.requires.dst)) c.index-firsts-dst.is []
-    in
-    let leads = leads_to net lengths sums firsts t c.as_slice-to.result.now c.as_slice-along.result.now lead c.requires.dst to along in
+    let leads = leads_read net lengths sums firsts t c.index-sums-dst.result c.index-firsts-dst.result c.as_slice-to.result.now c.as_slice-along.result.now lead c.requires.dst
+    c.index-sums-dst.is c.index-firsts-dst.is c.as_slice-to.ensures c.as_slice-along.ensures in
     let walk : IsLeastWalk net lengths (every_link net) s t (Some c.in-Some.walk.items) =
     subst (λ o. MatchOption o (IsLeastWalk net lengths (every_link net) s t None) (λ (w : Vec ℕ Global). IsLeastWalk net lengths (every_link net) s t (Some w.items)))
     c.in-Some.is (c.in_ok-walk.ensures lengths (every_link net) leads)
@@ -58,13 +49,8 @@ returns-in-None c = λ lengths lead.
     let firsts = c.args.firsts.now in
     let s = c.args.src in
     let t = c.args.dst in
-    let to : c.as_slice-to.result.now ≡ sums_to sums t =
-    c.as_slice-to.ensures ∙ get_or_read sums t c.index-sums-dst.result (omega (arith, lead.sums_are.count, c.requires.dst)) c.index-sums-dst.is []
-    in
-    let along : c.as_slice-along.result.now ≡ firsts_to firsts t =
-    c.as_slice-along.ensures ∙ get_or_read firsts t c.index-firsts-dst.result (omega (arith, lead.firsts_are.count, c.requires.dst)) c.index-firsts-dst.is []
-    in
-    let leads = leads_to net lengths sums firsts t c.as_slice-to.result.now c.as_slice-along.result.now lead c.requires.dst to along in
+    let leads = leads_read net lengths sums firsts t c.index-sums-dst.result c.index-firsts-dst.result c.as_slice-to.result.now c.as_slice-along.result.now lead c.requires.dst
+    c.index-sums-dst.is c.index-firsts-dst.is c.as_slice-to.ensures c.as_slice-along.ensures in
     let walk : IsLeastWalk net lengths (every_link net) s t None =
     subst (λ o. MatchOption o (IsLeastWalk net lengths (every_link net) s t None) (λ (w : Vec ℕ Global). IsLeastWalk net lengths (every_link net) s t (Some w.items)))
     c.in-None.is (c.in_ok-walk.ensures lengths (every_link net) leads)
