@@ -1,5 +1,6 @@
 -- What is read is the text of a certificate, and the text of a certificate is read.
 use Rattle.std.proofs.Common.{◌≡◌, ℕ, ◌<◌, ◌+◌, arith, ◌++◌, List, [], Result, Ok, Err, Option, Some, None, refl, sym, ap, subst, ◌∙◌, eqb, cond, Bool, true, false, zero, suc, append_assoc, ◌⊎◌, ◌∷◌, length, ◌-◌, ◌≤◌, inl, inr}
+use Rattle.std.specs.Prelude.{IsTrue}
 use Rattle.std.proofs.lemmas.List.{append-nil}
 use Rattle.te_model.specs.declared.certificate.Certificate.{Certificate}
 use Rattle.te_model.specs.Text.{text, Spells}
@@ -17,7 +18,7 @@ use Rattle.cert_text.proofs.Tokens.{exact}
 use Rattle.cert_text.proofs.Whole.{certificate_takes, certificate_again, at_end}
 use Rattle.cert_text.proofs.Lines.{text_is}
 use Rattle.cert_text.proofs.Natural.{carry, certificate_kept}
-use Rattle.te_model.specs.Faults.{line_ends, SharesLines, BeginsFile, IsShapeFault, IsRuleFault}
+use Rattle.te_model.specs.Faults.{line_ends, SharesLines, BeginsFile, BeginsOne, IsShapeFault, IsRuleFault, LeavesAt}
 use Rattle.cert_text.proofs.Local.{GoesSame}
 use Rattle.cert_text.proofs.Steady.{certificate_steady}
 use Rattle.cert_text.proofs.Completable.{begins_with_none}
@@ -152,10 +153,11 @@ cut (b ∷ bs) (suc j) le = chosen (eqb b 10) refl le (λ h. cut bs j h) (λ h. 
     chosen false is le here later = let c = later le in (b ∷ c.0, c.1, ap (λ (x : List ℕ). b ∷ x) c.2, rw is c.3)
 
 -- texts that share lines share fewer
-fewer_lines : (bytes : List ℕ) (j k : ℕ) → j ≤ k → BeginsFile k bytes → BeginsFile j bytes
-fewer_lines bytes j k le begins =
+fewer_lines : {A : Type 0} (IsOne : A → Type 0) (text_of : A → List ℕ) (bytes : List ℕ) (j k : ℕ) → j ≤ k → BeginsOne IsOne text_of k bytes →
+    BeginsOne IsOne text_of j bytes
+fewer_lines IsOne text_of bytes j k le begins =
     let s = begins.2 in
-    let c = cut s.0 j (omega (arith, s.5)) in (
+    let c = cut s.0 j (let ended = s.5 in omega (arith, ended, le)) in (
       begins.0,
       begins.1,
       (
@@ -168,18 +170,23 @@ fewer_lines bytes j k le begins =
       ),
     )
 
--- bytes have one fault of shape at most
-pub one_shape_fault : (bytes : List ℕ) (j k : ℕ) → IsShapeFault bytes j → IsShapeFault bytes k → j ≡ k
-one_shape_fault bytes j k f g =
+-- bytes leave the files of a set at one line at most
+pub one_leaving : {A : Type 0} (IsOne : A → Type 0) (text_of : A → List ℕ) (bytes : List ℕ) (j k : ℕ) → LeavesAt IsOne text_of bytes j →
+    LeavesAt IsOne text_of bytes k → j ≡ k
+one_leaving IsOne text_of bytes j k f g =
     let first = f.counted in
     let second = g.counted in
     elim (cases_lt j k) [
-      | inl lt ↦ absurd (f.leaves (fewer_lines bytes j (k - 1) (omega arith) g.before))
+      | inl lt ↦ absurd (f.leaves (fewer_lines IsOne text_of bytes j (k - 1) (omega (arith, lt)) g.before))
       | inr ge ↦ elim (cases_lt k j) [
-        | inl lt ↦ absurd (g.leaves (fewer_lines bytes k (j - 1) (omega arith) f.before))
-        | inr le ↦ omega arith
+        | inl lt ↦ absurd (g.leaves (fewer_lines IsOne text_of bytes k (j - 1) (omega (arith, lt)) f.before))
+        | inr le ↦ omega (arith, ge, le)
       ]
     ]
+
+-- bytes have one fault of shape at most
+pub one_shape_fault : (bytes : List ℕ) (j k : ℕ) → IsShapeFault bytes j → IsShapeFault bytes k → j ≡ k
+one_shape_fault bytes j k f g = one_leaving (λ (c : Certificate). IsTrue (is_shaped (limits_of c.head.format) c)) text bytes j k f g
 
 -- bytes are the file of some rightly shaped certificate, or have a fault of shape
 pub file_or_fault : (bytes : List ℕ)

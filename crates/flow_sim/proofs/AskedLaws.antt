@@ -17,6 +17,7 @@ use Rattle.te_model.specs.Apportion.{apportion, floor_part, is_among_first, part
 use Rattle.te_model.specs.Counting.{sum_below}
 use Rattle.te_model.specs.Path.{amount_on, has_number, is_distinct, is_path, no_routes, weight_on}
 use Rattle.te_model.proofs.ApportionLaws.{sum_below-first, sum_below-more, sum_is_below}
+use Rattle.te_model.proofs.LentRoutes.{below_pairs, lent_paths}
 use Rattle.te_model.proofs.SimplePaths.{path_links_once}
 use Rattle.te_model.proofs.Sums.{sum_below-add, sum_below-le, sum_below-mul, sum_below-same}
 use Rattle.te_model.proofs.Tests.{list_all_at}
@@ -134,6 +135,17 @@ pub flows_within : (rates : List PairRoutes) (demand : List ℕ) (p : ℕ) → p
     first_flow rates p + length (paths_of rates p) ≤ length (flow_starts rates demand)
 unfolding first_flow
 flows_within rates demand p below = omega (arith, concat_within (length rates) p (paths_of rates) below, starts-flows rates demand)
+
+-- .. of paths that are lent
+pub lent_within : (rates list : List PairRoutes) (demand : List ℕ) (p first : ℕ) (item : PairRoutes) (paths : List PathShare) → list ≡ rates → p < length list →
+    paths ≡ (get_or list p item).paths → first ≡ first_flow rates p → first + length paths ≤ length (flow_starts rates demand)
+lent_within rates list demand p first item paths same below is at =
+    omega (
+      arith,
+      at,
+      ap (λ (ss : List PathShare). length ss) (lent_paths rates list p item paths same below is),
+      flows_within rates demand p (below_pairs rates list p same below),
+    )
 
 -- what the pairs before have asked, with the units of this one, is within the units of all flows
 pub asked_fits : (rates : List PairRoutes) (units : List ℕ) (e p : ℕ) → first_flow rates p + length (paths_of rates p) ≤ length units →

@@ -6,7 +6,6 @@ use Rattle.std.proofs.lemmas.List.Concat.{flat_map-append}
 use Rattle.std.specs.List.{AllByRecursion}
 use Rattle.te_model.specs.Faults.{line_ends, BeginsOne, LeavesAt}
 use Rattle.cert_text.proofs.Completable.{ends_append}
-use Rattle.cert_text.proofs.Laws.{cut}
 use Rattle.number_tables.specs.Table.{file_of}
 use Rattle.number_tables.specs.Leaving.{LeavesAfter}
 
@@ -173,36 +172,3 @@ module _ {X : Type 0} (IsOne : X → Type 0) (lines_of : X → List (List ℕ)) 
         before = (b.0, b.1, (file_of front, leaves.rest, file_of b.2, leaves.parts, ap file_of b.3 ∙ flat_map-append (λ (l : List ℕ). l ++ 10 ∷ []) front b.2, let ends = file_ends front one in omega (arith, ends)));
         leaves = not_begun bytes front leaves one;
       }
-
--- ---- there is one such line
-
-module _ {X : Type 0} (IsOne : X → Type 0) (text_of : X → List ℕ) (bytes : List ℕ) where
-  -- texts that share lines share fewer
-  fewer_lines : (j k : ℕ) → j ≤ k → BeginsOne IsOne text_of k bytes → BeginsOne IsOne text_of j bytes
-  fewer_lines j k le begins =
-      let s = begins.2 in
-      let c = cut s.0 j (let ended = s.5 in omega (arith, ended, le)) in (
-        begins.0,
-        begins.1,
-        (
-          c.0,
-          c.1 ++ s.1,
-          c.1 ++ s.2,
-          s.3 ∙ ap (λ (x : List ℕ). x ++ s.1) c.2 ∙ append_assoc c.0 c.1 s.1,
-          s.4 ∙ ap (λ (x : List ℕ). x ++ s.2) c.2 ∙ append_assoc c.0 c.1 s.2,
-          c.3,
-        ),
-      )
-
-  -- bytes leave the files of a set at one line at most
-  pub one_leaving : (j k : ℕ) → LeavesAt IsOne text_of bytes j → LeavesAt IsOne text_of bytes k → j ≡ k
-  one_leaving j k f g =
-      let first = f.counted in
-      let second = g.counted in
-      elim (cases_lt j k) [
-        | inl lt ↦ absurd (f.leaves (fewer_lines j (k - 1) (omega (arith, lt)) g.before))
-        | inr ge ↦ elim (cases_lt k j) [
-          | inl lt ↦ absurd (g.leaves (fewer_lines k (j - 1) (omega (arith, lt)) f.before))
-          | inr le ↦ omega (arith, ge, le)
-        ]
-      ]

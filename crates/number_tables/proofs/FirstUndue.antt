@@ -4,11 +4,12 @@ use Rattle.std.specs.Prelude.{codes, bytes_eq}
 use Rattle.std.proofs.lemmas.Bool.{and_parts, and_from}
 use Rattle.std.proofs.lemmas.Slice.Eq.{bytes_eq-Decides}
 use Rattle.te_model.specs.Faults.{LeavesAt}
+use Rattle.cert_text.proofs.Laws.{one_leaving}
 use Rattle.number_tables.specs.declared.line.NumLine.{NumLine}
 use Rattle.number_tables.specs.Due.{Due, done, line, AreDue, CanEnd, one_later, first_undue, AreFile, LeavesSmallFiles, FirstUndueLeaves, OneSmallFault}
 use Rattle.number_tables.specs.Leaving.{LeavesAfter, body_lines}
 use Rattle.number_tables.specs.Table.{IsLine, AreLines, line_text, file_of, table_lines, table_text}
-use Rattle.number_tables.proofs.FilesOfLines.{first_same, file_cons, one_first_line, leaves_at, one_leaving}
+use Rattle.number_tables.proofs.FilesOfLines.{first_same, file_cons, one_first_line, leaves_at}
 use Rattle.number_tables.proofs.Texts.{line_is_one, not_the_end, one_line_text}
 use Rattle.number_tables.proofs.Whole.{body_one_line}
 

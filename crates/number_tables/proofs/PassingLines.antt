@@ -9,6 +9,7 @@ use Rattle.cert_text.specs.Grammar.{read_closing}
 use Rattle.cert_text.specs.Place.{Place, place, Stops, Passes, ◌>>=◌}
 use Rattle.cert_text.specs.Reading.{read_word, read_line_end}
 use Rattle.cert_text.proofs.Decimals.{ok_is}
+use Rattle.cert_text.proofs.Laws.{one_leaving}
 use Rattle.number_tables.specs.declared.fault.TableFault.{TableFault}
 use Rattle.number_tables.specs.declared.fault.TableFault.TheVariants as faults
 use Rattle.number_tables.specs.declared.line.NumLine.{NumLine}
@@ -19,7 +20,7 @@ use Rattle.number_tables.specs.Reading.{begins_with_end, read_line}
 use Rattle.number_tables.specs.Table.{IsLine, AreLines, line_text, file_of, table_lines, table_text}
 use Rattle.number_tables.proofs.Body.{HasRead, one_more_line, after_end, line_stops, end_stops, ends_well}
 use Rattle.number_tables.proofs.Faults.{not_ok}
-use Rattle.number_tables.proofs.FilesOfLines.{one_first_line, one_leaving}
+use Rattle.number_tables.proofs.FilesOfLines.{one_first_line}
 use Rattle.number_tables.proofs.Texts.{line_again, line_is_one, not_the_end}
 use Rattle.number_tables.proofs.Whole.{first_line_again, took_first, lines_after_first, leaves_tables}
 

@@ -11,6 +11,7 @@ use Rattle.cert_text.specs.Place.{Place, place, Stops, ◌>>=◌}
 use Rattle.cert_text.specs.Reading.{read_word, read_line_end}
 use Rattle.cert_text.proofs.Decimals.{ok_is}
 use Rattle.cert_text.proofs.Tokens.{word_takes, word_again, line_end_takes}
+use Rattle.cert_text.proofs.Laws.{one_leaving}
 use Rattle.number_tables.specs.declared.fault.TableFault.{TableFault}
 use Rattle.number_tables.specs.declared.fault.TableFault.TheVariants as faults
 use Rattle.number_tables.specs.declared.line.NumLine.{NumLine}
@@ -18,7 +19,7 @@ use Rattle.number_tables.specs.Leaving.{LeavesAfter, body_lines, ReadsLines}
 use Rattle.number_tables.specs.Outcome.{fault_of, GivesLinesOrMemory, IsFaultOrMemory}
 use Rattle.number_tables.specs.Table.{AreLines, line_text, file_of, table_lines, table_text}
 use Rattle.number_tables.proofs.Faults.{not_ok, PassesOn, byte_on, word_on}
-use Rattle.number_tables.proofs.FilesOfLines.{first_same, AreOneLine, file_cons, lines_after, none_left, leaves_at, one_leaving}
+use Rattle.number_tables.proofs.FilesOfLines.{first_same, AreOneLine, file_cons, lines_after, none_left, leaves_at}
 use Rattle.number_tables.proofs.Texts.{line_is_one, not_the_end, one_line_text}
 
 -- ---- the first line

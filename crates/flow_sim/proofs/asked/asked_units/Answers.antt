@@ -9,7 +9,7 @@ use Rattle.te_model.proofs.Lists.{written_whole}
 use Rattle.te_model.proofs.LentRoutes.{below_pairs, lent_paths}
 use Rattle.flow_sim.specs.Asked.{asked_units_on}
 use Rattle.flow_sim.specs.Traffic.{paths_of}
-use Rattle.flow_sim.proofs.AskedLaws.{asked_done, asked_next, asked_none, asked_room, flows_more, flows_none, flows_within, links_distinct}
+use Rattle.flow_sim.proofs.AskedLaws.{asked_done, asked_next, asked_none, asked_room, flows_more, flows_none, lent_within, links_distinct}
 use Rattle.flow_sim.proofs.RatesLaws.{can_split, few_pairs, links_stand}
 use Rattle.flow_sim.proofs.StartLaws.{starts_fit}
 use Rattle.flow_sim.proofs.TableLaws.{zero_read}
@@ -31,39 +31,15 @@ loop-p-init c =
 
 pub add_flows-requires-clause-flows : goal.add_flows-requires-clause-flows
 add_flows-requires-clause-flows c =
-    let rates = c.args.rates.now.routes in
-    let demand = c.args.matrix.now.demand in
-    let p = c.loop-p.p in
-    let inside = below_pairs rates c.as_slice-routes.result.now p c.as_slice-routes.ensures c.loop-p-test.true in
-    let paths : c.as_slice-paths.result.now ≡ paths_of rates p =
-    lent_paths rates c.as_slice-routes.result.now p c.index-routes-p.result c.as_slice-paths.result.now c.as_slice-routes.ensures c.loop-p-test.true c.as_slice-paths.ensures
-    in
-    omega (
-      arith,
-      c.loop-p.invariant.first,
-      ap (λ (ss : List PathShare). length ss) paths,
-      ap (λ (l : List ℕ). length l) c.as_slice.ensures.value,
-      ap (λ (l : List ℕ). length l) c.in_ok-units.ensures,
-      flows_within rates demand p inside,
-    )
+    let within = lent_within c.args.rates.now.routes c.as_slice-routes.result.now c.args.matrix.now.demand c.loop-p.p c.loop-p.first c.index-routes-p.result
+    c.as_slice-paths.result.now c.as_slice-routes.ensures c.loop-p-test.true c.as_slice-paths.ensures c.loop-p.invariant.first in
+    omega (arith, within, ap (λ (l : List ℕ). length l) c.as_slice.ensures.value, ap (λ (l : List ℕ). length l) c.in_ok-units.ensures)
 
 pub overflow_add-first : goal.overflow_add-first
 overflow_add-first c =
-    let rates = c.args.rates.now.routes in
-    let demand = c.args.matrix.now.demand in
-    let p = c.loop-p.p in
-    let inside = below_pairs rates c.as_slice-routes.result.now p c.as_slice-routes.ensures c.loop-p-test.true in
-    let paths : c.as_slice-paths.result.now ≡ paths_of rates p =
-    lent_paths rates c.as_slice-routes.result.now p c.index-routes-p.result c.as_slice-paths.result.now c.as_slice-routes.ensures c.loop-p-test.true c.as_slice-paths.ensures
-    in
-    omega (
-      arith,
-      c.loop-p.invariant.first,
-      ap (λ (ss : List PathShare). length ss) paths,
-      ap (λ (l : List ℕ). length l) c.in_ok-units.ensures,
-      c.in_ok-units.units.ok.0,
-      flows_within rates demand p inside,
-    )
+    let within = lent_within c.args.rates.now.routes c.as_slice-routes.result.now c.args.matrix.now.demand c.loop-p.p c.loop-p.first c.index-routes-p.result
+    c.as_slice-paths.result.now c.as_slice-routes.ensures c.loop-p-test.true c.as_slice-paths.ensures c.loop-p.invariant.first in
+    omega (arith, within, ap (λ (l : List ℕ). length l) c.in_ok-units.ensures, c.in_ok-units.units.ok.0)
 
 pub add_flows-requires-clause-links : goal.add_flows-requires-clause-links
 add_flows-requires-clause-links c =
