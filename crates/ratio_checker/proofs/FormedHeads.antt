@@ -1,9 +1,10 @@
 -- The network of a valid head is well formed.
 use Rattle.std.proofs.Common.{◌≡◌, ◌≤◌, true, ◌&&◌, [], length, arith, nat_le, ◌==◌}
 use Rattle.std.specs.List.{list_all}
-use Rattle.std.proofs.lemmas.Bool.{and_parts, leb-true}
+use Rattle.std.proofs.lemmas.Bool.{and_parts, eqb-true, leb-true}
 use Rattle.te_model.specs.declared.certificate.Certificate.{Certificate}
 use Rattle.te_model.specs.declared.certificate.Head.{Head}
+use Rattle.te_model.specs.declared.limits.Limits.{Limits}
 use Rattle.te_model.specs.Formats.{limits_of}
 use Rattle.te_model.specs.Laws.{LinksJoinNodes}
 use Rattle.te_model.specs.Network.{is_name, is_new_name, is_well_formed, link_count, node_count}
@@ -14,10 +15,16 @@ use Rattle.te_model.proofs.Valid.{limits_small, rules_hold}
 use Rattle.te_model.proofs.WellFormed.{links_join, well_formed_from}
 use Rattle.te_model.proofs.ValidHeads.{valid_without_blocks}
 
--- the network of a head that can be written
-shaped_network : (h : Head) → is_shaped_head (limits_of h.format) h ≡ true → is_shaped_network (limits_of h.format) h.network ≡ true
-shaped_network h shaped =
-    let limits = limits_of h.format in
+-- what the shape of a head says of its counts, its pairs and its set
+pub record HasShape (h : Head) (limits : Limits) : Type 0 where
+  pub format : h.format ≡ limits.format
+  pub network : is_shaped_network limits h.network ≡ true
+  pub pairs : length h.routes ≤ limits.pairs
+  pub routes : list_all (is_shaped_pair limits) h.routes ≡ true
+  pub set : is_shaped_set limits (length h.routes) h.set ≡ true
+
+pub shape_of : (h : Head) (limits : Limits) → is_shaped_head limits h ≡ true → HasShape h limits
+shape_of h limits shaped =
     let a = h.format == limits.format in
     let b = is_shaped_network limits h.network in
     let c = is_count 0 limits.pairs (length h.routes) in
@@ -27,7 +34,15 @@ shaped_network h shaped =
     let four = and_parts (a && b && c && d) e five.0 in
     let three = and_parts (a && b && c) d four.0 in
     let two = and_parts (a && b) c three.0 in
-    (and_parts a b two.0).1
+    let one = and_parts a b two.0 in
+    let counts = and_parts (nat_le 0 (length h.routes)) (nat_le (length h.routes) limits.pairs) two.1 in
+    record {
+      format = eqb-true h.format limits.format one.0;
+      network = one.1;
+      pairs = leb-true (length h.routes) limits.pairs counts.1;
+      routes = three.1;
+      set = four.1;
+    }
 
 pub head_formed : (h : Head) → IsValidHead h → is_well_formed h.network ≡ true
 head_formed h valid =
@@ -39,7 +54,7 @@ head_formed h valid =
     let is = valid_without_blocks h valid in
     let kept = rules_hold cert is.1 in
     let wide = limits_small h.format in
-    let shaped = shaped_network h valid.shaped in
+    let shaped = (shape_of h limits valid.shaped).network in
     let nodes = is_count 2 limits.nodes n in
     let named = list_all is_name net.names in
     let links = is_count 1 limits.links m in

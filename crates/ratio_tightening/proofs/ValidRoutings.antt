@@ -23,36 +23,8 @@ use Rattle.te_model.proofs.Tests.{all_from_tests, first_failing_none_at, first_s
 use Rattle.te_model.proofs.ValidHeads.{few_in_format, row_length}
 use Rattle.te_model.proofs.Valid.{limits_small, rules_hold}
 use Rattle.te_model.proofs.ValidParts.{valid_parts}
+use Rattle.ratio_checker.proofs.FormedHeads.{HasShape, shape_of}
 use Rattle.best_blocks.specs.Conditions.{AreBounds, IsRoutingWithin, IsSetWithin}
-
--- what the shape of a head says of its counts, its pairs and its set
-pub record HasShape (h : Head) (limits : Limits) : Type 0 where
-  pub format : h.format ≡ limits.format
-  pub network : is_shaped_network limits h.network ≡ true
-  pub pairs : length h.routes ≤ limits.pairs
-  pub routes : list_all (is_shaped_pair limits) h.routes ≡ true
-  pub set : is_shaped_set limits (length h.routes) h.set ≡ true
-
-pub shape_of : (h : Head) (limits : Limits) → is_shaped_head limits h ≡ true → HasShape h limits
-shape_of h limits shaped =
-    let a = h.format == limits.format in
-    let b = is_shaped_network limits h.network in
-    let c = is_count 0 limits.pairs (length h.routes) in
-    let d = list_all (is_shaped_pair limits) h.routes in
-    let e = is_shaped_set limits (length h.routes) h.set in
-    let five = and_parts (a && b && c && d && e) (is_word h.ratio) shaped in
-    let four = and_parts (a && b && c && d) e five.0 in
-    let three = and_parts (a && b && c) d four.0 in
-    let two = and_parts (a && b) c three.0 in
-    let one = and_parts a b two.0 in
-    let counts = and_parts (nat_le 0 (length h.routes)) (nat_le (length h.routes) limits.pairs) two.1 in
-    record {
-      format = eqb-true h.format limits.format one.0;
-      network = one.1;
-      pairs = leb-true (length h.routes) limits.pairs counts.1;
-      routes = three.1;
-      set = four.1;
-    }
 
 pub certificate_shape : (c : Certificate) → IsValid c → HasShape c.head (limits_of c.head.format)
 certificate_shape c valid = shape_of c.head (limits_of c.head.format) ((valid_parts c).0 valid).head.shaped
