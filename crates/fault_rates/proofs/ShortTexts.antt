@@ -6,7 +6,7 @@ use Rattle.std.proofs.lemmas.Bool.{and_parts, leb-true}
 use Rattle.std.proofs.lemmas.List.Elements.{All-cons, All-get_or, All-nil}
 use Rattle.te_model.specs.declared.route.PairRoutes.{PairRoutes}
 use Rattle.te_model.specs.Path.{no_routes, routes_at}
-use Rattle.text_size.proofs.Widths.{digit_count, widest, widths-le, length-words, line-numbers}
+use Rattle.text_size.proofs.Widths.{digit_count, widest, widest_of_amount, widths-le, length-words, line-numbers}
 use Rattle.number_tables.specs.Due.{word_line}
 use Rattle.number_tables.specs.Table.{file_of, line_text}
 use Rattle.fault_rates.specs.File.{FitPairs, RateTextsAreShort, pair_lines, rate_lines}
@@ -14,11 +14,7 @@ use Rattle.fault_rates.specs.Plan.{is_rate}
 use Rattle.fault_rates.proofs.Files.{fit_pairs}
 use Rattle.fault_rates.proofs.Judged.{few_failures, small_rates}
 
--- a number of at most 2^32 takes eleven bytes with what stands beside it, and one of at most 8 takes two
-eleven : widest (2 ^ 32) ≡ 11
-unfolding digit_count
-eleven = refl
-
+-- a number of at most 8 takes two bytes with what stands beside it
 two : widest 8 ≡ 2
 unfolding digit_count
 two = refl
@@ -49,7 +45,7 @@ line_short g a small all few =
     let line = line-numbers g a in
     let each = All-cons (λ x. x ≤ 2 ^ 32) g a (leb-true _ _ small) (rates_small a all) in
     let most = widths-le 33 (2 ^ 32) (g ∷ a) (omega (arith, few)) (omega arith) each in
-    let width = eleven in
+    let width = widest_of_amount in
     omega (arith, line, most, width)
 
 pairs_short : (routes : List PairRoutes) (gs : List ℕ) (xs : List (List ℕ)) → FitPairs routes gs xs →

@@ -9,7 +9,7 @@ use Rattle.te_model.specs.Shape.{is_row_of, is_word}
 use Rattle.te_model.specs.Validity.{follows}
 use Rattle.te_model.proofs.Tests.{and_three, and_true}
 use Rattle.te_model.proofs.WellFormed.{few_links, few_nodes}
-use Rattle.text_size.proofs.Widths.{digit_count, length-lines, length-words, size, size-append, widest, widths, widths-le}
+use Rattle.text_size.proofs.Widths.{digit_count, length-lines, length-words, size, size-append, widest, widest_of_amount, widths, widths-le}
 use Rattle.number_tables.specs.Table.{line_text, table_lines}
 use Rattle.hose_bound.specs.declared.hose.HoseBlock.{HoseBlock}
 use Rattle.hose_bound.specs.Answers.{HoseTextsAreShort}
@@ -20,10 +20,6 @@ use Rattle.hose_bound.proofs.Valid.{rules_hold, small_blocks, valid_amounts}
 use Rattle.te_model.proofs.ValidHeads.{row_length}
 
 -- the bytes of a number with what stands beside it
-eleven : widest (2 ^ 32) ≡ 11
-unfolding digit_count
-eleven = refl
-
 eight : widest 1000000 ≡ 8
 unfolding digit_count
 eight = refl
@@ -95,7 +91,7 @@ hose_texts_are_short net c formed valid =
     let r = length-words (codes "received") c.hose.received in
     let u = length-words (codes "bound") (c.bound ∷ []) in
     let n = length-words (codes "blocks") (length c.blocks ∷ []) in
-    let e = eleven in
+    let e = widest_of_amount in
     let f = five in
     let t = twenty in
     omega (arith, few, sent, received, bound, count, blocks, whole, lines, s, r, u, n, e, f, t)

@@ -31,6 +31,11 @@ digit_count (suc k) n = cond (nat_lt n 10) 1 (suc (digit_count k (n / 10)))
 abbrev pub widest : ℕ → ℕ
 widest most = digit_count 20 most + 1
 
+-- an amount of at most 2 ^ 32 takes eleven bytes with what stands beside it
+pub widest_of_amount : widest (2 ^ 32) ≡ 11
+unfolding digit_count
+widest_of_amount = refl
+
 some_digits : (k n : ℕ) → 1 ≤ digit_count k n
 unfolding digit_count
 some_digits zero n = omega arith
