@@ -11,7 +11,7 @@ use Rattle.te_model.specs.Network.{capacity_of, link_count}
 use Rattle.te_model.specs.Validity.{fault_at, rule_fault}
 use Rattle.te_model.proofs.Searches.{first_below-same}
 use Rattle.number_tables.specs.Rules.{IsFirstRuleOf}
-use Rattle.number_tables.proofs.FirstRules.{first_rule_of-some}
+use Rattle.number_tables.proofs.FirstRules.{first_rule_of-some, no_fault_gives}
 use Rattle.fault_rates.specs.declared.plan.RatePlan.{RatePlan}
 use Rattle.fault_rates.specs.declared.verdict.RateVerdict.{RateVerdict}
 use Rattle.fault_rates.specs.declared.verdict.RateVerdict.TheVariants.{Yes, No}
@@ -69,13 +69,9 @@ verdict_search net routes demand plan sums shaped each =
 
 -- ---- what the verdict says
 
-found_none : (o : Option RuleFault) → verdict_of o ≡ Yes → o ≡ None
-found_none None e = refl
-found_none (Some f) e = cc
-
 pub verdict_yes : (x : Protection) (v : RateVerdict) → v ≡ verdict_of (guard_fault x) → (v ≡ Yes) ↔ AreGuarded x
 verdict_yes x v is = (
-  λ said. (guarded_is_faultless x).0 (found_none (guard_fault x) (sym is ∙ said)),
+  λ said. (guarded_is_faultless x).0 (no_fault_gives verdict_of Yes (λ f e. cc) (guard_fault x) (sym is ∙ said)),
   λ holds. is ∙ ap verdict_of ((guarded_is_faultless x).1 holds),
 )
 

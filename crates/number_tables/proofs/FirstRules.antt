@@ -24,6 +24,12 @@ first_rule_of-none rs = (none_fails_from 1 rs, from (first_rule_of rs) refl)
     from None e none = e
     from (Some g) e none = absurd (none g.number g.place (found_fails_from 1 rs g e).0)
 
+-- an answer that no fault gives is given where there is none
+pub no_fault_gives : {V : Type 0} (answer_of : Option RuleFault → V) (v : V) → ((f : RuleFault) → ¬ (answer_of (Some f) ≡ v)) →
+    (o : Option RuleFault) → answer_of o ≡ v → o ≡ None
+no_fault_gives answer_of v apart None is = refl
+no_fault_gives answer_of v apart (Some f) is = absurd (apart f is)
+
 pub search_finds_first_rule : SearchFindsFirstRule
 search_finds_first_rule = record {
   some = first_rule_of-some;

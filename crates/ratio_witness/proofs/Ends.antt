@@ -13,26 +13,22 @@ use Rattle.te_model.proofs.Lower.{potentials_bound}
 use Rattle.te_model.proofs.Sums.{sum_below-le, sum_below-term}
 use Rattle.ratio_witness.specs.Witness.{capacity_from, capacity_into, EndsBoundRoutings}
 
--- 1 where the test passes
-abbrev one_if : Bool → ℕ
-one_if b = if b then 1 else 0
-
-once : (b : Bool) (c : ℕ) → c * one_if b ≤ (if b then c else 0)
+once : (b : Bool) (c : ℕ) → c * (if b then 1 else 0) ≤ (if b then c else 0)
 once true c = omega arith
 once false c = omega arith
 
 -- of node i at node v: 1 everywhere but at s itself, where i is s
 abbrev out_of : ℕ → ℕ → ℕ → ℕ
-out_of s i v = if i == v then 0 else one_if (i == s)
+out_of s i v = if i == v then 0 else (if i == s then 1 else 0)
 
 -- 1 at t alone, where i is another node
 abbrev in_to : ℕ → ℕ → ℕ → ℕ
-in_to t i v = if i == v then 0 else one_if (v == t)
+in_to t i v = if i == v then 0 else (if v == t then 1 else 0)
 
 out_start : (s i : ℕ) → out_of s i i ≡ 0
 out_start s i = grind (arith, nat_tests)
 
-out_rises : (s i a b : ℕ) → out_of s i b ≤ out_of s i a + one_if (a == s)
+out_rises : (s i a b : ℕ) → out_of s i b ≤ out_of s i a + (if a == s then 1 else 0)
 out_rises s i a b = grind (arith, nat_tests)
 
 out_one : (s t : ℕ) → (s ≡ t → ⊥) → out_of s s t ≡ 1
@@ -41,7 +37,7 @@ out_one s t apart = grind (arith, nat_tests)
 in_start : (t i : ℕ) → in_to t i i ≡ 0
 in_start t i = grind (arith, nat_tests)
 
-in_rises : (t i a b : ℕ) → in_to t i b ≤ in_to t i a + one_if (b == t)
+in_rises : (t i a b : ℕ) → in_to t i b ≤ in_to t i a + (if b == t then 1 else 0)
 in_rises t i a b = grind (arith, nat_tests)
 
 in_one : (s t : ℕ) → (s ≡ t → ⊥) → in_to t s t ≡ 1
@@ -65,14 +61,14 @@ ends_bound net routes links pairs demand p below apart =
     let in_here : demand p ≤ demand p * in_to t s t = rw (in_one s t apart) (omega arith) in (
       fewer net routes demand (demand p) (sum_below n (λ q. demand q * out_of s (source_of routes q) (destination_of routes q))) (capacity_from net s)
           (omega (arith, out_term, out_here))
-          (potentials_bound net routes links pairs (λ h. one_if (tail_of net h == s)) (out_of s) (λ i i_in. out_start s i)
+          (potentials_bound net routes links pairs (λ h. if tail_of net h == s then 1 else 0) (out_of s) (λ i i_in. out_start s i)
           (λ i h i_in h_in. out_rises s i (tail_of net h) (head_of net h)) demand (capacity_from net s)
-          (sum_below-le m (λ h. capacity_of net h * one_if (tail_of net h == s)) (λ h. if tail_of net h == s then capacity_of net h else 0)
+          (sum_below-le m (λ h. capacity_of net h * (if tail_of net h == s then 1 else 0)) (λ h. if tail_of net h == s then capacity_of net h else 0)
           (λ h h_in. once (tail_of net h == s) (capacity_of net h)))),
       fewer net routes demand (demand p) (sum_below n (λ q. demand q * in_to t (source_of routes q) (destination_of routes q))) (capacity_into net t)
           (omega (arith, in_term, in_here))
-          (potentials_bound net routes links pairs (λ h. one_if (head_of net h == t)) (in_to t) (λ i i_in. in_start t i)
+          (potentials_bound net routes links pairs (λ h. if head_of net h == t then 1 else 0) (in_to t) (λ i i_in. in_start t i)
           (λ i h i_in h_in. in_rises t i (tail_of net h) (head_of net h)) demand (capacity_into net t)
-          (sum_below-le m (λ h. capacity_of net h * one_if (head_of net h == t)) (λ h. if head_of net h == t then capacity_of net h else 0)
+          (sum_below-le m (λ h. capacity_of net h * (if head_of net h == t then 1 else 0)) (λ h. if head_of net h == t then capacity_of net h else 0)
           (λ h h_in. once (head_of net h == t) (capacity_of net h)))),
     )

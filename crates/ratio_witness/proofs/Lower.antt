@@ -17,6 +17,7 @@ use Rattle.te_model.specs.Flow.{load, IsFlow, IsRouting}
 use Rattle.te_model.proofs.Shares.{weights_flow}
 use Rattle.te_model.proofs.Tests.{get_or_past}
 use Rattle.ratio_witness.specs.Witness.{rival_share, IsRivalOf, most_used_link, performance_ratio, WitnessesShow, LowerBoundsLimitRivals}
+use Rattle.ratio_witness.proofs.Ratios.{quotient_of_none}
 
 -- a rival is a routing of the matrix
 rival_routes : (net : Network) (routes : List PairRoutes) (demand : ℕ → ℕ) (rival : List (List PathShare)) →
@@ -108,9 +109,6 @@ show_lower net routes set demand rival bound member is at_most some r less claim
           ]
       | inr y_none ↦ no_quotient x y (omega arith) (omega (arith, is_quotient, at_most))
     ]
-
-quotient_of_none : (x y : ℕ) → y ≡ 0 → quotient_up x y ≡ 0
-quotient_of_none x y none = rw none (div-zero _)
 
 zero_or : (b : Bool) (v limit : ℕ) → v ≤ limit → (if b then 0 else v) ≤ limit
 zero_or true v limit fits = omega arith

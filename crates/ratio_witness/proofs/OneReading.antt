@@ -19,7 +19,8 @@ use Rattle.ratio_witness.specs.Rules.{witness_fault}
 use Rattle.ratio_witness.specs.Text.{are_shaped_paths, is_path_count, is_path_line, is_shaped_witness, pair_lines, pairs_due, paths_due, share_line, witness_due, witness_first, witness_lines, witness_text, IsWitnessOf, IsWitnessRuleFault}
 use Rattle.ratio_witness.proofs.Ending.{witness_can, witness_file}
 use Rattle.ratio_witness.proofs.OneWitness.{one_witness}
-use Rattle.ratio_witness.proofs.SpelledLines.{shaped_all}
+use Rattle.ratio_witness.proofs.SpelledLines.{shaped_all, two_numbers}
+use Rattle.ratio_witness.proofs.TakenLines.{one_number}
 use Rattle.cert_text.proofs.Shaped.{test_words}
 
 -- the bytes are the file of this witness of the head
@@ -123,17 +124,6 @@ spelled_paths (suc k) next (l ∷ ls) al due =
       are_lines = rest.are_lines;
       due = rest.due;
     }
-
-one_number : (ns : List ℕ) → length ns ≡ 1 → ns ≡ slice_index ns 0 ∷ []
-one_number [] e = absurd (omega (arith, e))
-one_number (a ∷ []) e = refl
-one_number (a ∷ b ∷ ns) e = absurd (omega (arith, e))
-
-two_numbers : (ns : List ℕ) → length ns ≡ 2 → ns ≡ slice_index ns 0 ∷ slice_index ns 1 ∷ []
-two_numbers [] e = absurd (omega (arith, e))
-two_numbers (a ∷ []) e = absurd (omega (arith, e))
-two_numbers (a ∷ b ∷ []) e = refl
-two_numbers (a ∷ b ∷ c ∷ ns) e = absurd (omega (arith, e))
 
 -- where a number of paths is due, and as many paths, there are these
 spelled_pair : (next : Due) (l : NumLine) (ls : List NumLine) → AreLines ls → l.word ≡ [] → is_path_count l.numbers ≡ true →

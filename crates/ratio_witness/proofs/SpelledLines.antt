@@ -150,7 +150,7 @@ end_fails n bound scale demand kept fault d0 d3 d4 d5 ls more b t step =
     demand_later n bound (length lines + j) scale demand ls more b.two b.each b.lines none ∙ ap Some (omega arith))
     (step t.0 t.2)
 
-two_numbers : (ns : List ℕ) → length ns ≡ 2 → ns ≡ slice_index ns 0 ∷ slice_index ns 1 ∷ []
+pub two_numbers : (ns : List ℕ) → length ns ≡ 2 → ns ≡ slice_index ns 0 ∷ slice_index ns 1 ∷ []
 two_numbers [] e = absurd (omega (arith, e))
 two_numbers (a ∷ []) e = absurd (omega (arith, e))
 two_numbers (a ∷ b ∷ []) e = refl

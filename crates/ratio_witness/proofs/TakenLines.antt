@@ -35,7 +35,7 @@ numbers_fail Begins word test numbers k before after last ls fails at t =
 
 -- ---- the number of paths of a pair
 
-one_number : (ns : List ℕ) → length ns ≡ 1 → ns ≡ slice_index ns 0 ∷ []
+pub one_number : (ns : List ℕ) → length ns ≡ 1 → ns ≡ slice_index ns 0 ∷ []
 one_number [] e = absurd (omega (arith, e))
 one_number (n ∷ []) e = refl
 one_number (n ∷ m ∷ ns) e = absurd (omega (arith, e))

@@ -13,6 +13,7 @@ use Rattle.te_model.specs.Validity.{IsValidHead, FailsFrom, fault_at, faults_fro
 use Rattle.te_model.proofs.RuleSearch.{found_fails_from}
 use Rattle.te_model.proofs.Searches.{first_below_none, or_else-none}
 use Rattle.te_model.proofs.Tests.{and_true, first_some_none_at, first_failing_none_at}
+use Rattle.number_tables.proofs.FirstRules.{no_fault_gives}
 use Rattle.ratio_witness.specs.declared.verdict.WitnessVerdict.TheVariants.{Yes, No}
 use Rattle.ratio_witness.specs.declared.witness.Witness.{Witness}
 use Rattle.ratio_witness.specs.Rules.{demand_of, KeepsRules}
@@ -34,9 +35,8 @@ first_fault_found a b f is = rw is refl
 pub second_fault : (a b : Option RuleFault) → a ≡ None → b ≡ or_else a (or_else b None)
 second_fault a b is = rw is (sym (or_else-none b))
 
-yes_none : (o : Option RuleFault) → verdict_of o ≡ Yes → o ≡ None
-yes_none None e = refl
-yes_none (Some f) e = cc
+no_fault_of_yes : (h : Head) (w : Witness) → verdict_of (verdict_fault h w) ≡ Yes → verdict_fault h w ≡ None
+no_fault_of_yes h w answer = no_fault_gives verdict_of Yes (λ f e. cc) (verdict_fault h w) answer
 
 no_some : (o : Option RuleFault) (rule place : ℕ) → verdict_of o ≡ No rule place → (f : RuleFault) × (o ≡ Some f) × (f.number ≡ rule) × (f.place ≡ place)
 no_some None rule place e = cc
@@ -64,7 +64,7 @@ no_faults h w each bound =
 pub yes_exactly : (h : Head) (w : Witness) →
     (verdict_of (verdict_fault h w) ≡ Yes) ↔ (((p : ℕ) → p < length h.routes → IsTrue (is_in_set h.set w p)) × IsTrue (shows_bound h w))
 yes_exactly h w = (
-  λ answer. let none = yes_none (verdict_fault h w) answer in (no_fault_in_set h w none, no_fault_bound h w none),
+  λ answer. let none = no_fault_of_yes h w answer in (no_fault_in_set h w none, no_fault_bound h w none),
   λ both. ap verdict_of (no_faults h w both.0 both.1),
 )
 
@@ -91,7 +91,7 @@ member (Box lower upper) w n some each = (w.x, w.y, some, λ p below. between (B
 pub yes_shows : (h : Head) (w : Witness) → IsValidHead h → KeepsRules h w → verdict_of (verdict_fault h w) ≡ Yes →
     NoLowerRatio h.network h.routes h.set w.bound
 yes_shows h w valid keeps answer =
-    let none = yes_none (verdict_fault h w) answer in
+    let none = no_fault_of_yes h w answer in
     let some = some_scale w (rules_kept h w keeps).scale in
     let judged = can_judge h w valid keeps in
     let bound : w.bound ≤ ratio_shown h w = leb-true w.bound (ratio_shown h w) (no_fault_bound h w none) in
@@ -100,4 +100,4 @@ yes_shows h w valid keeps answer =
 
 pub yes_is_member : (h : Head) (w : Witness) → KeepsRules h w → verdict_of (verdict_fault h w) ≡ Yes → IsMember h.set (length h.routes) (demand_of w)
 yes_is_member h w keeps answer =
-    member h.set w (length h.routes) (some_scale w (rules_kept h w keeps).scale) (no_fault_in_set h w (yes_none (verdict_fault h w) answer))
+    member h.set w (length h.routes) (some_scale w (rules_kept h w keeps).scale) (no_fault_in_set h w (no_fault_of_yes h w answer))

@@ -6,15 +6,19 @@ use Rattle.routing.specs.Merge.{no_path}
 use Rattle.routing.proofs.Loading.{path_fits, path_more}
 use Rattle.ratio_witness.proofs.loads.add_demand.Goals as goal
 
+-- what the path at a place adds, of a demand and a weight that were widened
+widened : (paths : List PathShare) (i demand wide_demand wide_weight : ℕ) (item : PathShare) → item ≡ get_or paths i no_path →
+    wide_demand ≡ demand → wide_weight ≡ item.weight → wide_demand * wide_weight ≡ demand * (get_or paths i no_path).weight
+widened paths i demand wide_demand wide_weight item read same weight =
+    ap (λ x. x * wide_weight) same ∙ ap (λ x. demand * x) (weight ∙ ap (λ (s : PathShare). s.weight) read)
+
 pub add_amount-requires-clause-room : goal.add_amount-requires-clause-room
 add_amount-requires-clause-room c = λ h.
     let paths = c.args.paths.now in
     let i = c.loop-path.path-index in
     let demand = c.args.demand in
-    let item = ap (λ (s : PathShare). s.weight) (get_or_read paths i c.path-item.result c.loop-path-test.true c.path-item.is no_path) in
-    let amount : c.from.result * c.from-in-loop-path.result ≡ demand * (get_or paths i no_path).weight =
-    ap (λ x. x * c.from-in-loop-path.result) c.from.ensures ∙ ap (λ x. demand * x) (c.from-in-loop-path.ensures ∙ item)
-    in
+    let read = get_or_read paths i c.path-item.result c.loop-path-test.true c.path-item.is no_path in
+    let amount = widened paths i demand c.from.result c.from-in-loop-path.result c.path-item.result read c.from.ensures c.from-in-loop-path.ensures in
     omega (
       arith,
       amount,
@@ -31,9 +35,7 @@ loop-path-preserved c = record {
       let i = c.loop-path.path-index in
       let demand = c.args.demand in
       let read = get_or_read paths i c.path-item.result c.loop-path-test.true c.path-item.is no_path in
-      let amount : c.from.result * c.from-in-loop-path.result ≡ demand * (get_or paths i no_path).weight =
-      ap (λ x. x * c.from-in-loop-path.result) c.from.ensures ∙ ap (λ x. demand * x) (c.from-in-loop-path.ensures ∙ ap (λ (s : PathShare). s.weight) read)
-      in
+      let amount = widened paths i demand c.from.result c.from-in-loop-path.result c.path-item.result read c.from.ensures c.from-in-loop-path.ensures in
       let links : c.as_slice-links.result.now ≡ (get_or paths i no_path).links = c.as_slice-links.ensures ∙ ap (λ (s : PathShare). s.links) read in
       let puts : amount_on c.as_slice-links.result.now (c.from.result * c.from-in-loop-path.result) e
       ≡ amount_on (get_or paths i no_path).links (demand * (get_or paths i no_path).weight) e =

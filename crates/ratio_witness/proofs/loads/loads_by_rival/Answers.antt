@@ -1,15 +1,14 @@
-use Rattle.std.proofs.Common.{◌≡◌, ◌∙◌, ◌*◌, ◌<◌, ◌≤◌, ℕ, List, All, length, arith, ap, sym, refl, subst}
+use Rattle.std.proofs.Common.{◌≡◌, ◌∙◌, ◌*◌, ℕ, List, All, length, arith, ap, sym, refl, subst}
 use Rattle.std.specs.Prelude.{sum_by}
 use Rattle.te_model.specs.declared.limits.TheConstants.{FORMAT_2}
 use Rattle.te_model.specs.declared.route.PathShare.{PathShare}
-use Rattle.te_model.specs.declared.route.PairRoutes.{PairRoutes}
 use Rattle.te_model.specs.Flow.{load}
 use Rattle.te_model.specs.Path.{weight_on}
 use Rattle.ratio_checker.specs.Checked.{IsSimplePath}
 use Rattle.ratio_witness.specs.Rules.{demand_of, rival_paths}
 use Rattle.ratio_witness.specs.Witness.{rival_share}
 use Rattle.ratio_witness.proofs.LinkLoads.{load_more, load_small, split_small}
-use Rattle.te_model.proofs.LentRoutes.{below_pairs}
+use Rattle.te_model.proofs.LentRoutes.{all_pairs, below_pairs}
 use Rattle.te_model.proofs.Lists.{zeros}
 use Rattle.ratio_witness.proofs.loads.loads_by_rival.Goals as goal
 
@@ -63,21 +62,17 @@ loop-p-preserved c = record {
       );
 }
 
--- all pairs are counted at the end
-ended : (routes list : List PairRoutes) (p : ℕ) → list ≡ routes → p ≤ length list → length list ≤ p → p ≡ length routes
-ended routes list p same up down = let e = ap length same in omega (arith, e, up, down)
-
 pub returns-clause-loads : goal.returns-clause-loads
 returns-clause-loads c = λ e.
     let w = c.args.witness.now in
-    let end' = ended c.args.head.now.routes c.as_slice-p-end.result.now c.loop-p.p c.as_slice-p-end.ensures (omega arith) (omega arith) in
+    let end' = all_pairs c.args.head.now.routes c.as_slice-p-end.result.now c.loop-p.p c.as_slice-p-end.ensures (omega arith) (omega arith) in
     c.loop-p.invariant.sums e ∙ ap (λ n. load n (demand_of w) (rival_share w.rival) e) end'
 
 pub returns-clause-small : goal.returns-clause-small
 returns-clause-small c = λ e.
     let n = length c.args.head.now.routes in
     let w = c.args.witness.now in
-    let end' = ended c.args.head.now.routes c.as_slice-p-end.result.now c.loop-p.p c.as_slice-p-end.ensures (omega arith) (omega arith) in
+    let end' = all_pairs c.args.head.now.routes c.as_slice-p-end.result.now c.loop-p.p c.as_slice-p-end.ensures (omega arith) (omega arith) in
     omega (
       arith,
       c.loop-p.invariant.sums e,

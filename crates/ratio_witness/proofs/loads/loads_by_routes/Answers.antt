@@ -1,4 +1,4 @@
-use Rattle.std.proofs.Common.{◌≡◌, ◌∙◌, ◌*◌, ◌<◌, ◌≤◌, ℕ, List, All, length, get_or, arith, ap, sym, refl, subst}
+use Rattle.std.proofs.Common.{◌≡◌, ◌∙◌, ◌*◌, ◌<◌, ℕ, List, All, length, get_or, arith, ap, sym, refl, subst}
 use Rattle.std.specs.Prelude.{sum_by}
 use Rattle.std.proofs.lemmas.List.{get_or_default}
 use Rattle.te_model.specs.declared.limits.TheConstants.{FORMAT_2}
@@ -9,7 +9,7 @@ use Rattle.te_model.specs.Path.{no_routes, routes_at, share, weight_on}
 use Rattle.ratio_checker.specs.Checked.{IsSimplePath}
 use Rattle.ratio_witness.specs.Rules.{demand_of}
 use Rattle.ratio_witness.proofs.LinkLoads.{load_more, load_small, split_small}
-use Rattle.te_model.proofs.LentRoutes.{below_pairs, lent_paths}
+use Rattle.te_model.proofs.LentRoutes.{all_pairs, below_pairs, lent_paths}
 use Rattle.te_model.proofs.Lists.{zeros}
 use Rattle.ratio_witness.proofs.loads.loads_by_routes.Goals as goal
 
@@ -69,21 +69,17 @@ loop-p-preserved c = record {
       );
 }
 
--- all pairs are counted at the end
-ended : (routes list : List PairRoutes) (p : ℕ) → list ≡ routes → p ≤ length list → length list ≤ p → p ≡ length routes
-ended routes list p same up down = let e = ap length same in omega (arith, e, up, down)
-
 pub returns-clause-loads : goal.returns-clause-loads
 returns-clause-loads c = λ e.
     let routes = c.args.head.now.routes in
-    let end' = ended routes c.as_slice-routes.result.now c.loop-p.p c.as_slice-routes.ensures (omega arith) (omega arith) in
+    let end' = all_pairs routes c.as_slice-routes.result.now c.loop-p.p c.as_slice-routes.ensures (omega arith) (omega arith) in
     c.loop-p.invariant.sums e ∙ ap (λ n. load n (demand_of c.args.witness.now) (share routes) e) end'
 
 pub returns-clause-small : goal.returns-clause-small
 returns-clause-small c = λ e.
     let routes = c.args.head.now.routes in
     let n = length routes in
-    let end' = ended routes c.as_slice-routes.result.now c.loop-p.p c.as_slice-routes.ensures (omega arith) (omega arith) in
+    let end' = all_pairs routes c.as_slice-routes.result.now c.loop-p.p c.as_slice-routes.ensures (omega arith) (omega arith) in
     omega (
       arith,
       c.loop-p.invariant.sums e,
