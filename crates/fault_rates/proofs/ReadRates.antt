@@ -5,6 +5,7 @@ use Rattle.std.proofs.lemmas.List.{append-nil, length-append}
 use Rattle.std.proofs.lemmas.List.Elements.{All-cons, All-nil}
 use Rattle.std.proofs.lemmas.Bool.Decides.{nat_tests}
 use Rattle.cert_text.specs.Fits.{AreWords}
+use Rattle.cert_text.specs.Reading.{narrow_number}
 use Rattle.te_model.specs.declared.certificate.RuleFault.{RuleFault}
 use Rattle.te_model.specs.declared.route.PairRoutes.{PairRoutes}
 use Rattle.te_model.specs.Faults.{LeavesAt}
@@ -19,7 +20,7 @@ use Rattle.number_tables.proofs.TakingDue.{after_line, fails_as, fails_behind, l
 use Rattle.fault_rates.specs.declared.fault.RateFault.TheVariants as faults
 use Rattle.fault_rates.specs.declared.plan.RatePlan.{RatePlan}
 use Rattle.fault_rates.specs.File.{FitPairs, pair_lines, pairs_due, rate_lines, rates_due}
-use Rattle.fault_rates.specs.PairLines.{BeginsWithPairs, LeavesAtPairs, kept_failures}
+use Rattle.fault_rates.specs.PairLines.{BeginsWithPairs, LeavesAtPairs}
 use Rattle.fault_rates.specs.Plan.{plan_fault}
 use Rattle.fault_rates.specs.Reading.{GivesRates, KeptHasSameFault, spelled, misshaped, SpellsKept, fault_of, read_unless, with_kept_failures}
 use Rattle.fault_rates.proofs.Files.{fit_shape, rates_end}
@@ -116,7 +117,7 @@ pair_words (r ∷ rs) (g ∷ gs) (a ∷ xs) fit lines =
     ((lines.0.numbers.0, rest.0), All-cons AreWords a xs lines.0.numbers.1 rest.1)
 
 pub rates_spelled : (routes : List PairRoutes) (bytes : List ℕ) (start now mid after : DueLines) (number : ℕ) (plan : RatePlan) (ls : List NumLine) → StandsAtRates bytes start ls →
-    (took : TookNumber start now number ls) → plan.failures ≡ kept_failures number →
+    (took : TookNumber start now number ls) → plan.failures ≡ narrow_number number →
     (pairs : TakesDue (BeginsWithPairs routes) (LeavesAtPairs routes) (Ok plan) now mid took.more) →
     TakesDue BeginsWithEnd LeavesAtEnd (Ok tt) mid after pairs.0 → SpellsKept routes bytes (Ok plan)
 rates_spelled routes bytes start now mid after number plan ls at took kept pairs ended =
@@ -141,14 +142,14 @@ rates_spelled routes bytes start now mid after number plan ls at took kept pairs
 
 -- ---- the rules of what is kept
 
-kept_is_few : (n : ℕ) → nat_le (kept_failures n) 8 ≡ nat_le n 8
+kept_is_few : (n : ℕ) → nat_le (narrow_number n) 8 ≡ nat_le n 8
 kept_is_few n = grind (arith, nat_tests)
 
 pub kept_has_same_fault : KeptHasSameFault
 kept_has_same_fault plan = rw (kept_is_few plan.failures) refl
 
 -- a number of failures that is kept and passes is the one that was spelled
-pub kept_whole : (n : ℕ) → kept_failures n ≤ 8 → kept_failures n ≡ n
+pub kept_whole : (n : ℕ) → narrow_number n ≤ 8 → narrow_number n ≡ n
 kept_whole n few = omega (arith, few)
 
 -- ---- the answer

@@ -1,15 +1,11 @@
 -- Reading the lines of a file of rates, one after the other.
-use Rattle.std.specs.Prelude.{◌≡◌, ℕ, ◌-◌, ◌^◌, List, [], ◌∷◌, ◌++◌, length, min, Some}
+use Rattle.std.specs.Prelude.{◌≡◌, ℕ, List, [], ◌∷◌, ◌++◌, length, Some}
 use Rattle.te_model.specs.declared.route.PairRoutes.{PairRoutes}
 use Rattle.number_tables.specs.declared.line.NumLine.{NumLine}
 use Rattle.number_tables.specs.Due.{first_undue, word_line}
 use Rattle.fault_rates.specs.declared.plan.RatePlan.{RatePlan}
 use Rattle.fault_rates.specs.declared.reader.PairRates.{PairRates}
 use Rattle.fault_rates.specs.File.{FitPairs, pair_lines, pairs_due}
-
--- the number of failures that is kept: past 32 bits the greatest, which no rates have
-abbrev pub kept_failures : ℕ → ℕ
-kept_failures n = min n (2 ^ 32 - 1)
 
 -- the line of a pair with so many paths
 abbrev pub BeginsWithPair : ℕ → PairRates → List NumLine → List NumLine → Type 0

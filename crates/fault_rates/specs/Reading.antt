@@ -2,6 +2,7 @@
 use Rattle.std.specs.Prelude.{◌≡◌, ◌⊎◌, ℕ, List, codes, Result, Ok, Err, Option, Some, None}
 use Rattle.te_model.specs.declared.certificate.RuleFault.{RuleFault}
 use Rattle.te_model.specs.declared.route.PairRoutes.{PairRoutes}
+use Rattle.cert_text.specs.Reading.{narrow_number}
 use Rattle.number_tables.specs.declared.fault.TableFault.{TableFault}
 use Rattle.number_tables.specs.declared.fault.TableFault.TheVariants as tables
 use Rattle.number_tables.specs.Due.{LeavesSmallFiles}
@@ -9,7 +10,6 @@ use Rattle.fault_rates.specs.declared.fault.RateFault.{RateFault}
 use Rattle.fault_rates.specs.declared.fault.RateFault.TheVariants as faults
 use Rattle.fault_rates.specs.declared.plan.RatePlan.{RatePlan}
 use Rattle.fault_rates.specs.File.{HasWords, rates_due, rates_text}
-use Rattle.fault_rates.specs.PairLines.{kept_failures}
 use Rattle.fault_rates.specs.Plan.{IsShapedPlan, plan_fault}
 
 -- the fault of a table as one of a file of rates
@@ -25,7 +25,7 @@ pub record SpellsRates (routes : List PairRoutes) (bytes : List ℕ) (plan : Rat
 
 -- the rates with the number of failures that is kept
 abbrev pub with_kept_failures : RatePlan → RatePlan
-with_kept_failures plan = record { failures = kept_failures plan.failures; grant = plan.grant; allocation = plan.allocation }
+with_kept_failures plan = record { failures = narrow_number plan.failures; grant = plan.grant; allocation = plan.allocation }
 
 -- keeping no more than 32 bits of the number of failures changes no rule's answer
 abbrev pub KeptHasSameFault : Type 0

@@ -1,9 +1,10 @@
 //! Reading the file of rates.
 ghost use Rattle.std.specs.Prelude.{◌≡◌, ◌+◌, ◌≤◌, List, [], ◌∷◌, ◌++◌, IfOk, OnOk, length};
+ghost use Rattle.cert_text.specs.Reading.{narrow_number};
 ghost use Rattle.number_tables.specs.declared.line.NumLine.{NumLine};
 ghost use Rattle.number_tables.specs.Due.{has_count};
 ghost use Rattle.number_tables.specs.TakingDue.{IsBefore, TakesDue, LeavesAtLine};
-ghost use Rattle.fault_rates.specs.PairLines.{BeginsWithPair, BeginsWithPairs, LeavesAtPairs, kept_failures};
+ghost use Rattle.fault_rates.specs.PairLines.{BeginsWithPair, BeginsWithPairs, LeavesAtPairs};
 ghost use Rattle.fault_rates.specs.Plan.{IsValidPlan};
 ghost use Rattle.fault_rates.specs.Reading.{GivesRates, SpellsKept};
 
@@ -24,7 +25,7 @@ struct PairRates {
 
 // The number of failures of a number: the greatest of 32 bits where it has more, which the rules refuse.
 fn kept_failures(number: u64) -> u32
-    ensures { result ≡ kept_failures number }
+    ensures { result ≡ narrow_number number }
 {
     u32::try_from(number).unwrap_or(u32::MAX)
 }

@@ -8,23 +8,12 @@ ghost use Rattle.fault_rates.specs.Tables.{AreSimplePaths, CanJudge, allocated_o
 
 use crate::parts::{allocations_of, link_count, links_of, paths_of};
 use crate::plan::RatePlan;
+use multiplicative_lengths::add_along;
 use std::alloc::Global;
 use te_model::{FORMAT_2, Memory, Network, PairRoutes, PathShare};
 
 /// How many links a network has at most.
 pub(crate) const MOST_LINKS: usize = FORMAT_2.links as usize;
-
-// Adds the amount on each link of the path.
-fn add_along(sums: &mut [u64], links: &[u32], amount: u64)
-    requires within { All (λ h. h < length sums.old) links.now }
-    requires once { IsTrue (is_distinct links.now) }
-    requires room { (h : ℕ) → slice_index sums.old h + amount < 2 ^ 64 }
-    ensures { (h : ℕ) → slice_index sums.new h ≡ slice_index sums.old h + amount_on links.now amount h }
-{
-    for h in links {
-        sums[*h as usize] += amount;
-    }
-}
 
 // How many of the paths hold the link, for each link.
 pub(crate) fn paths_on_links(paths: &[PathShare]) -> [u64; MOST_LINKS]

@@ -5,15 +5,15 @@ use Rattle.fault_rates.proofs.LinkSums.{few_amounts, simple_at}
 use Rattle.te_model.proofs.Sums.{sum_below-next}
 use Rattle.fault_rates.proofs.sums.add_allocations.Goals as goal
 
-pub add_along-requires-clause-within : goal.add_along-requires-clause-within
-add_along-requires-clause-within c =
+pub add_along-requires-clause-links : goal.add_along-requires-clause-links
+add_along-requires-clause-links c =
     let paths = c.args.paths.now in
     let simple = simple_at (length c.args.sums.now) paths c.loop-i.i c.requires.paths c.loop-i-test.true in
     subst (λ (l : List ℕ). All (λ h. h < length c.loop-i.sums) l) (sym c.links_of-links.ensures)
     (subst (λ (n : ℕ). All (λ h. h < n) (links_of paths c.loop-i.i)) (sym c.loop-i.auto.sums) simple.1)
 
-pub add_along-requires-clause-once : goal.add_along-requires-clause-once
-add_along-requires-clause-once c =
+pub add_along-requires-clause-distinct : goal.add_along-requires-clause-distinct
+add_along-requires-clause-distinct c =
     let simple = simple_at (length c.args.sums.now) c.args.paths.now c.loop-i.i c.requires.paths c.loop-i-test.true in
     subst (λ (l : List ℕ). is_distinct l ≡ true) (sym c.links_of-links.ensures) simple.0
 

@@ -10,8 +10,8 @@ use Rattle.fault_rates.proofs.sums.paths_on_links.Goals as goal
 pub loop-i-init : goal.loop-i-init
 loop-i-init c = record { count = refl; each = λ e. zeros FORMAT_2.links e }
 
-pub add_along-requires-clause-once : goal.add_along-requires-clause-once
-add_along-requires-clause-once c =
+pub add_along-requires-clause-distinct : goal.add_along-requires-clause-distinct
+add_along-requires-clause-distinct c =
     let simple = simple_at FORMAT_2.links c.args.paths.now c.loop-i.i c.requires.paths c.loop-i-test.true in
     subst (λ (l : List ℕ). is_distinct l ≡ true) (sym c.links_of-links.ensures) simple.0
 
