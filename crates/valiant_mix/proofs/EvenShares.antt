@@ -1,6 +1,6 @@
 -- The unit in even parts over paths.
 use Rattle.std.proofs.Common.{◌≡◌, ℕ, ◌<◌, ◌≤◌, List, [], ◌∷◌, ◌++◌, length, map, replicate, slice_index, sum, take, arith, refl, ap, sym, ◌∙◌}
-use Rattle.std.proofs.lemmas.List.{get_or-replicate, length-map, length-replicate, length-take, length_push, map_push, take_more}
+use Rattle.std.proofs.lemmas.List.{length-map, length-replicate, length-take, length_push, map_push, take_more}
 use Rattle.std.proofs.lemmas.List.Folds.{sum_by-replicate}
 use Rattle.te_model.specs.declared.route.Path.{Path}
 use Rattle.te_model.specs.declared.route.PathShare.{PathShare}
@@ -29,9 +29,6 @@ evenly_whole paths =
 
 pub length-even : (n : ℕ) → length (even_parts n) ≡ n
 length-even n = length-apportion SHARE_UNIT (replicate n 1) ∙ length-replicate n 1
-
-pub one_at : (n i : ℕ) → i < length (replicate {A = ℕ} n 1) → slice_index (replicate n 1) i ≡ 1
-one_at n i below = get_or-replicate n i 1 0 (omega (arith, below, length-replicate {A = ℕ} n 1))
 
 pub sum_of_ones : (n : ℕ) → sum (replicate n 1) ≡ n
 sum_of_ones n = let ones = sum_by-replicate (λ (x : ℕ). x) n 1 in omega (arith, ones)

@@ -2,3 +2,4 @@ pub mod LeastLegs
 pub mod DetoursMade
 pub mod Splits
 pub mod EvenShares
+pub mod Routes

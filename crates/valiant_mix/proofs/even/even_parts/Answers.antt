@@ -1,8 +1,8 @@
 use Rattle.std.proofs.Common.{◌≡◌, ◌∙◌, ◌<◌, ◌≤◌, ℕ, List, replicate, length, slice_index, sum, arith, ap, sym, subst}
-use Rattle.std.proofs.lemmas.List.{length-replicate}
+use Rattle.std.proofs.lemmas.List.{get_or-replicate, length-replicate}
 use Rattle.te_model.specs.declared.units.TheConstants.{SHARE_UNIT}
 use Rattle.te_model.specs.Apportion.{apportion}
-use Rattle.valiant_mix.proofs.EvenShares.{one_at, sum_of_ones}
+use Rattle.valiant_mix.proofs.EvenShares.{sum_of_ones}
 use Rattle.valiant_mix.proofs.even.even_parts.Goals as goal
 
 pub apportion-requires-clause-count : goal.apportion-requires-clause-count
@@ -13,7 +13,9 @@ apportion-requires-clause-count c =
 pub apportion-requires-clause-each : goal.apportion-requires-clause-each
 apportion-requires-clause-each c =
     let are : c.deref.result.now ≡ replicate c.args.count 1 = c.deref.ensures.value ∙ c.in_ok-ones.ensures.items_if_clones_equal (λ y same. same) in
-    subst (λ (ws : List ℕ). (i : ℕ) → i < length ws → slice_index ws i ≤ 4294967296) (sym are) (λ i below. omega (arith, one_at c.args.count i below))
+    let ones = length-replicate {A = ℕ} c.args.count 1 in
+    subst (λ (ws : List ℕ). (i : ℕ) → i < length ws → slice_index ws i ≤ 4294967296) (sym are)
+    (λ i below. omega (arith, get_or-replicate {A = ℕ} c.args.count i 1 0 (omega (arith, below, ones))))
 
 pub apportion-requires-clause-whole : goal.apportion-requires-clause-whole
 apportion-requires-clause-whole c =
