@@ -38,21 +38,13 @@ pub fn found_for(alloc: Global, certificate: Certificate) -> Result<Found, Memor
     ensures matrices { IfOk result (λ f. All (IsScaledMember certificate.head.set (length certificate.head.routes)) f.matrices.items) }
 {
     let Certificate { head, blocks } = certificate;
-    let Head {
-        format,
-        network,
-        routes,
-        set,
-        ratio,
-    } = head;
-    let routing = Routing { routes };
-    let matrices = worst_matrices(alloc, &network, &routing, &set, blocks.as_slice())?;
+    let routing = Routing {
+        routes: head.routes,
+    };
+    let matrices = worst_matrices(alloc, &head.network, &routing, &head.set, blocks.as_slice())?;
     let head = Head {
-        format,
-        network,
         routes: routing.routes,
-        set,
-        ratio,
+        ..head
     };
     Ok(Found { head, matrices })
 }
