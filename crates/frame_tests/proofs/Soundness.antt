@@ -4,7 +4,7 @@ use Rattle.std.proofs.lemmas.Bool.{cases_lt}
 use Rattle.command_frame.specs.Sound.{IsRegular, IsSound, HasText}
 use Rattle.command_frame.specs.Table.{IsSoundEntry, IsSoundTable}
 use Rattle.frame_tests.specs.SizeFile.{sizes, size_of, size_limits}
-use Rattle.frame_tests.specs.Sizes.{Command, tally, same, tally_of, sameness_of, entry_of, commands}
+use Rattle.frame_tests.specs.Sizes.{SizeCommand, tally, same, tally_of, sameness_of, entry_of, commands}
 
 sizes_regular : IsRegular sizes
 sizes_regular = record { limited = size_limits; once = λ bytes x y p q. sym p ∙ q; some = λ bytes. (size_of bytes, refl) }
@@ -69,7 +69,7 @@ same_sound a b = record {
   accepted = λ text is. let small = same_small a b 3 text is in omega (arith, small);
 }
 
-entry_sound : (command : Command) → IsSoundEntry (entry_of command)
+entry_sound : (command : SizeCommand) → IsSoundEntry (entry_of command)
 entry_sound (tally file) = record {
   regular = (sizes_regular, λ size. tt);
   sound = λ bytes size gives. tally_sound size;
@@ -83,7 +83,7 @@ entry_sound (same first second) = record {
   some_text = λ is bytes size gives rest other makes. same_some size other;
 }
 
-in_range : (command : Command) → (entry_of command).in_range
+in_range : (command : SizeCommand) → (entry_of command).in_range
 in_range (tally file) = tt
 in_range (same first second) = tt
 

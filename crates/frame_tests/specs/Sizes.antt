@@ -23,11 +23,11 @@ sameness_of first second = record {
   proves = λ text. first ≡ second;
 }
 
-pub data Command : Type 0 where
-  tally : List ℕ → Command
-  same : List ℕ → List ℕ → Command
+pub data SizeCommand : Type 0 where
+  tally : List ℕ → SizeCommand
+  same : List ℕ → List ℕ → SizeCommand
 
-abbrev pub command_of : List (List ℕ) → Option Command
+abbrev pub command_of : List (List ℕ) → Option SizeCommand
 command_of [] = None
 command_of (word ∷ []) = None
 command_of (word ∷ file ∷ []) = if bytes_eq word (codes "tally") then Some (tally file) else None
@@ -37,7 +37,7 @@ command_of (word ∷ first ∷ how ∷ join ∷ second ∷ []) =
     if bytes_eq word (codes "is") && (bytes_eq how (codes "exactly") && bytes_eq join (codes "as")) then Some (same first second) else None
 command_of (word ∷ first ∷ how ∷ join ∷ second ∷ more ∷ words) = None
 
-abbrev pub entry_of : Command → Entry
+abbrev pub entry_of : SizeCommand → Entry
 entry_of (tally file) = record {
   reading = reads ℕ sizes file (λ size. answers (tally_of size));
   may_answer = λ status text. status ≡ 0;
@@ -51,5 +51,5 @@ entry_of (same first second) = record {
   in_range = Unit {0};
 }
 
-abbrev pub commands : TableOf Command
+abbrev pub commands : TableOf SizeCommand
 commands = record { command_of = command_of; entry_of = entry_of }

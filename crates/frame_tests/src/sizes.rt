@@ -80,7 +80,7 @@ fn answer_same<D: Depot>(
 pub struct SizeCommands;
 
 impl Table for SizeCommands {
-    ghost use Rattle.frame_tests.specs.Sizes.{Command as SizeCommand, commands};
+    ghost use Rattle.frame_tests.specs.Sizes.{SizeCommand, commands};
 
     ghost Command = { SizeCommand };
 
@@ -92,10 +92,8 @@ impl Table for SizeCommands {
         words: &[String],
         depot: &mut D,
     ) -> Option<Result<Answer, Fault>> {
-        match command_of(words) {
-            Some(command) => Some(command.answer(alloc, depot)),
-            None => None,
-        }
+        let command = command_of(words)?;
+        Some(command.answer(alloc, depot))
     }
 }
 

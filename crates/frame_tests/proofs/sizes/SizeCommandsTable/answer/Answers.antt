@@ -1,9 +1,0 @@
-use Rattle.std.proofs.Common.{refl, sym}
-use Rattle.frame_tests.specs.Asked.{command_meant}
-use Rattle.frame_tests.proofs.sizes.SizeCommandsTable.answer.Goals as goal
-
-pub returns-in-Some : goal.returns-in-Some
-returns-in-Some g c = (command_meant c.in-Some.command, sym c.in-Some.ensures, c.answer.ensures)
-
-pub returns-in-None : goal.returns-in-None
-returns-in-None g c = (sym c.in-None.ensures, refl)
