@@ -1,3 +1,4 @@
 pub mod HeadPairs
 pub mod RatioRows
 pub mod Existence
+pub mod ReportLines

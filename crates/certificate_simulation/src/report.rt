@@ -20,24 +20,24 @@ use std::alloc::Global;
 use te_model::{Head, Memory, Network};
 use traffic_matrix::{Series, with_pairs};
 
-// The lines of the routing, one for each step of a series of its pairs, and the total.
+// The lines of the routing, one for each step of a series of all its pairs, and the total.
 fn lines_by(
     alloc: Global,
     network: &Network,
     routing: &Routing,
-    series: &Series,
+    whole: &Series,
     failures: &Failures,
     recovery: Recovery,
 ) -> Result<Vec<u8>, Memory>
     requires network { IsTrue (is_well_formed network.now) }
-    requires series { IsSeries (node_count network.now) series.now }
-    requires routing { IsRoutingOf network.now series.now.pairs.list routing.now.routes }
+    requires whole { IsSeries (node_count network.now) whole.now }
+    requires routing { IsRoutingOf network.now whole.now.pairs.list routing.now.routes }
     requires few { HasFewPaths 4096 routing.now.routes }
     ensures { IfOk result (λ text. (rows : List StepRow)
-        × AreKeptRows routing.now.routes network.now series.now failures.now recovery rows
+        × AreKeptRows routing.now.routes network.now whole.now failures.now recovery rows
         × (text.items ≡ scheme_lines (codes "certificate") rows)) }
 {
-    let steps = series.steps.as_slice().len();
+    let steps = whole.steps.as_slice().len();
     let marks = failures.series(alloc, network, steps)?;
     let word = "certificate";
     let mut text = Vec::new(alloc);
@@ -48,7 +48,7 @@ fn lines_by(
             alloc,
             network,
             routing,
-            series,
+            whole,
             failed,
             recovery,
             step as u32,

@@ -35,8 +35,8 @@ with_pairs-requires-clause-ascending c =
     in
     subst AscendPairs (sym same) c.requires.pairs.ascending
 
-pub lines_by-requires-clause-series : goal.lines_by-requires-clause-series
-lines_by-requires-clause-series c =
+pub lines_by-requires-clause-whole : goal.lines_by-requires-clause-whole
+lines_by-requires-clause-whole c =
     let whole : c.in_ok-whole.whole ≡ routed_series c.args.routing.now.routes c.args.series.now =
     c.in_ok-whole.ensures.series ∙ ap (λ (ps : List Pair). with_pairs ps c.args.series.now)
     (c.as_slice-declared.ensures.value ∙ (c.in_ok-pairs.ensures ∙ ap pairs_of c.as_slice-routes.ensures))
