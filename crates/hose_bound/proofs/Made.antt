@@ -16,11 +16,12 @@ use Rattle.te_model.specs.Validity.{rule_fault, fault_at, follows}
 use Rattle.te_model.proofs.Searches.{first_below_none}
 use Rattle.ratio_checker.specs.Ascending.{AscendsFrom}
 use Rattle.ratio_checker.proofs.Ascending.{ascends_next, find_own, find_stands}
+use Rattle.best_blocks.specs.Sharing.{HasShare}
 use Rattle.hose_bound.specs.declared.hose.Hose.{Hose}
 use Rattle.hose_bound.specs.declared.hose.HoseBlock.{HoseBlock}
 use Rattle.hose_bound.specs.declared.hose.HoseCert.{HoseCert}
 use Rattle.hose_bound.specs.Files.{is_shaped_hose, is_shaped_hose_block}
-use Rattle.hose_bound.specs.Making.{CoversTightly, IsUsed, IsMadeFor}
+use Rattle.hose_bound.specs.Making.{CoversTightly, IsMadeFor}
 use Rattle.hose_bound.specs.Covering.{IsMadeBlock, IsLeastBound, AreMadeBlocks}
 use Rattle.hose_bound.specs.Rules.{zero_hose_block, hose_block_at, is_small_amount, has_bound, link_before_block, has_link_in_order, are_millionths, has_millionths, hose_fault, hose_cert_fault, IsValidHose}
 use Rattle.hose_bound.specs.Verdict.{hose_block_of, pays_numbers, HoldsOnLinks}
@@ -71,7 +72,7 @@ module _ (net : Network) (routes : List PairRoutes) (h : Hose) where
   }
 
   pub one_block_more : (n : ℕ) (blocks : List HoseBlock) (b : HoseBlock) → AreMadeBlocks net routes h n blocks → b.link ≡ n → IsMadeBlock net routes h b →
-      IsUsed routes n → AreMadeBlocks net routes h (n + 1) (blocks ++ b ∷ [])
+      HasShare routes n → AreMadeBlocks net routes h (n + 1) (blocks ++ b ∷ [])
   one_block_more n blocks b are link made used =
       let count = are.count in
       record {
@@ -88,11 +89,11 @@ module _ (net : Network) (routes : List PairRoutes) (h : Hose) where
           )
           | inr ge ↦
               let is : n ≡ e = omega (arith, ge, below) in
-              (λ any. subst (IsUsed routes) is used, λ u. Any-push (λ c. c.link ≡ e) blocks b (link ∙ is))
+              (λ any. subst (HasShare routes) is used, λ u. Any-push (λ c. c.link ≡ e) blocks b (link ∙ is))
         ];
       }
 
-  pub no_block_more : (n : ℕ) (blocks : List HoseBlock) → AreMadeBlocks net routes h n blocks → (IsUsed routes n → ⊥) → AreMadeBlocks net routes h (n + 1) blocks
+  pub no_block_more : (n : ℕ) (blocks : List HoseBlock) → AreMadeBlocks net routes h n blocks → (HasShare routes n → ⊥) → AreMadeBlocks net routes h (n + 1) blocks
   no_block_more n blocks are unused =
       let count = are.count in
       record {
@@ -107,7 +108,7 @@ module _ (net : Network) (routes : List PairRoutes) (h : Hose) where
                 λ any. let (k, c, k_in, at, same) = any in
                     absurd (let lower = All-get_or (λ c. c.link < n) blocks k c k_in are.below in
                     let link : (get_or blocks k c).link ≡ e = ap (λ (x : HoseBlock). x.link) at ∙ same in omega (arith, lower, link, is)),
-                λ u. absurd (unused (subst (IsUsed routes) (sym is) u)),
+                λ u. absurd (unused (subst (HasShare routes) (sym is) u)),
               )
         ];
       }

@@ -12,11 +12,12 @@ use Rattle.te_model.specs.Path.{share}
 use Rattle.te_model.specs.Shape.{is_row_of, is_word, are_words}
 use Rattle.routing.specs.declared.shares.PairShare.{PairShare}
 use Rattle.routing.specs.Shares.{AreSharesOn}
+use Rattle.best_blocks.specs.Sharing.{HasShare}
 use Rattle.hose_bound.specs.declared.hose.Hose.{Hose}
 use Rattle.hose_bound.specs.declared.hose.HoseBlock.{HoseBlock}
 use Rattle.hose_bound.specs.Cover.{IsTightCover}
 use Rattle.hose_bound.specs.Covering.{IsMadeBlock}
-use Rattle.hose_bound.specs.Making.{IsUsed, shares_to_cover}
+use Rattle.hose_bound.specs.Making.{shares_to_cover}
 use Rattle.routing.proofs.Sharing.{no_share}
 
 small_are_words : (numbers : List ℕ) → ((i : ℕ) → slice_index numbers i ≤ SHARE_UNIT) → are_words numbers ≡ true
@@ -49,13 +50,13 @@ module _ (net : Network) (routes : List PairRoutes) (h : Hose) (e : ℕ) (inside
       )
 
 -- a link is used exactly where some pair is listed
-pub used_where_listed : (routes : List PairRoutes) (e : ℕ) (list : List PairShare) → AreSharesOn routes e list → 0 < length list → IsUsed routes e
+pub used_where_listed : (routes : List PairRoutes) (e : ℕ) (list : List PairShare) → AreSharesOn routes e list → 0 < length list → HasShare routes e
 used_where_listed routes e list on some =
     let first = get_or list 0 no_share in
     let told = All-get_or (λ s. (s.pair < length routes) × (0 < s.share) × (s.share ≡ share routes s.pair e)) list 0 no_share some on.shares in
     (first.pair, told.0, subst (λ n. 0 < n) told.2 told.1)
 
-pub unused_where_none : (routes : List PairRoutes) (e : ℕ) (list : List PairShare) → AreSharesOn routes e list → length list ≡ 0 → IsUsed routes e → ⊥
+pub unused_where_none : (routes : List PairRoutes) (e : ℕ) (list : List PairShare) → AreSharesOn routes e list → length list ≡ 0 → HasShare routes e → ⊥
 unused_where_none routes e list on none used =
     let listed = on.complete used.0 used.1 used.2 in
     let within = listed.2 in

@@ -10,12 +10,13 @@ use Rattle.routing.specs.declared.shares.PairShare.{PairShare}
 use Rattle.ratio_checker.specs.Ascending.{AscendsFrom}
 use Rattle.cover_search.specs.declared.transport.EndShare.{EndShare}
 use Rattle.cover_search.specs.Transport.{end_share}
+use Rattle.best_blocks.specs.Sharing.{HasShare}
 use Rattle.hose_bound.specs.declared.covers.End.{End}
 use Rattle.hose_bound.specs.declared.covers.End.TheVariants.{Source, Destination}
 use Rattle.hose_bound.specs.declared.hose.Hose.{Hose}
 use Rattle.hose_bound.specs.declared.hose.HoseBlock.{HoseBlock}
 use Rattle.hose_bound.specs.Files.{is_shaped_hose_block}
-use Rattle.hose_bound.specs.Making.{CoversTightly, IsUsed}
+use Rattle.hose_bound.specs.Making.{CoversTightly}
 use Rattle.hose_bound.specs.Verdict.{pays_numbers}
 
 -- the other end
@@ -79,4 +80,4 @@ pub record AreMadeBlocks (net : Network) (routes : List PairRoutes) (h : Hose) (
   pub ascending : AscendsFrom (λ b. b.link) 0 blocks
   pub below : All (λ b. b.link < n) blocks
   pub made : All (IsMadeBlock net routes h) blocks
-  pub used : (e : ℕ) → e < n → Any (λ b. b.link ≡ e) blocks ↔ IsUsed routes e
+  pub used : (e : ℕ) → e < n → Any (λ b. b.link ≡ e) blocks ↔ HasShare routes e

@@ -7,6 +7,7 @@ use Rattle.te_model.specs.Laws.{PairsJoinNodes}
 use Rattle.te_model.specs.Network.{is_well_formed, node_count, link_count}
 use Rattle.te_model.specs.Path.{share, source_of, destination_of}
 use Rattle.te_model.specs.PathRouting.{IsPathRouting}
+use Rattle.best_blocks.specs.Sharing.{HasShare}
 use Rattle.hose_bound.specs.declared.hose.Hose.{Hose}
 use Rattle.hose_bound.specs.declared.hose.HoseBlock.{HoseBlock}
 use Rattle.hose_bound.specs.declared.hose.HoseCert.{HoseCert}
@@ -26,10 +27,6 @@ shares_to_cover net routes h e = record {
   destination = destination_of routes;
   share = λ p. share routes p e;
 }
-
--- some pair has a share on link e
-abbrev pub IsUsed : List PairRoutes → ℕ → Type 0
-IsUsed routes e = (p : ℕ) × (p < length routes) × (0 < share routes p e)
 
 -- the numbers of the block cover the shares on its link, and none of them can be lowered
 abbrev pub CoversTightly : Network → List PairRoutes → Hose → HoseBlock → Type 0
@@ -51,7 +48,7 @@ pub record IsMadeFor (net : Network) (routes : List PairRoutes) (h : Hose) (c : 
   pub hose : c.hose ≡ h
   pub valid : IsValidHoseCert net c
   pub holds : HoldsOnLinks net routes c
-  pub blocks : (e : ℕ) → e < link_count net → Any (λ b. b.link ≡ e) c.blocks ↔ IsUsed routes e
+  pub blocks : (e : ℕ) → e < link_count net → Any (λ b. b.link ≡ e) c.blocks ↔ HasShare routes e
   pub tight : All (CoversTightly net routes h) c.blocks
   pub least : (bound : ℕ) → All (λ b. IsTrue (pays_numbers net h bound b.link b)) c.blocks → c.bound ≤ bound
 

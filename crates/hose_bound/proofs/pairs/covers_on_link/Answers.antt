@@ -1,7 +1,9 @@
-use Rattle.std.proofs.Common.{◌≡◌, ◌+◌, ◌∙◌, sym, ap, Some, None, ◌==◌, get_or, nat_le}
+use Rattle.std.proofs.Common.{◌≡◌, ℕ, ◌+◌, ◌∙◌, sym, ap, Some, None, ◌==◌, get_or, nat_le}
 use Rattle.std.specs.Prelude.{slice_index}
 use Rattle.std.proofs.lemmas.List.{get_or_default}
+use Rattle.std.proofs.lemmas.Option.{none-some}
 use Rattle.te_model.specs.Path.{no_routes, routes_at, source_of, destination_of}
+use Rattle.hose_bound.specs.declared.hose.HoseBlock.{HoseBlock}
 use Rattle.hose_bound.specs.Verdict.{covers_pair}
 use Rattle.hose_bound.proofs.Absent.{first_block, no_block, zeros_cover}
 use Rattle.hose_bound.proofs.pairs.covers_on_link.Goals.{in_default-via-in-Some+else-block-link, in_default-via-in_default}
@@ -18,15 +20,14 @@ returns-in-Some c =
     ∙ ap (λ s. nat_le s (slice_index block.tails (source_of routes p) + slice_index block.heads (destination_of routes p))) c.requires.share
     ∙ ap (λ b. covers_pair routes c.args.link b p) (sym (first_block c.args.blocks.now c.args.link block c.in-Some.ensures.value c.if-block-link.true))
 
+-- a first block of another link
+of_another_link : (x y : HoseBlock) (link : ℕ) → Some y ≡ Some x → ¬ (y.link ≡ link) → ¬ (x.link ≡ link)
+of_another_link x y link same other e = let first : x ≡ y = cc in other (sym (ap (λ b. b.link) first) ∙ e)
+
 pub returns-in_default : goal.returns-in_default
 returns-in_default c =
     let absent = no_block c.args.blocks.now c.args.link c.requires.ascend (λ x first. elim c.in_default.branch [
-      | in_default-via-in-Some+else-block-link w ↦
-          let is : Some w.in-Some.block.now ≡ Some x = w.in-Some.ensures.value ∙ first in
-          let same : x ≡ w.in-Some.block.now = cc in
-          λ e. w.if-block-link.false (sym (ap (λ b. b.link) same) ∙ e)
-      | in_default-via-in_default w ↦
-          let is : None ≡ Some x = w.in_default.ensures.value ∙ first in
-          cc
+      | in_default-via-in-Some+else-block-link w ↦ of_another_link x w.in-Some.block.now c.args.link (w.in-Some.ensures.value ∙ first) w.if-block-link.false
+      | in_default-via-in_default w ↦ absurd (none-some x (w.in_default.ensures.value ∙ first))
     ]) in
     ap (λ n. n == 0) c.requires.share ∙ zeros_cover c.args.routes.now c.args.blocks.now c.args.link c.args.p absent
