@@ -57,9 +57,9 @@ pub taken_keeps : (P : List PairRoutes → Type 0) (first second taken : List Pa
 taken_keeps P first second taken either of_first of_second = elim either [ inl is ↦ subst P (sym is) of_first | inr is ↦ subst P (sym is) of_second ]
 
 -- the lengths that sweeps have kept
-pub offered_lengths : (net : Network) (state : DualState) → IsDualState net state → AreLengths net state.lengths.items
+pub offered_lengths : (net : Network) (state : DualState) → IsDualState net state → AreLengths net state.best_lengths.items
 offered_lengths net state are = record {
-  count = are.lengths_count;
-  some = weights_positive state.lengths.items are.lengths;
-  limit = weights_small state.lengths.items are.lengths;
+  count = are.best_count;
+  some = weights_positive state.best_lengths.items are.best_lengths;
+  limit = weights_small state.best_lengths.items are.best_lengths;
 }

@@ -15,10 +15,6 @@ impl Adaptive for Mcf {
 
     ghost adapts = { λ _ _ given _ routes low. AreGivenRates given routes low };
 
-    fn path_set<'a>(&self, _plan: &'a McfPlan) -> Option<&'a Routing> {
-        None
-    }
-
     fn adapt_rates(
         &self,
         alloc: Global,
@@ -26,8 +22,11 @@ impl Adaptive for Mcf {
         given: &Routing,
         _matrix: &Matrix,
     ) -> Result<(Routing, Option<u128>), Memory> {
-        let (routing, low) = given_rates(alloc, given)?;
-        Ok((routing, low))
+        given_rates(alloc, given)
+    }
+
+    fn path_set<'a>(&self, _plan: &'a McfPlan) -> Option<&'a Routing> {
+        None
     }
 
     ghost path_set_routing = { λ s net pairs plan routes is set. absurd (none-some routes set) };

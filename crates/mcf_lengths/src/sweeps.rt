@@ -59,7 +59,7 @@ impl<'a> Commodities<'a> {
         let mut searches = Searches::with_orders(alloc, self.net, Direction::Backward)?;
         let mut sweeps = Vec::with_capacity(alloc, COUNTED)?;
         for i in 0..UNCOUNTED + COUNTED {
-            let lengths = &state.weights;
+            let lengths = &state.lengths;
             let paths = least_paths_with(
                 alloc,
                 self.net,
@@ -96,7 +96,7 @@ impl<'a> Commodities<'a> {
                 self.pairs,
                 self.matrix,
                 searches,
-                &state.weights,
+                &state.lengths,
                 &mut state.loads,
             )?;
             end_sweep(alloc, self.net, state, step_divisor)?;
@@ -255,7 +255,7 @@ impl<'a> Commodities<'a> {
     {
         let mixed = self.mix_of_sweeps(alloc, &start, state)?;
         let descent = self.end_of_descent(alloc, mixed, state)?;
-        state.weights = next_lengths(alloc, self.net, self.matrix, &descent)?;
+        state.lengths = next_lengths(alloc, self.net, self.matrix, &descent)?;
         self.sweep_stages(alloc, state, BOUND_STAGES, FIRST_BOUND_DIVISOR)?;
         let best = lesser(alloc, self.net, self.matrix, start, descent.best)?;
         Ok(best)
@@ -276,10 +276,10 @@ impl<'a> Commodities<'a> {
         let mut state = first_dual_state(alloc, self.net)?;
         // Where no link is used there is nothing to better.
         if most == 0 {
-            return Ok((start, Items::new(state.lengths)));
+            return Ok((start, Items::new(state.best_lengths)));
         }
         let routing = self.best_routing(alloc, start, &mut state)?;
-        Ok((routing, Items::new(state.lengths)))
+        Ok((routing, Items::new(state.best_lengths)))
     }
 }
 

@@ -13,12 +13,12 @@ use Rattle.rate_sweeps.specs.Shifts.{AreShifts, UsesOnlyWays}
 pub record IsPace (pace : Pace) : Type 0 where
   pub some : 1 ≤ pace.step_divisor
   pub step_divisor : pace.step_divisor ≤ 4096
-  pub times : pace.times ≤ 9
+  pub squarings : pace.squarings ≤ 9
   pub idle : pace.idle ≤ 5
 
 -- the pace at the start of a descent, where a turn takes a 128th of a weight and usages are squared six times
 abbrev pub first_pace : ℕ → Pace
-first_pace most = record { step_divisor = 128; times = 6; idle = 0; least = most }
+first_pace most = record { step_divisor = 128; squarings = 6; idle = 0; least = most }
 
 -- The pace after a turn to this greatest utilisation. A gain, which is a fall by more than one of 2000 parts, is kept. A turn without one is
 -- idle, and after five idle ones shares become half as great, and usages are squared once more, up to nine times.
@@ -26,7 +26,7 @@ pub record IsNextPace (old : Pace) (most : ℕ) (new : Pace) : Type 0 where
   pub gain : most < old.least - old.least / 2000 → new ≡ record old { least = most; idle = 0 }
   pub idle : old.least - old.least / 2000 ≤ most → old.idle < 5 → new ≡ record old { idle = old.idle + 1 }
   pub smaller : old.least - old.least / 2000 ≤ most → 5 ≤ old.idle →
-      new ≡ record old { step_divisor = 2 * min old.step_divisor 2048; times = min (old.times + 1) 9; idle = 0 }
+      new ≡ record old { step_divisor = 2 * min old.step_divisor 2048; squarings = min (old.squarings + 1) 9; idle = 0 }
 
 -- two routings of the pairs of the start, the better of which is no worse than the start
 pub record IsDescent (net : Network) (demand : List ℕ) (start : List PairRoutes) (d : Descent) : Type 0 where

@@ -29,7 +29,7 @@ repeated_square (suc n) part = repeated_square n part * repeated_square n part /
 
 -- the price of link h: its squared part, at least 1, by 2^32 over its capacity
 abbrev pub price_of : Network → List ℕ → ℕ → ℕ → ℕ
-price_of net usage times h = max 1 (repeated_square times (part_of (greatest_number usage) (slice_index usage h))) * 2 ^ 32 / capacity_of net h
+price_of net usage squarings h = max 1 (repeated_square squarings (part_of (greatest_number usage) (slice_index usage h))) * 2 ^ 32 / capacity_of net h
 
 -- the length at a price: 2^27 at the greatest price, less in proportion at others, and at least 1
 abbrev pub length_at_price : ℕ → ℕ → ℕ
@@ -40,8 +40,8 @@ lengths_at_prices prices = map (length_at_price (greatest_number prices)) prices
 
 -- the lengths by the usages of the links under the loads, squared so many times
 abbrev pub lengths_under : Network → List ℕ → ℕ → List ℕ
-lengths_under net loads times = lengths_at_prices (for_each_link net (price_of net (loads_by_capacity net loads) times))
+lengths_under net loads squarings = lengths_at_prices (for_each_link net (price_of net (loads_by_capacity net loads) squarings))
 
 -- the lengths under the loads of a routing
 abbrev pub AreLengthsOfRouting : Network → List ℕ → List PairRoutes → ℕ → List ℕ → Type 0
-AreLengthsOfRouting net demand routes times lengths = (loads : List ℕ) × AreLoads net demand routes loads × (lengths ≡ lengths_under net loads times)
+AreLengthsOfRouting net demand routes squarings lengths = (loads : List ℕ) × AreLoads net demand routes loads × (lengths ≡ lengths_under net loads squarings)

@@ -52,14 +52,14 @@ HaveLinks m paths = All (λ s. All (λ h. h < m) s.links) paths
 
 -- lengths that a step may move, loads of each link, and lengths that may be offered
 pub record IsDualState (net : Network) (r : DualState) : Type 0 where
-  pub count : length r.weights.items ≡ link_count net
-  pub weights : AreWeightsUpTo (2 ^ 27) r.weights.items
-  pub loads : AreLoadsWithin net r.loads.items
-  pub lengths_count : length r.lengths.items ≡ link_count net
+  pub count : length r.lengths.items ≡ link_count net
   pub lengths : AreWeightsUpTo (2 ^ 27) r.lengths.items
+  pub loads : AreLoadsWithin net r.loads.items
+  pub best_count : length r.best_lengths.items ≡ link_count net
+  pub best_lengths : AreWeightsUpTo (2 ^ 27) r.best_lengths.items
 
 -- what bounds better is kept: the bound and the lengths of before, or a greater bound and the offered lengths
 abbrev pub KeepsBetter : List ℕ → DualState → DualState → Type 0
 KeepsBetter offered old new =
-    ((new.low ≡ old.low) × (new.lengths.items ≡ old.lengths.items))
-    ⊎ ((old.low < new.low) × (new.lengths.items ≡ offered))
+    ((new.best_bound ≡ old.best_bound) × (new.best_lengths.items ≡ old.best_lengths.items))
+    ⊎ ((old.best_bound < new.best_bound) × (new.best_lengths.items ≡ offered))

@@ -68,10 +68,10 @@ pub fn next_lengths(
     requires demands { AreDemands (length descent.now.routing.routes) matrix.now.demand }
     ensures count { IfOk result (λ l. length l.items ≡ link_count net.now) }
     ensures lengths { IfOk result (λ l. AreWeightsUpTo (2 ^ 27) l.items) }
-    ensures exact { IfOk result (λ l. AreLengthsOfRouting net.now matrix.now.demand descent.now.routing.routes descent.now.pace.times l.items) }
+    ensures exact { IfOk result (λ l. AreLengthsOfRouting net.now matrix.now.demand descent.now.routing.routes descent.now.pace.squarings l.items) }
 {
     let loads = descent.routing.loads(alloc, net, matrix)?;
-    lengths_under(alloc, net, &loads, descent.pace.times)
+    lengths_under(alloc, net, &loads, descent.pace.squarings)
 }
 
 /// The descent after a turn to the offered paths, one for each pair. Where shares become smaller, it goes on from the best routing.

@@ -19,13 +19,13 @@ const MAX_WEIGHT: u128 = 30_000;
 #[derive(Drop)]
 pub struct DualState {
     /// The length of each link in the next sweep.
-    pub weights: Vec<u64>,
+    pub lengths: Vec<u64>,
     /// The load of each link in the last sweep.
     pub loads: Vec<u128>,
     /// The greatest bound of a sweep from below, in millionths.
-    pub low: u128,
+    pub best_bound: u128,
     /// The lengths of that sweep.
-    pub lengths: Vec<u64>,
+    pub best_lengths: Vec<u64>,
 }
 
 /// Before the first sweep, when the lengths are all the same.
@@ -34,10 +34,10 @@ pub fn first_dual_state(alloc: Global, net: &Network) -> Result<DualState, Memor
 {
     let links = net.links.as_slice().len();
     Ok(DualState {
-        weights: vec![in alloc; FIRST_WEIGHT; links]?,
-        loads: vec![in alloc; 0; links]?,
-        low: 0,
         lengths: vec![in alloc; FIRST_WEIGHT; links]?,
+        loads: vec![in alloc; 0; links]?,
+        best_bound: 0,
+        best_lengths: vec![in alloc; FIRST_WEIGHT; links]?,
     })
 }
 
@@ -54,7 +54,7 @@ pub fn add_on(loads: &mut [u128], links: &[u32], amount: u128)
 }
 
 /// Writes the loads of the sweep in which the pairs take these paths.
-fn load_on(net: &Network, matrix: &Matrix, paths: &[Path], loads: &mut [u128])
+fn write_loads(net: &Network, matrix: &Matrix, paths: &[Path], loads: &mut [u128])
     requires demands { AreDemands (length paths.now) matrix.now.demand }
     requires paths { AreOnLinks net.now (map links_in paths.now) }
     requires count { length loads.old ≡ link_count net.now }
@@ -99,7 +99,7 @@ fn centre_under(
     ensures within { AreLoadsWithin net.now loads.new }
     ensures loads { loads.new ≡ sweep_loads net.now matrix.now.demand (map links_in paths.now) }
 {
-    load_on(net, matrix, paths, loads);
+    write_loads(net, matrix, paths, loads);
     centre_of(net, lengths, loads)
 }
 
@@ -123,13 +123,13 @@ pub fn offer(
     ensures state { IsDualState net.now state.new }
     ensures better { KeepsBetter lengths.now state.old state.new }
     ensures loads { state.new.loads.items ≡ sweep_loads net.now matrix.now.demand (map links_in paths.now) }
-    ensures bound { OnOk result (state.new.low ≡ max state.old.low (centre_by net.now lengths.now state.new.loads.items).mean) }
-    ensures weights { state.new.weights ≡ state.old.weights }
+    ensures bound { OnOk result (state.new.best_bound ≡ max state.old.best_bound (centre_by net.now lengths.now state.new.loads.items).mean) }
+    ensures lengths { state.new.lengths ≡ state.old.lengths }
 {
     let centre = centre_under(net, matrix, paths, lengths, &mut state.loads);
-    if centre.mean > state.low {
-        state.lengths = Vec::from_slice(alloc, lengths)?;
-        state.low = centre.mean;
+    if centre.mean > state.best_bound {
+        state.best_lengths = Vec::from_slice(alloc, lengths)?;
+        state.best_bound = centre.mean;
     }
     Ok(())
 }
@@ -149,17 +149,17 @@ pub fn end_sweep(
     requires step_divisor { (1 ≤ step_divisor) × (step_divisor ≤ 128) }
     ensures weight { IfOk result IsWeight }
     ensures state { IsDualState net.now state.new }
-    ensures better { KeepsBetter state.old.weights.items state.old state.new }
+    ensures better { KeepsBetter state.old.lengths.items state.old state.new }
     ensures loads { state.new.loads.items ≡ state.old.loads.items }
-    ensures bound { OnOk result (state.new.low ≡ max state.old.low (centre_by net.now state.old.weights.items state.new.loads.items).mean) }
-    ensures counted { IfOk result (λ w. w ≡ weight_by (centre_by net.now state.old.weights.items state.new.loads.items)) }
+    ensures bound { OnOk result (state.new.best_bound ≡ max state.old.best_bound (centre_by net.now state.old.lengths.items state.new.loads.items).mean) }
+    ensures counted { IfOk result (λ w. w ≡ weight_by (centre_by net.now state.old.lengths.items state.new.loads.items)) }
 {
-    let centre = centre_of(net, &state.weights, &state.loads);
-    if centre.mean > state.low {
-        state.lengths = Vec::from_slice(alloc, &state.weights)?;
-        state.low = centre.mean;
+    let centre = centre_of(net, &state.lengths, &state.loads);
+    if centre.mean > state.best_bound {
+        state.best_lengths = Vec::from_slice(alloc, &state.lengths)?;
+        state.best_bound = centre.mean;
     }
-    step_weights(net, &mut state.weights, &state.loads, step_divisor);
+    step_weights(net, &mut state.lengths, &state.loads, step_divisor);
     Ok(weight_of(centre))
 }
 
@@ -182,11 +182,11 @@ pub fn take_sweep(
     requires step_divisor { (1 ≤ step_divisor) × (step_divisor ≤ 128) }
     ensures weight { IfOk result IsWeight }
     ensures state { IsDualState net.now state.new }
-    ensures better { KeepsBetter state.old.weights.items state.old state.new }
+    ensures better { KeepsBetter state.old.lengths.items state.old state.new }
     ensures loads { state.new.loads.items ≡ sweep_loads net.now matrix.now.demand (map links_in paths.now) }
-    ensures bound { OnOk result (state.new.low ≡ max state.old.low (centre_by net.now state.old.weights.items state.new.loads.items).mean) }
-    ensures counted { IfOk result (λ w. w ≡ weight_by (centre_by net.now state.old.weights.items state.new.loads.items)) }
+    ensures bound { OnOk result (state.new.best_bound ≡ max state.old.best_bound (centre_by net.now state.old.lengths.items state.new.loads.items).mean) }
+    ensures counted { IfOk result (λ w. w ≡ weight_by (centre_by net.now state.old.lengths.items state.new.loads.items)) }
 {
-    load_on(net, matrix, paths, &mut state.loads);
+    write_loads(net, matrix, paths, &mut state.loads);
     end_sweep(alloc, net, state, step_divisor)
 }

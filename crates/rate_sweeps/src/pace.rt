@@ -9,10 +9,10 @@ pub const TURNS: usize = 400;
 const IDLE_TURNS: u32 = 5;
 
 /// How often usages are squared at the start.
-const FIRST_TIMES: u32 = 6;
+const FIRST_SQUARINGS: u32 = 6;
 
 /// How often usages are squared at most.
-const MAX_TIMES: u32 = 9;
+const MAX_SQUARINGS: u32 = 9;
 
 /// By what weights are divided at the start.
 const FIRST_DIVISOR: u64 = 128;
@@ -26,7 +26,7 @@ pub struct Pace {
     /// By what a turn divides a weight, of which it takes one part.
     pub step_divisor: u64,
     /// How often usages are squared.
-    pub times: u32,
+    pub squarings: u32,
     /// How many turns brought no gain.
     pub idle: u32,
     /// The greatest utilisation at the last gain, in millionths of the capacity, rounded up.
@@ -40,7 +40,7 @@ pub fn first_pace(most: u128) -> Pace
 {
     Pace {
         step_divisor: FIRST_DIVISOR,
-        times: FIRST_TIMES,
+        squarings: FIRST_SQUARINGS,
         idle: 0,
         least: most,
     }
@@ -69,7 +69,7 @@ pub fn next_pace(pace: Pace, most: u128) -> Pace
     } else {
         next.idle = 0;
         next.step_divisor = 2 * pace.step_divisor.min(LAST_DIVISOR);
-        next.times = (pace.times + 1).min(MAX_TIMES);
+        next.squarings = (pace.squarings + 1).min(MAX_SQUARINGS);
     }
     next
 }

@@ -50,14 +50,14 @@ pub fn loads_by_capacity(alloc: Global, net: &Network, loads: &[u128]) -> Result
 
 /// The part of the greatest usage, squared so many times: the same for the most used links, and less for all others.
 #[tactic(auto, using(crate::proofs::Squares::square_fits))]
-fn squared_part(usage: u128, most: u128, times: u32) -> u128
+fn squared_part(usage: u128, most: u128, squarings: u32) -> u128
     requires usage { usage < 2 ^ 84 }
     requires most { 1 ≤ most }
     ensures small { result ≤ 2 ^ 30 }
-    ensures part { result ≡ repeated_square times (part_of most usage) }
+    ensures part { result ≡ repeated_square squarings (part_of most usage) }
 {
     let mut part = (usage * WHOLE / most).min(WHOLE);
-    for _ in 0..times {
+    for _ in 0..squarings {
         part = part * part / WHOLE;
     }
     part
@@ -74,19 +74,24 @@ fn price_of(part: u128, capacity: u64) -> u128
 }
 
 /// The squared usage of each link over its capacity.
-fn prices_of(alloc: Global, net: &Network, usage: &[u128], times: u32) -> Result<Vec<u128>, Memory>
+fn prices_of(
+    alloc: Global,
+    net: &Network,
+    usage: &[u128],
+    squarings: u32,
+) -> Result<Vec<u128>, Memory>
     requires network { IsTrue (is_well_formed net.now) }
     requires count { length usage.now ≡ link_count net.now }
     requires small { All (λ x. x < 2 ^ 84) usage.now }
     ensures count { IfOk result (λ p. length p.items ≡ link_count net.now) }
     ensures small { IfOk result (λ p. All (λ x. x ≤ 2 ^ 62) p.items) }
-    ensures prices { IfOk result (λ p. p.items ≡ for_each_link net.now (price_of net.now usage.now times)) }
+    ensures prices { IfOk result (λ p. p.items ≡ for_each_link net.now (price_of net.now usage.now squarings)) }
 {
     let most = greatest_number(usage);
     let links = net.links.as_slice();
     let mut prices = Vec::with_capacity(alloc, links.len())?;
     for h in 0..links.len() {
-        let part = squared_part(usage[h], most, times);
+        let part = squared_part(usage[h], most, squarings);
         prices.push(price_of(part, links[h].capacity))?;
     }
     Ok(prices)
@@ -124,16 +129,16 @@ pub fn lengths_under(
     alloc: Global,
     net: &Network,
     loads: &[u128],
-    times: u32,
+    squarings: u32,
 ) -> Result<Vec<u64>, Memory>
     requires network { IsTrue (is_well_formed net.now) }
     requires count { length loads.now ≡ link_count net.now }
     requires small { All (λ x. x < 2 ^ 84) loads.now }
     ensures count { IfOk result (λ l. length l.items ≡ link_count net.now) }
     ensures lengths { IfOk result (λ l. AreWeightsUpTo (2 ^ 27) l.items) }
-    ensures exact { IfOk result (λ l. l.items ≡ lengths_under net.now loads.now times) }
+    ensures exact { IfOk result (λ l. l.items ≡ lengths_under net.now loads.now squarings) }
 {
     let usage = loads_by_capacity(alloc, net, loads)?;
-    let prices = prices_of(alloc, net, &usage, times)?;
+    let prices = prices_of(alloc, net, &usage, squarings)?;
     lengths_of(alloc, &prices)
 }

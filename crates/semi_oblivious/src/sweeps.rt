@@ -41,7 +41,7 @@ fn stage(
 {
     let mut sweeps = Vec::with_capacity(alloc, COUNTED)?;
     for i in 0..UNCOUNTED + COUNTED {
-        let paths = cheapest_paths(alloc, net, fixed, &state.weights)?;
+        let paths = cheapest_paths(alloc, net, fixed, &state.lengths)?;
         let weight = take_sweep(alloc, net, matrix, &paths, state, step_divisor)?;
         add_counted(&mut sweeps, i, weight, paths)?;
     }
@@ -66,7 +66,7 @@ fn sweep_loads(
     ensures state { IsDualState net.now state.new }
 {
     for _ in 0..SWEEPS {
-        load_cheapest(net, fixed, matrix, &state.weights, &mut state.loads);
+        load_cheapest(net, fixed, matrix, &state.lengths, &mut state.loads);
         end_sweep(alloc, net, state, step_divisor)?;
     }
     Ok(())
@@ -124,18 +124,20 @@ fn better_mix(
     Ok(better)
 }
 
-/// The best one of the fixed routing and those of two stages of sweeps. A stage may go astray.
+/// The best one of the given routing and those of two stages of sweeps. A stage may go astray.
 fn best_mix(
     alloc: Global,
     net: &Network,
     fixed: &Routing,
     matrix: &Matrix,
+    best: Routing,
     state: &mut DualState,
 ) -> Result<Routing, Memory>
     requires network { IsTrue (is_well_formed net.now) }
     requires fixed { IsPathRouting net.now fixed.now.routes }
     requires pairs { length fixed.now.routes < 2 ^ 32 }
     requires demands { AreDemands (length fixed.now.routes) matrix.now.demand }
+    requires best { IsOverFixed net.now matrix.now.demand fixed.now.routes best.routes }
     requires state { IsDualState net.now state.old }
     ensures routing { IfOk result (λ r. IsOverFixed net.now matrix.now.demand fixed.now.routes r.routes) }
     ensures state { IsDualState net.now state.new }
@@ -149,8 +151,7 @@ fn best_mix(
         STAGES,
         FIRST_STAGE_DIVISOR,
     )?;
-    let own = fixed.copy(alloc)?;
-    let first = better_mix(alloc, net, fixed, matrix, own, state, FIRST_KEPT_DIVISOR)?;
+    let first = better_mix(alloc, net, fixed, matrix, best, state, FIRST_KEPT_DIVISOR)?;
     let second = better_mix(alloc, net, fixed, matrix, first, state, SECOND_KEPT_DIVISOR)?;
     Ok(second)
 }
@@ -235,9 +236,10 @@ fn best_routing(
     ensures routing { IfOk result (λ r. IsOverFixed net.now matrix.now.demand fixed.now.routes r.routes) }
     ensures state { IsDualState net.now state.new }
 {
-    let best = best_mix(alloc, net, fixed, matrix, state)?;
+    let own = fixed.copy(alloc)?;
+    let best = best_mix(alloc, net, fixed, matrix, own, state)?;
     let descent = end_of_descent(alloc, net, fixed, matrix, best, state)?;
-    state.weights = next_lengths(alloc, net, matrix, &descent)?;
+    state.lengths = next_lengths(alloc, net, matrix, &descent)?;
     sweep_stages(
         alloc,
         net,
@@ -271,8 +273,8 @@ pub fn sweep(
     let mut state = first_dual_state(alloc, net)?;
     // Where no link is used there is nothing to better.
     if fixed.greatest_utilisation(alloc, net, matrix)? == 0 {
-        return Ok((fixed.copy(alloc)?, Items::new(state.lengths)));
+        return Ok((fixed.copy(alloc)?, Items::new(state.best_lengths)));
     }
     let routing = best_routing(alloc, net, fixed, matrix, &mut state)?;
-    Ok((routing, Items::new(state.lengths)))
+    Ok((routing, Items::new(state.best_lengths)))
 }

@@ -17,35 +17,35 @@ loads_are c =
       | else-centre-state w ↦ rw w.state-is refl
     ]
 
-weights_kept : (c : goal.After-weight_of) → c.if-centre-state.state.weights.items ≡ c.args.state.now.weights.items
+weights_kept : (c : goal.After-weight_of) → c.if-centre-state.state.lengths.items ≡ c.args.state.now.lengths.items
 weights_kept c = elim c.if-centre-state.branch [
   | then-centre-state+in_ok-state w ↦ rw w.state-is refl
   | else-centre-state w ↦ rw w.state-is refl
 ]
 
 -- the middle by the lengths of before
-centre_is : (c : goal.After-weight_of) → c.centre_of-centre.result ≡ centre_by c.args.net.now c.args.state.now.weights.items c.if-centre-state.state.loads.items
+centre_is : (c : goal.After-weight_of) → c.centre_of-centre.result ≡ centre_by c.args.net.now c.args.state.now.lengths.items c.if-centre-state.state.loads.items
 centre_is c =
     let net = c.args.net.now in
-    let weights = c.args.state.now.weights.items in
+    let weights = c.args.state.now.lengths.items in
     c.centre_of-centre.ensures.exact
     ∙ (ap (λ (l : List ℕ). centre_by net l c.deref-2.result.now) c.deref.ensures.value
     ∙ ap (λ (l : List ℕ). centre_by net weights l) (c.deref-2.ensures.value ∙ sym (loads_are c)))
 
 pub returns-clause-state : goal.returns-clause-state
 returns-clause-state c =
-    let is = with_items_is c.if-centre-state.state.weights c.step_weights.new.weights (omega (arith, c.step_weights.auto.weights, c.deref_mut.ensures.len)) in
+    let is = with_items_is c.if-centre-state.state.lengths c.step_weights.new.weights (omega (arith, c.step_weights.auto.weights, c.deref_mut.ensures.len)) in
     record {
       count = omega (arith, ap (λ (l : List ℕ). length l) is, c.step_weights.ensures.count, ap (λ (l : List ℕ). length l) c.deref_mut.ensures.value, ap (λ (l : List ℕ). length l) (weights_kept c), c.requires.state.count);
-      weights = subst (AreWeightsUpTo (2 ^ 27)) (sym is) c.step_weights.ensures.weights;
+      lengths = subst (AreWeightsUpTo (2 ^ 27)) (sym is) c.step_weights.ensures.weights;
       loads = subst (AreLoadsWithin c.args.net.now) (sym (loads_are c)) c.requires.state.loads;
-      lengths_count = elim c.if-centre-state.branch [
+      best_count = elim c.if-centre-state.branch [
         | then-centre-state+in_ok-state w ↦ rw w.state-is (search rules)
-        | else-centre-state w ↦ rw w.state-is c.requires.state.lengths_count
+        | else-centre-state w ↦ rw w.state-is c.requires.state.best_count
       ];
-      lengths = elim c.if-centre-state.branch [
+      best_lengths = elim c.if-centre-state.branch [
         | then-centre-state+in_ok-state w ↦ rw w.state-is (search rules)
-        | else-centre-state w ↦ rw w.state-is c.requires.state.lengths
+        | else-centre-state w ↦ rw w.state-is c.requires.state.best_lengths
       ];
     }
 
@@ -71,6 +71,6 @@ pub returns-clause-bound : goal.returns-clause-bound
 returns-clause-bound c =
     let mean = ap (λ (x : Centre). x.mean) (centre_is c) in
     elim c.if-centre-state.branch [
-      | then-centre-state+in_ok-state w ↦ ap (λ (r : DualState). r.low) w.state-is ∙ bound_taken c.args.state.now.low _ _ mean w.if-centre-state.true
-      | else-centre-state w ↦ ap (λ (r : DualState). r.low) w.state-is ∙ bound_kept c.args.state.now.low _ _ mean w.if-centre-state.false
+      | then-centre-state+in_ok-state w ↦ ap (λ (r : DualState). r.best_bound) w.state-is ∙ bound_taken c.args.state.now.best_bound _ _ mean w.if-centre-state.true
+      | else-centre-state w ↦ ap (λ (r : DualState). r.best_bound) w.state-is ∙ bound_kept c.args.state.now.best_bound _ _ mean w.if-centre-state.false
     ]

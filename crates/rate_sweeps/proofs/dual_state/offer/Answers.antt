@@ -9,10 +9,10 @@ returns-in_err-state-clause-state c =
     let is = with_items_is c.args.state.now.loads c.centre_under-centre.new.loads (omega (arith, c.centre_under-centre.auto.loads, c.deref_mut.ensures.len)) in
     record {
       count = c.requires.state.count;
-      weights = c.requires.state.weights;
-      loads = subst (AreLoadsWithin c.args.net.now) (sym is) c.centre_under-centre.ensures.within;
-      lengths_count = c.requires.state.lengths_count;
       lengths = c.requires.state.lengths;
+      loads = subst (AreLoadsWithin c.args.net.now) (sym is) c.centre_under-centre.ensures.within;
+      best_count = c.requires.state.best_count;
+      best_lengths = c.requires.state.best_lengths;
     }
 
 pub returns-in_err-state-clause-better : goal.returns-in_err-state-clause-better
@@ -23,8 +23,8 @@ returns-in_err-state-clause-loads c =
     with_items_is c.args.state.now.loads c.centre_under-centre.new.loads (omega (arith, c.centre_under-centre.auto.loads, c.deref_mut.ensures.len))
     ∙ c.centre_under-centre.ensures.loads
 
-pub returns-in_err-state-clause-weights : goal.returns-in_err-state-clause-weights
-returns-in_err-state-clause-weights c = refl
+pub returns-in_err-state-clause-lengths : goal.returns-in_err-state-clause-lengths
+returns-in_err-state-clause-lengths c = refl
 
 pub returns-in_ok-state-clause-state : goal.returns-in_ok-state-clause-state
 returns-in_ok-state-clause-state c =
@@ -32,10 +32,10 @@ returns-in_ok-state-clause-state c =
     let kept = sym {A = List ℕ} c.in_ok-state.ensures.items in
     record {
       count = c.requires.state.count;
-      weights = c.requires.state.weights;
+      lengths = c.requires.state.lengths;
       loads = subst (AreLoadsWithin c.args.net.now) (sym is) c.centre_under-centre.ensures.within;
-      lengths_count = ap (λ (l : List ℕ). length l) (sym kept) ∙ c.requires.count;
-      lengths = subst (AreWeightsUpTo (2 ^ 27)) kept c.requires.lengths;
+      best_count = ap (λ (l : List ℕ). length l) (sym kept) ∙ c.requires.count;
+      best_lengths = subst (AreWeightsUpTo (2 ^ 27)) kept c.requires.lengths;
     }
 
 pub returns-in_ok-state-clause-better : goal.returns-in_ok-state-clause-better
@@ -46,18 +46,18 @@ returns-in_ok-state-clause-loads c =
     with_items_is c.args.state.now.loads c.centre_under-centre.new.loads (omega (arith, c.centre_under-centre.auto.loads, c.deref_mut.ensures.len))
     ∙ c.centre_under-centre.ensures.loads
 
-pub returns-in_ok-state-clause-weights : goal.returns-in_ok-state-clause-weights
-returns-in_ok-state-clause-weights c = refl
+pub returns-in_ok-state-clause-lengths : goal.returns-in_ok-state-clause-lengths
+returns-in_ok-state-clause-lengths c = refl
 
 pub returns-else-centre-state-clause-state : goal.returns-else-centre-state-clause-state
 returns-else-centre-state-clause-state c =
     let is = with_items_is c.args.state.now.loads c.centre_under-centre.new.loads (omega (arith, c.centre_under-centre.auto.loads, c.deref_mut.ensures.len)) in
     record {
       count = c.requires.state.count;
-      weights = c.requires.state.weights;
-      loads = subst (AreLoadsWithin c.args.net.now) (sym is) c.centre_under-centre.ensures.within;
-      lengths_count = c.requires.state.lengths_count;
       lengths = c.requires.state.lengths;
+      loads = subst (AreLoadsWithin c.args.net.now) (sym is) c.centre_under-centre.ensures.within;
+      best_count = c.requires.state.best_count;
+      best_lengths = c.requires.state.best_lengths;
     }
 
 pub returns-else-centre-state-clause-better : goal.returns-else-centre-state-clause-better
@@ -68,5 +68,5 @@ returns-else-centre-state-clause-loads c =
     with_items_is c.args.state.now.loads c.centre_under-centre.new.loads (omega (arith, c.centre_under-centre.auto.loads, c.deref_mut.ensures.len))
     ∙ c.centre_under-centre.ensures.loads
 
-pub returns-else-centre-state-clause-weights : goal.returns-else-centre-state-clause-weights
-returns-else-centre-state-clause-weights c = refl
+pub returns-else-centre-state-clause-lengths : goal.returns-else-centre-state-clause-lengths
+returns-else-centre-state-clause-lengths c = refl

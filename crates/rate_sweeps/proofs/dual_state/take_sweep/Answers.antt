@@ -5,19 +5,19 @@ use Rattle.rate_sweeps.proofs.dual_state.take_sweep.Goals as goal
 
 pub end_sweep-requires-clause-state : goal.end_sweep-requires-clause-state
 end_sweep-requires-clause-state c =
-    let is = with_items_is c.args.state.now.loads c.load_on.new.loads (omega (arith, c.load_on.auto.loads, c.deref_mut.ensures.len)) in
+    let is = with_items_is c.args.state.now.loads c.write_loads.new.loads (omega (arith, c.write_loads.auto.loads, c.deref_mut.ensures.len)) in
     record {
       count = c.requires.state.count;
-      weights = c.requires.state.weights;
-      loads = subst (AreLoadsWithin c.args.net.now) (sym is) c.load_on.ensures.within;
-      lengths_count = c.requires.state.lengths_count;
       lengths = c.requires.state.lengths;
+      loads = subst (AreLoadsWithin c.args.net.now) (sym is) c.write_loads.ensures.within;
+      best_count = c.requires.state.best_count;
+      best_lengths = c.requires.state.best_lengths;
     }
 
 pub returns-clause-loads : goal.returns-clause-loads
 returns-clause-loads c =
-    let is = with_items_is c.args.state.now.loads c.load_on.new.loads (omega (arith, c.load_on.auto.loads, c.deref_mut.ensures.len)) in
-    c.end_sweep.ensures.loads ∙ (is ∙ c.load_on.ensures.loads)
+    let is = with_items_is c.args.state.now.loads c.write_loads.new.loads (omega (arith, c.write_loads.auto.loads, c.deref_mut.ensures.len)) in
+    c.end_sweep.ensures.loads ∙ (is ∙ c.write_loads.ensures.loads)
 
 pub returns-clause-better : goal.returns-clause-better
 returns-clause-better c = c.end_sweep.ensures.better

@@ -19,19 +19,19 @@ pub loop-h-preserved : goal.loop-h-preserved
 loop-h-preserved c =
     let net = c.args.net.now in
     let usage = c.args.usage.now in
-    let times = c.args.times in
+    let squarings = c.args.squarings in
     let h = c.loop-h.h in
     let links = c.as_slice-links.result.now in
-    let part : c.squared_part-part.result ≡ repeated_square times (part_of (greatest_number usage) (get_or usage h 0)) =
-    c.squared_part-part.ensures.part ∙ ap (λ m. repeated_square times (part_of m (get_or usage h 0))) c.greatest_number-most.ensures.greatest
+    let part : c.squared_part-part.result ≡ repeated_square squarings (part_of (greatest_number usage) (get_or usage h 0)) =
+    c.squared_part-part.ensures.part ∙ ap (λ m. repeated_square squarings (part_of m (get_or usage h 0))) c.greatest_number-most.ensures.greatest
     in
-    let made : c.price_of.result ≡ price_of net usage times h =
+    let made : c.price_of.result ≡ price_of net usage squarings h =
     c.price_of.ensures.price
     ∙ (ap (λ x. max 1 x * 2 ^ 32 / (get_or links h no_link).capacity) part
-    ∙ ap (λ (ls : List Link). max 1 (repeated_square times (part_of (greatest_number usage) (get_or usage h 0))) * 2 ^ 32 / (get_or ls h no_link).capacity) c.as_slice-links.ensures)
+    ∙ ap (λ (ls : List Link). max 1 (repeated_square squarings (part_of (greatest_number usage) (get_or usage h 0))) * 2 ^ 32 / (get_or ls h no_link).capacity) c.as_slice-links.ensures)
     in (
       omega (arith, ap (λ (l : List ℕ). length l) c.in_ok-push.ensures.items, c.loop-h.invariant.0, c.in_ok-push.ensures.len),
       subst (All (λ x. x ≤ 2 ^ 62)) (sym {A = List ℕ} c.in_ok-push.ensures.items)
           (All-push (λ x. x ≤ 2 ^ 62) c.loop-h.prices.items c.price_of.result c.loop-h.invariant.1 c.price_of.ensures.small),
-      made_more (price_of net usage times) h c.price_of.result c.loop-h.prices.items c.push.new.self.items c.loop-h.invariant.2 c.in_ok-push.ensures.items made,
+      made_more (price_of net usage squarings) h c.price_of.result c.loop-h.prices.items c.push.new.self.items c.loop-h.invariant.2 c.in_ok-push.ensures.items made,
     )

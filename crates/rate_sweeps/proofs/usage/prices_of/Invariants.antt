@@ -5,4 +5,4 @@ use Rattle.rate_sweeps.proofs.usage.prices_of.Given as goal
 
 abbrev pub invariant-loop-h : goal.invariant-loop-h
 invariant-loop-h l =
-    (length l.prices.items ≡ l.h) × All (λ x. x ≤ 2 ^ 62) l.prices.items × (l.prices.items ≡ map (price_of l.net l.usage l.times) (range_with_len 0 l.h))
+    (length l.prices.items ≡ l.h) × All (λ x. x ≤ 2 ^ 62) l.prices.items × (l.prices.items ≡ map (price_of l.net l.usage l.squarings) (range_with_len 0 l.h))

@@ -17,7 +17,7 @@ cheapest_paths-requires-clause-lengths c = ap (λ (l : List ℕ). length l) c.de
 
 pub cheapest_paths-requires-clause-limit : goal.cheapest_paths-requires-clause-limit
 cheapest_paths-requires-clause-limit c =
-    subst (All (λ (l : ℕ). l ≤ 2 ^ 28)) (sym c.deref.ensures.value) (weights_small c.loop-i.state.weights.items c.loop-i.invariant.0.weights)
+    subst (All (λ (l : ℕ). l ≤ 2 ^ 28)) (sym c.deref.ensures.value) (weights_small c.loop-i.state.lengths.items c.loop-i.invariant.0.lengths)
 
 pub take_sweep-requires-clause-demands : goal.take_sweep-requires-clause-demands
 take_sweep-requires-clause-demands c =
@@ -43,9 +43,9 @@ loop-i-preserved c =
     let far = c.loop-i.invariant.1 in
     let cheapest : IsCheapestSweep net fixed s =
     record {
-      lengths = c.loop-i.state.weights.items;
+      lengths = c.loop-i.state.lengths.items;
       count = state.count;
-      positive = weights_positive c.loop-i.state.weights.items state.weights;
+      positive = weights_positive c.loop-i.state.lengths.items state.lengths;
       cheapest = subst (λ (l : List ℕ). AreCheapest l fixed (paths_in s)) c.deref.ensures.value taken.cheapest;
     }
     in (

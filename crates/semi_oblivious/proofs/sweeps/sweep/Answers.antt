@@ -10,10 +10,10 @@ returns-then-branch-eq0-clause-routing c =
     (own_over c.args.net.now c.args.matrix.now.demand c.args.fixed.now.routes c.requires.fixed)
 
 pub returns-then-branch-eq0-clause-small : goal.returns-then-branch-eq0-clause-small
-returns-then-branch-eq0-clause-small c = subst (All (λ (x : ℕ). x ≤ 2 ^ 28)) (sym c.new.ensures) (weights_small c.in_ok-state.state.lengths.items c.in_ok-state.ensures.lengths)
+returns-then-branch-eq0-clause-small c = subst (All (λ (x : ℕ). x ≤ 2 ^ 28)) (sym c.new.ensures) (weights_small c.in_ok-state.state.best_lengths.items c.in_ok-state.ensures.best_lengths)
 
 pub returns-clause-count : goal.returns-clause-count
-returns-clause-count c = ap (λ (l : List ℕ). length l) c.new-2.ensures ∙ c.best_routing.ensures.state.lengths_count
+returns-clause-count c = ap (λ (l : List ℕ). length l) c.new-2.ensures ∙ c.best_routing.ensures.state.best_count
 
 pub returns-clause-small : goal.returns-clause-small
-returns-clause-small c = subst (All (λ (x : ℕ). x ≤ 2 ^ 28)) (sym c.new-2.ensures) (weights_small _ c.best_routing.ensures.state.lengths)
+returns-clause-small c = subst (All (λ (x : ℕ). x ≤ 2 ^ 28)) (sym c.new-2.ensures) (weights_small _ c.best_routing.ensures.state.best_lengths)

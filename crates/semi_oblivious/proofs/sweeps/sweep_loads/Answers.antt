@@ -9,7 +9,7 @@ load_cheapest-requires-clause-lengths c = ap (λ (l : List ℕ). length l) c.der
 
 pub load_cheapest-requires-clause-limit : goal.load_cheapest-requires-clause-limit
 load_cheapest-requires-clause-limit c =
-    subst (All (λ (l : ℕ). l ≤ 2 ^ 28)) (sym c.deref.ensures.value) (weights_small c.loop.state.weights.items c.loop.invariant.weights)
+    subst (All (λ (l : ℕ). l ≤ 2 ^ 28)) (sym c.deref.ensures.value) (weights_small c.loop.state.lengths.items c.loop.invariant.lengths)
 
 pub load_cheapest-requires-clause-count : goal.load_cheapest-requires-clause-count
 load_cheapest-requires-clause-count c = ap (λ (l : List ℕ). length l) c.deref_mut.ensures.value ∙ c.loop.invariant.loads.count
@@ -19,10 +19,10 @@ end_sweep-requires-clause-state c =
     let is = with_items_is c.loop.state.loads c.load_cheapest.new.loads (omega (arith, c.load_cheapest.auto.loads, c.deref_mut.ensures.len)) in
     record {
       count = c.loop.invariant.count;
-      weights = c.loop.invariant.weights;
-      loads = subst (AreLoadsWithin c.args.net.now) (sym is) c.load_cheapest.ensures.within;
-      lengths_count = c.loop.invariant.lengths_count;
       lengths = c.loop.invariant.lengths;
+      loads = subst (AreLoadsWithin c.args.net.now) (sym is) c.load_cheapest.ensures.within;
+      best_count = c.loop.invariant.best_count;
+      best_lengths = c.loop.invariant.best_lengths;
     }
 
 pub loop-preserved : goal.loop-preserved

@@ -24,11 +24,11 @@ least_paths_with-requires-clause-lengths c = ap (λ (l : List ℕ). length l) c.
 
 pub least_paths_with-requires-clause-limit : goal.least_paths_with-requires-clause-limit
 least_paths_with-requires-clause-limit c =
-    subst (All (λ (l : ℕ). l ≤ 2 ^ 28)) (sym c.deref.ensures.value) (weights_small _ c.loop-i.invariant.0.weights)
+    subst (All (λ (l : ℕ). l ≤ 2 ^ 28)) (sym c.deref.ensures.value) (weights_small _ c.loop-i.invariant.0.lengths)
 
 pub least_paths_with-requires-clause-positive : goal.least_paths_with-requires-clause-positive
 least_paths_with-requires-clause-positive c =
-    subst (All (λ (l : ℕ). 1 ≤ l)) (sym c.deref.ensures.value) (weights_positive _ c.loop-i.invariant.0.weights)
+    subst (All (λ (l : ℕ). 1 ≤ l)) (sym c.deref.ensures.value) (weights_positive _ c.loop-i.invariant.0.lengths)
 
 pub take_sweep-requires-clause-demands : goal.take_sweep-requires-clause-demands
 take_sweep-requires-clause-demands c =

@@ -3,7 +3,7 @@ use Rattle.te_model.specs.Counting.{sum_below}
 use Rattle.centred_steps.specs.Loads.{AreSmall}
 use Rattle.rate_sweeps.specs.Bounds.{load_of_pair}
 use Rattle.rate_sweeps.specs.Sweeps.{links_in}
-use Rattle.rate_sweeps.proofs.dual_state.load_on.Given as goal
+use Rattle.rate_sweeps.proofs.dual_state.write_loads.Given as goal
 
 abbrev pub invariant-loop-p : goal.invariant-loop-p
 invariant-loop-p l =

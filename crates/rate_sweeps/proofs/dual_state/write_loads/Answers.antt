@@ -5,7 +5,7 @@ use Rattle.te_model.specs.declared.route.Path.{Path}
 use Rattle.te_model.specs.Network.{link_count}
 use Rattle.rate_sweeps.specs.Sweeps.{links_in}
 use Rattle.rate_sweeps.proofs.SweepLoads.{all_pairs}
-use Rattle.rate_sweeps.proofs.dual_state.load_on.Goals as goal
+use Rattle.rate_sweeps.proofs.dual_state.write_loads.Goals as goal
 
 pub add_on-requires-clause-links : goal.add_on-requires-clause-links
 add_on-requires-clause-links c =
