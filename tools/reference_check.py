@@ -17,7 +17,7 @@ import sys
 SHARE_UNIT = 1_000_000
 RATIO_UNIT = 1_000_000
 NAME = re.compile(rb"[A-Za-z0-9_.-]{1,32}\Z")
-NUMBER = re.compile(rb"(0|[1-9][0-9]*)\Z")
+NUMBER = re.compile(rb"(0|[1-9][0-9]{0,19})\Z")
 # what each format allows: its first line, nodes, links, pairs, paths of a pair, links of a path, and bytes of a file
 FORMATS = {
     1: (b"yates-ratio 1", 64, 512, 4032, 32, 63, 134_217_728),
@@ -60,12 +60,10 @@ class Lines:
         return line.split(b" ")
 
     def numbers(self, tokens, count=None):
-        values = []
-        for token in tokens:
-            if not NUMBER.match(token) or len(token) > 20 or int(token) >= 2**64:
-                raise self.fault()
-            values.append(int(token))
-        if count is not None and len(values) != count:
+        if not all(map(NUMBER.match, tokens)) or count not in (None, len(tokens)):
+            raise self.fault()
+        values = list(map(int, tokens))
+        if max(values, default=0) >= 2**64:
             raise self.fault()
         return values
 
@@ -355,14 +353,29 @@ def bytes_of(name):
         raise Refused("fault: read\n", 4) from error
 
 
-def check_bytes(name, data):
-    """The texts for standard output and error, and the status, of a certificate of this name and these bytes."""
+def certificate_or_refusal(name, data):
+    """The certificate of a file of this name and these bytes, and None; or None, and the texts and the status that refuse it."""
     try:
-        line, status = judged(certificate_of(name, data))
+        return certificate_of(name, data), None
     except Refused as refusal:
-        text, status = refusal.args
-        return "", text, status
-    return line, "", status
+        return None, ("", *refusal.args)
+
+
+def answer_of(told, name, data):
+    """The texts for standard output and error, and the status, where this is told of a certificate of this name and these bytes."""
+    cert, refusal = certificate_or_refusal(name, data)
+    return refusal or accepted(told, cert)
+
+
+def accepted(told, cert):
+    """The same of a certificate that is not refused."""
+    text, status = told(cert)
+    return text, "", status
+
+
+def check_bytes(name, data):
+    """The same of `check`."""
+    return answer_of(judged, name, data)
 
 
 def check(names, shows_set=False):
@@ -380,12 +393,7 @@ def check(names, shows_set=False):
 
 def bounds_of(name, data):
     """The same of `bounds`, of a certificate of this name and these bytes."""
-    try:
-        out, status = table_of_needs(certificate_of(name, data))
-    except Refused as refusal:
-        text, status = refusal.args
-        return "", text, status
-    return out, "", status
+    return answer_of(table_of_needs, name, data)
 
 
 def main(words):

@@ -81,6 +81,14 @@ def answer(names, bytes_of=reference_check.bytes_of):
     certificate, topology = names
     try:
         cert = reference_check.certificate_of(certificate, bytes_of(certificate))
+    except reference_check.Refused as refusal:
+        return ("", *refusal.args)
+    return accepted(cert, topology, bytes_of)
+
+
+def accepted(cert, topology, bytes_of):
+    """The same of a certificate that is not refused, and the topology of this name."""
+    try:
         net = network_of(topology, bytes_of(topology))
         if net.names != cert["names"] or [link[:2] for link in net.links] != [tuple(link[:2]) for link in cert["links"]]:
             raise reference_check.Refused(f"refused: {topology}: not the links\n", 3)
@@ -88,8 +96,7 @@ def answer(names, bytes_of=reference_check.bytes_of):
         if made["ratio"] >= 10**19:
             raise reference_check.Refused(f"refused: {topology}: ratio too great\n", 3)
     except reference_check.Refused as refusal:
-        text, status = refusal.args
-        return "", text, status
+        return ("", *refusal.args)
     failed = reference_check.first_failure(cert, last=3)
     if failed:
         return reference_check.no_line(failed), "", 1

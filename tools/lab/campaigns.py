@@ -16,7 +16,7 @@ from .changes import smaller
 from .folders import write_files
 
 # How many cases one process takes at a time, how often a case is tried to make it smaller, and the bytes that are tried so at most.
-TOGETHER, TRIES, TRIED_BYTES = 20, 400, 2_000_000_000
+TOGETHER, TRIES, TRIED_BYTES = 16, 400, 2_000_000_000
 UNJUDGED = "not judged"
 # What a call may take of the processor, and of time on a machine that does much besides.
 PROCESSOR_SECONDS, SECONDS = 15, 600

@@ -167,23 +167,22 @@ def answer_of(words, folder):
 def judge(files, folder, number):
     """What the second checker says of the case, and what is wrong with the program's answers."""
     data = files[NAME]
-    want, got = reference_check.check_bytes(NAME, data), answer_of(["check", NAME], folder)
-    faults = [] if got == want else [f"check: want {want}, got {got}"]
-    faults += faults_of_prices(data, folder)
+    cert, refusal = reference_check.certificate_or_refusal(NAME, data)
+    want = refusal or reference_check.accepted(reference_check.judged, cert)
+    bounds = refusal or reference_check.accepted(reference_check.table_of_needs, cert)
+    pairs = [("check", want, answer_of(["check", NAME], folder)), ("bounds", bounds, answer_of(["bounds", NAME], folder))]
+    pairs.append(("reprice", *repriced(cert, refusal, folder)))
+    faults = [f"{command}: want {wanted}, got {got}" for command, wanted, got in pairs if got != wanted]
     if number % CONVERTED == 0:
         faults += faults_of_converted(data, want, answer_of(["convert", NAME], folder))
     if number % TIGHTENED == 0:
-        faults += faults_of_tightened(data, answer_of(["tighten", NAME], folder))
+        faults += faults_of_tightened(data, bounds, answer_of(["tighten", NAME], folder))
     label = {0: "yes", 1: "no"}.get(want[2], "rule" if "rule" in want[1] else "shape")
     return label, faults
 
 
-def topology_of(data):
-    """A topology with the links of a certificate, by their names, and other capacities; one of another network where there is no such."""
-    try:
-        cert = reference_check.certificate_of(NAME, data)
-    except reference_check.Refused:
-        return OTHER_NETWORK
+def topology_of(cert):
+    """A topology with the links of a certificate, by their names, and other capacities."""
     rows = [
         f"{cert['names'][tail].decode()},{cert['names'][head].decode()},{(7 * capacity + place) % 2**32 + 1},{cost}"
         for place, (tail, head, capacity, cost) in enumerate(cert["links"])
@@ -191,22 +190,17 @@ def topology_of(data):
     return "\n".join(["source,target,capacity,cost", *rows, ""]).encode()
 
 
-def faults_of_prices(data, folder):
-    """What is wrong with what `bounds` and `reprice` say of a certificate."""
-    topology = topology_of(data)
+def repriced(cert, refusal, folder):
+    """What has to be said of a certificate at other capacities, and what `reprice` says."""
+    topology = topology_of(cert) if refusal is None else OTHER_NETWORK
     with open(os.path.join(folder, TOPOLOGY), "wb") as file:
         file.write(topology)
-    bytes_of = {NAME: data, TOPOLOGY: topology}.__getitem__
-    pairs = [
-        ("bounds", reference_check.bounds_of(NAME, data), answer_of(["bounds", NAME], folder)),
-        ("reprice", reference_reprice.answer([NAME, TOPOLOGY], bytes_of), answer_of(["reprice", NAME, TOPOLOGY], folder)),
-    ]
-    return [f"{command}: want {want}, got {got}" for command, want, got in pairs if got != want]
+    wanted = refusal or reference_reprice.accepted(cert, TOPOLOGY, {TOPOLOGY: topology}.__getitem__)
+    return wanted, answer_of(["reprice", NAME, TOPOLOGY], folder)
 
 
-def faults_of_tightened(data, got):
-    """What is wrong with what `tighten` says of a certificate: the no of `bounds`, or the file of a certificate that needs no more."""
-    want = reference_check.bounds_of(NAME, data)
+def faults_of_tightened(data, want, got):
+    """What is wrong with what `tighten` says of a certificate of which `bounds` has to say this: its no, or the file of one that needs no more."""
     if want[2] != 0:
         return [] if got == want else [f"tighten: want {want}, got {got}"]
     if got[1:] != ("", 0):

@@ -7,7 +7,7 @@ import shutil
 import struct
 import subprocess
 
-from .program import PROGRAM, Answer
+from . import program
 
 SOURCE = os.path.join(os.path.dirname(os.path.abspath(__file__)), "failing_calls.c")
 # The calls that are counted, in the order of the library, and at the end those that failed.
@@ -97,7 +97,7 @@ def build(folder):
     return name
 
 
-class Counted(Answer):
+class Counted(program.Answer):
     """An answer, how many calls of each kind were made, none where the program did not come to its end, and the requests for memory by which
     the system's library opened a file.
     """
@@ -113,21 +113,14 @@ class Counted(Answer):
 
 def answer(library, words, folder, numbers=(NEVER, 0, 0, 0, 0)):
     """What the program answers over the library, of which these numbers say what fails."""
-    with contextlib.closing(os.fdopen(os.memfd_create("counts"), "r+b")) as counts:
+    # The program finds the file open, since it is made so that a child keeps it.
+    with contextlib.closing(os.fdopen(os.memfd_create("counts", 0), "r+b")) as counts:
         given = " ".join(map(str, [*numbers, counts.fileno()]))
-        environment = {**os.environ, "LD_PRELOAD": library, "FAILING_CALLS": given}
-        streams = {"stdin": subprocess.DEVNULL, "stdout": subprocess.PIPE, "stderr": subprocess.PIPE}
-        with subprocess.Popen([PROGRAM, *words], cwd=folder, env=environment, pass_fds=[counts.fileno()], **streams) as ran:
-            try:
-                out, err = ran.communicate(timeout=SECONDS)
-            except subprocess.TimeoutExpired:
-                ran.kill()
-                ran.communicate()
-                return Counted(b"", "", None)
+        got = program.answer(words, folder, SECONDS, {**os.environ, "LD_PRELOAD": library, "FAILING_CALLS": given})
         counts.seek(0)
         found = counts.read()
-    made = NUMBERS.unpack(found) if len(found) == NUMBERS.size else ()
-    return Counted(out, err.decode("utf-8", "replace"), ran.returncode, made)
+    made = NUMBERS.unpack(found) if got.status is not None and len(found) == NUMBERS.size else ()
+    return Counted(got.out, got.err, got.status, made)
 
 
 def places(count, most, step):

@@ -164,7 +164,7 @@ def said_by(module, words):
 
 def faults_of_words(load):
     """Words that are no call of a tool."""
-    wrong = {"limits": [["--all"]], "failing_calls": [["--most"], ["--most", "0"], ["--any", "1"]], "campaign": [[], ["small"], ["large", "--cases"], ["large", "--cases", "x"]]}
+    wrong = {"limits": [["--all"], ["--jobs"], ["--jobs", "0"]], "failing_calls": [["--most"], ["--most", "0"], ["--any", "1"]], "campaign": [[], ["small"], ["large", "--cases"], ["large", "--cases", "x"]]}
     return [f"{name} {words}" for name, calls in wrong.items() for words in calls if said_by(load(name), words)[1] != 2]
 
 

@@ -25,6 +25,8 @@ class Made:
         self.cert = reference_check.read(certificate)
         self.links, self.pairs, self.blocks = self.cert["links"], self.cert["pairs"], self.cert["blocks"]
         self.bounds = reference_check.bounds(self.cert) if self.cert["set"] else None
+        self.weights, self.paths = None, {}
+        self.links_from = [[(h, head) for h, (tail, head, _, _) in enumerate(self.links) if tail == node] for node in range(len(self.cert["names"]))]
 
     def least_paths(self, source, weights):
         """By node the sum of the least path from the source and its links; of equal sums the list of the least numbers."""
@@ -33,21 +35,26 @@ class Made:
             length, path, node = heapq.heappop(waiting)
             if node not in found:
                 found[node] = length, path
-                for h, (tail, head, _, _) in enumerate(self.links):
-                    if tail == node and head not in found:
+                for h, head in self.links_from[node]:
+                    if head not in found:
                         heapq.heappush(waiting, (length + weights[h], path + [h], head))
         return found
 
     def shares(self, link, weights):
         """Of each pair its share on the link, and its least path."""
-        paths = {source: self.least_paths(source, weights) for source in {pair[0] for pair in self.pairs}}
+        # A round asks by the same weights for its block and for the weights of the next one.
+        if weights != self.weights:
+            self.weights, self.paths = weights, {source: self.least_paths(source, weights) for source in {pair[0] for pair in self.pairs}}
+        paths = self.paths
         return [(sum(weight for weight, path in routes if link in path), *paths[src][dst]) for src, dst, routes in self.pairs]
 
     def keeps_bounds(self, shares, b):
         """Whether inequality I3 holds with this b."""
-        rises = [up(b * share, reference_check.SHARE_UNIT) - distance for share, distance, _ in shares]
-        lower, upper = self.bounds
-        return sum(most * max(rise, 0) for most, rise in zip(upper, rises)) <= sum(least * max(-rise, 0) for least, rise in zip(lower, rises))
+        added = 0
+        for (share, distance, _), least, most in zip(shares, *self.bounds):
+            rise = up(b * share, reference_check.SHARE_UNIT) - distance
+            added += rise * (most if rise > 0 else least)
+        return added <= 0
 
     def a_and_b(self, link, weights):
         """Those of the best block of these weights, or None where there is none."""
