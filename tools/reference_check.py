@@ -18,6 +18,8 @@ SHARE_UNIT = 1_000_000
 RATIO_UNIT = 1_000_000
 NAME = re.compile(rb"[A-Za-z0-9_.-]{1,32}\Z")
 NUMBER = re.compile(rb"(0|[1-9][0-9]{0,19})\Z")
+NUMBERS = re.compile(rb"(?:0|[1-9][0-9]{0,19})(?: (?:0|[1-9][0-9]{0,19}))*\Z")
+MARGIN = b"set margin "
 # what each format allows: its first line, nodes, links, pairs, paths of a pair, links of a path, and bytes of a file
 FORMATS = {
     1: (b"yates-ratio 1", 64, 512, 4032, 32, 63, 134_217_728),
@@ -55,24 +57,21 @@ class Lines:
             self.number += 1
             raise self.fault()
 
-    def tokens(self):
-        line = self.take()
-        return line.split(b" ")
-
-    def numbers(self, tokens, count=None):
-        if not all(map(NUMBER.match, tokens)) or count not in (None, len(tokens)):
-            raise self.fault()
-        values = list(map(int, tokens))
-        if max(values, default=0) >= 2**64:
+    def numbers(self, text, count=None):
+        """The numbers of a text, of which there is one at least, with one blank between them."""
+        values = list(map(int, text.split(b" "))) if NUMBERS.match(text) else None
+        if values is None or max(values) >= 2**64 or count not in (None, len(values)):
             raise self.fault()
         return values
 
     def worded(self, word, count):
         """A line of a word and this many numbers."""
-        tokens = self.tokens()
-        if tokens[0] != word:
+        line = self.take()
+        if line == word and count == 0:
+            return []
+        if not line.startswith(word + b" "):
             raise self.fault()
-        return self.numbers(tokens[1:], count)
+        return self.numbers(line[len(word) + 1 :], count)
 
     def count(self, word, low, high):
         value = self.worded(word, 1)[0]
@@ -81,7 +80,7 @@ class Lines:
         return value
 
     def row(self, count):
-        return self.numbers(self.tokens(), count)
+        return self.numbers(self.take(), count)
 
 
 def read_head(lines):
@@ -120,13 +119,13 @@ def read_pair(lines, most_paths, most_hops):
 
 
 def read_set(lines, cert):
-    tokens, pairs = lines.tokens(), len(cert["pairs"])
-    if tokens == [b"set", b"all"]:
+    line, pairs = lines.take(), len(cert["pairs"])
+    if line == b"set all":
         return None
-    if cert["format"] == 1 and tokens[:2] == [b"set", b"margin"]:
-        num, den = lines.numbers(tokens[2:], 2)
+    if cert["format"] == 1 and line.startswith(MARGIN):
+        num, den = lines.numbers(line[len(MARGIN) :], 2)
         return "margin", num, den, lines.worded(b"base", pairs)
-    if cert["format"] == 2 and tokens == [b"set", b"box"]:
+    if cert["format"] == 2 and line == b"set box":
         return "box", lines.worded(b"lower", pairs), lines.worded(b"upper", pairs)
     raise lines.fault()
 
@@ -229,15 +228,21 @@ def bounds(cert):
     return [d * den * den for d in base], [d * num * num for d in base]
 
 
-def share(paths, e):
-    """How many millionths of the demand of a pair go over link e."""
-    return sum(w for w, path in paths if e in path)
+def shares_of(cert):
+    """Of each link, by the number of a pair that sends over it, how many millionths of the pair's demand go there."""
+    shares = [{} for _ in cert["links"]]
+    for p, (_, _, paths) in enumerate(cert["pairs"]):
+        for weight, path in paths:
+            # No path goes over a link twice, as rule V4 has it.
+            for e in path:
+                shares[e][p] = shares[e].get(p, 0) + weight
+    return shares
 
 
 def first_failure(cert, last=4):
     """The first inequality that fails, of those up to the last one that is asked, in order of link, rule and place."""
     n, m = len(cert["names"]), len(cert["links"])
-    by_link = {b["link"]: b for b in cert["blocks"]}
+    by_link, shares = {b["link"]: b for b in cert["blocks"]}, shares_of(cert)
     absent = {"a": 0, "b": 1, "weights": [0] * m, "rows": [], "plus": [], "minus": []}
     for e in range(m):
         block = by_link.get(e, absent)
@@ -252,11 +257,11 @@ def first_failure(cert, last=4):
             for h, (tail, head, _, _) in enumerate(cert["links"]):
                 if row[head] > row[tail] + weights[h]:
                     return e, 1, i * (m + 1) + 1 + h
-        for p, (src, dst, paths) in enumerate(cert["pairs"]):
+        for p, (src, dst, _) in enumerate(cert["pairs"]):
             plus = block["plus"][p] if block["plus"] else 0
             minus = block["minus"][p] if block["minus"] else 0
             distance = rows[src][dst] if src in rows else 0
-            if share(paths, e) * b + a * minus > a * (distance + plus):
+            if shares[e].get(p, 0) * b + a * minus > a * (distance + plus):
                 return e, 2, p
         if cert["set"] and block["plus"]:
             lower, upper = bounds(cert)
@@ -300,9 +305,9 @@ def table_of_needs(cert):
     failed = first_failure(cert, last=3)
     if failed:
         return no_line(failed), 1
-    by_link, rows = {b["link"]: b for b in cert["blocks"]}, ["link,source,target,capacity,need"]
+    by_link, shares, rows = {b["link"]: b for b in cert["blocks"]}, shares_of(cert), ["link,source,target,capacity,need"]
     for e, (tail, head, capacity, _) in enumerate(cert["links"]):
-        if any(share(paths, e) for _, _, paths in cert["pairs"]):
+        if shares[e]:
             source, target = (cert["names"][node].decode() for node in (tail, head))
             rows.append(f"{e},{source},{target},{capacity},{need(cert, by_link[e])}")
     return "".join(f"{row}\n" for row in rows), 0
