@@ -1,7 +1,8 @@
 """A campaign: cases that are drawn by a seed and their numbers, tried one after another, and kept where something is wrong with them.
 
 A kind of campaign is a module with `case(seed, number)`, which gives the files of a case, `judge(files, folder, number)`, which gives a word for
-what was found, and what is wrong, over a folder with these files, the `SEPARATOR` of the tokens of a line, and how many cases a campaign has, its `CASES_OF_CAMPAIGN`.
+what was found, and what is wrong, over a folder with these files, the `SEPARATOR` of the tokens of a line, and how many cases a campaign has, its
+`CASES_OF_CAMPAIGN`. Where so many cases in a row are drawn together, the number is its `OF_ONE`.
 """
 import collections
 import json
@@ -15,7 +16,7 @@ import time
 from .changes import smaller
 from .folders import write_files
 
-# How many cases one process takes at a time, how often a case is tried to make it smaller, and the bytes that are tried so at most.
+# How many cases one process takes at a time where its kind does not draw them together, how often a case is tried to make it smaller, and the bytes that are tried so at most.
 TOGETHER, TRIES, TRIED_BYTES = 16, 400, 2_000_000_000
 UNJUDGED = "not judged"
 # What a call may take of the processor, and of time on a machine that does much besides.
@@ -118,8 +119,8 @@ class Campaign:
         return numbers[1], words, different
 
 
-def ranges(first, last):
-    return [(start, min(last, start + TOGETHER)) for start in range(first, last, TOGETHER)]
+def ranges(first, last, together):
+    return [(start, min(last, start + together)) for start in range(first, last, together)]
 
 
 def leave_interruption():
@@ -133,7 +134,8 @@ def run(campaign, cases, jobs, minutes, tell):
     record, start = Record(campaign.folder), time.monotonic()
     before = record.seconds
     with multiprocessing.Pool(jobs, leave_interruption) as pool:
-        for last, words, different in pool.imap(campaign.of_range, ranges(record.next, cases)):
+        together = getattr(campaign.kind, "OF_ONE", TOGETHER)
+        for last, words, different in pool.imap(campaign.of_range, ranges(record.next, cases, together)):
             record.next, record.seconds = last, before + time.monotonic() - start
             record.words.update(words)
             record.differences += len(different)

@@ -16,7 +16,7 @@ from .real_files import UNREAD, UNWRITTEN, YES, Call, faults_of, large_certifica
 
 NOBODY = 65534
 # In bytes: what each command does with.
-STACK = 320 << 10
+STACK = 256 << 10
 
 
 def full_file_system(program, folder):
