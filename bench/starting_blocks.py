@@ -28,7 +28,7 @@ def with_starting_blocks(data):
     """The certificate of these bytes with such blocks, and the greatest need as its ratio."""
     made = Starting(data)
     weights = [STARTING_WEIGHT] * len(made.links)
-    used = [e for e in range(len(made.links)) if any(reference_check.share(paths, e) for _, _, paths in made.pairs)]
+    used = [e for e, shares in enumerate(reference_check.shares_of(made.cert)) if shares]
     ratio = max((made.need(link, weights) for link in used), default=0)
     blocks = "".join(block_text(made, link, weights) for link in used)
     return data.partition(b"\nratio ")[0] + f"\nratio {ratio}\nblocks {len(used)}\n{blocks}end\n".encode()

@@ -55,7 +55,7 @@ RATIO = b"\nratio "
 
 def shared_links(cert):
     """The links over which some pair sends."""
-    return [e for e in range(len(cert["links"])) if any(reference_check.share(paths, e) for _, _, paths in cert["pairs"])]
+    return [e for e, shares in enumerate(reference_check.shares_of(cert)) if shares]
 
 
 def faults_of_needs(old, new):
