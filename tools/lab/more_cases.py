@@ -19,7 +19,8 @@ def archive(names):
     made = io.BytesIO()
     with zipfile.ZipFile(made, "w") as file:
         for name in names:
-            file.writestr(name, "application/vnd.oasis.opendocument.spreadsheet" if name == "mimetype" else "")
+            # Without the time of day the same case is drawn again.
+            file.writestr(zipfile.ZipInfo(name), "application/vnd.oasis.opendocument.spreadsheet" if name == "mimetype" else "")
     return made.getvalue()
 
 
