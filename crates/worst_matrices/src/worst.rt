@@ -23,14 +23,21 @@ const FIRST_STAGES: usize = 2;
 /// The parts of a step in the first of them. Greater steps make some weights so small that the later ones do not bring them back.
 const FIRST_PARTS: u64 = 4;
 
-/// How many stages there are whose means are looked at.
-const LAST_STAGES: usize = 4;
+/// How many stages of ever smaller steps follow whose means are looked at.
+const MIDDLE_STAGES: usize = 4;
 
 /// The parts of a step in the first of these stages.
-const PARTS_BETWEEN: u64 = 16;
+const MIDDLE_PARTS: u64 = 16;
 
 /// The parts of a step in the last one.
 const MAX_PARTS: u64 = 128;
+
+/// How many stages of equal steps follow whose means are looked at. The weights are near by then, yet a scheme's routing of one mean
+/// may be much nearer to the best one than that of another.
+const LAST_STAGES: usize = 4;
+
+/// The parts of a step in these stages.
+const LAST_PARTS: u64 = 32;
 
 /// The share of each pair on the link.
 fn shares_on(alloc: Global, routing: &Routing, link: u32) -> Result<Vec<u64>, Memory>
@@ -107,26 +114,68 @@ fn make_first_stages(
     Ok(())
 }
 
-/// The means of the last stages of a search, which stands behind its first ones.
-fn means_of_stages(
+/// Goes on with the search by a stage, and adds the matrix of the set that is nearest to its mean, where there is one.
+fn add_stage(
     alloc: Global,
     usage: &LinkUsage,
     marks: &[bool],
     search: &mut Search,
-) -> Result<Vec<ScaledMatrix>, Memory>
+    parts: u64,
+    found: &mut Vec<ScaledMatrix>,
+) -> Result<(), Memory>
     requires usage { IsLinkUsage usage.now }
     requires marks { length marks.now ≡ node_count usage.now.net.now }
     requires search { IsWeightSearch usage.now search.old }
-    ensures { IfOk result (λ found. All (IsScaledMember usage.now.set.now (length usage.now.shares.now)) found.items) }
+    requires parts { (1 ≤ parts) × (parts ≤ 128) }
+    requires found { All (IsScaledMember usage.now.set.now (length usage.now.shares.now)) found.old.items }
+    ensures search { OnOk result (IsWeightSearch usage.now search.new) }
+    ensures found { OnOk result (All (IsScaledMember usage.now.set.now (length usage.now.shares.now)) found.new.items) }
 {
-    let mut found = Vec::new(alloc);
-    let mut parts = PARTS_BETWEEN;
-    for _ in 0..LAST_STAGES {
-        let sums = make_stage(alloc, usage, marks, search, parts)?;
-        add_mean(alloc, usage.set, &sums, &mut found)?;
+    let sums = make_stage(alloc, usage, marks, search, parts)?;
+    add_mean(alloc, usage.set, &sums, found)
+}
+
+/// Goes on with the search by the stages of ever smaller steps, and adds their means.
+fn add_middle_stages(
+    alloc: Global,
+    usage: &LinkUsage,
+    marks: &[bool],
+    search: &mut Search,
+    found: &mut Vec<ScaledMatrix>,
+) -> Result<(), Memory>
+    requires usage { IsLinkUsage usage.now }
+    requires marks { length marks.now ≡ node_count usage.now.net.now }
+    requires search { IsWeightSearch usage.now search.old }
+    requires found { All (IsScaledMember usage.now.set.now (length usage.now.shares.now)) found.old.items }
+    ensures search { OnOk result (IsWeightSearch usage.now search.new) }
+    ensures found { OnOk result (All (IsScaledMember usage.now.set.now (length usage.now.shares.now)) found.new.items) }
+{
+    let mut parts = MIDDLE_PARTS;
+    for _ in 0..MIDDLE_STAGES {
+        add_stage(alloc, usage, marks, search, parts, found)?;
         parts = (2 * parts).min(MAX_PARTS);
     }
-    Ok(found)
+    Ok(())
+}
+
+/// Goes on with the search by the stages of equal steps, and adds their means.
+fn add_last_stages(
+    alloc: Global,
+    usage: &LinkUsage,
+    marks: &[bool],
+    search: &mut Search,
+    found: &mut Vec<ScaledMatrix>,
+) -> Result<(), Memory>
+    requires usage { IsLinkUsage usage.now }
+    requires marks { length marks.now ≡ node_count usage.now.net.now }
+    requires search { IsWeightSearch usage.now search.old }
+    requires found { All (IsScaledMember usage.now.set.now (length usage.now.shares.now)) found.old.items }
+    ensures { OnOk result (All (IsScaledMember usage.now.set.now (length usage.now.shares.now)) found.new.items) }
+{
+    for _ in 0..LAST_STAGES {
+        add_stage(alloc, usage, marks, search, LAST_PARTS, found)?;
+    }
+    Ok(())
 }
 
 /// The means for a link.
@@ -137,8 +186,11 @@ fn means_for(alloc: Global, usage: &LinkUsage) -> Result<Vec<ScaledMatrix>, Memo
     let mut marks = vec![in alloc; false; usage.net.names.as_slice().len()]?;
     mark_sources(usage, &mut marks);
     let mut search = start(alloc, usage, &marks)?;
+    let mut found = Vec::new(alloc);
     make_first_stages(alloc, usage, &marks, &mut search)?;
-    means_of_stages(alloc, usage, &marks, &mut search)
+    add_middle_stages(alloc, usage, &marks, &mut search, &mut found)?;
+    add_last_stages(alloc, usage, &marks, &mut search, &mut found)?;
+    Ok(found)
 }
 
 /// The means for the link of this number.
@@ -166,7 +218,7 @@ fn means_on(
 }
 
 /// Matrices of the set that use the link of the first block that needs most much more than another routing would have to: for each
-/// of the last four stages of sweeps of the link's weights the mean of the worst matrices that they meet, scaled to whole numbers and
+/// of the last eight stages of sweeps of the link's weights the mean of the worst matrices that they meet, scaled to whole numbers and
 /// moved into the set. There are fewer where no matrix of whole numbers lies so, and none where no pair has a share on the link of a
 /// block.
 ///
