@@ -16,7 +16,7 @@ MARGINS = (("fat-tree", "racke"),)
 # The greatest quotient of a published ratio over the least that is true of its routing, and of each kind by its scheme, a step at a time.
 OF_RATIOS = 1.02
 # The greatest quotient of a published ratio over the bound of the witness that `challenge` writes of it.
-OF_BRACKETS = 1.05
+OF_BRACKETS = 1.03
 OF_STEPS = {("mcf", "parts / optimum"): 1.001, ("mcf", "optimum / low"): 1.005, ("smore", "parts / optimum on paths"): 1.002}
 
 
