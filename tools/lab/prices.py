@@ -63,6 +63,9 @@ BOUNDS = [
     ([PARALLEL_WITHOUT_SECOND], 1, "no link 1 rule I2 place 0\n"),
     ([TRIANGLE_WITHOUT_MINUS], 1, "no link 0 rule I3 place 0\n"),
     ([UNREACHED_TOO_LOW], 1, "no link 0 rule I1 place 2\n"),
+    # The second of two blocks fails; and both do, of which the first is named.
+    ([FOR_MARGIN.replace("minus 1 0", "minus 0 0")], 1, "no link 1 rule I3 place 0\n"),
+    ([WITHOUT_MINUS.replace("minus 1 0", "minus 0 0")], 1, "no link 0 rule I3 place 0\n"),
     # A link whose ratio is too low stands before one without a block, which is what fails here.
     ([PARALLEL_WITHOUT_SECOND.replace("ratio 2000000", "ratio 1")], 1, "no link 1 rule I2 place 0\n"),
 ]

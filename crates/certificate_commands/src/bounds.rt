@@ -1,16 +1,19 @@
 //! `bounds CERT`: what the blocks of a certificate prove of each link.
-ghost use Rattle.std.specs.Prelude.{◌≡◌, IfOk};
+ghost use Rattle.std.specs.Prelude.{List, IfOk};
+ghost use Rattle.te_model.specs.declared.certificate.Block.{Block};
 ghost use Rattle.te_model.specs.declared.certificate.Certificate.{Certificate};
-ghost use Rattle.te_model.specs.Validity.{IsValid};
+ghost use Rattle.te_model.specs.declared.certificate.Head.{Head};
 ghost use Rattle.link_bounds.specs.Bounds.{AreBoundsOf};
+ghost use Rattle.link_bounds.specs.Feeds.{StandsFor};
 ghost use Rattle.command_frame.specs.Outcome.{status_of, answer_text};
 ghost use Rattle.certificate_commands.specs.Bounds.{IsBoundsAnswer};
 
-use command_files::{Certificates, failure_answer};
-use command_frame::{Answer, Ask, Fault, value_in};
-use link_bounds::{Bounds as LinkBounds, bounds_of};
+use crate::feeding::bounds_in;
+use command_files::failure_answer;
+use command_frame::{Answer, Ask, Fault};
+use link_bounds::{Bounds as LinkBounds, BoundsFeed};
 use std::alloc::Global;
-use te_model::{Certificate, Memory};
+use te_model::Memory;
 use te_ports::Depot;
 
 /// `bounds CERT`.
@@ -25,8 +28,8 @@ impl<'a> Ask for Bounds<'a> {
     ghost reading = { λ c. (bounds_entry c.certificate.now).reading };
 
     fn answer<D: Depot>(&self, alloc: Global, depot: &mut D) -> Result<Answer, Fault> {
-        let spelled = value_in(alloc, depot, &Certificates, self.certificate)?;
-        Ok(judge(alloc, spelled)?)
+        let feed = bounds_in(alloc, depot, self.certificate)?;
+        Ok(judge(alloc, feed)?)
     }
 }
 
@@ -41,11 +44,12 @@ fn answer_to(alloc: Global, bounds: LinkBounds) -> Result<Answer, Memory>
     }
 }
 
-// The answer on the certificate.
-fn judge(alloc: Global, certificate: Certificate) -> Result<Answer, Memory>
-    requires { IsValid certificate }
-    ensures { IfOk result (λ answer. IsBoundsAnswer certificate (status_of answer) (answer_text answer)) }
+// The answer on the certificate whose head and blocks the feed was given.
+fn judge(alloc: Global, feed: BoundsFeed) -> Result<Answer, Memory>
+    requires { (head : Head) × (blocks : List Block) × StandsFor feed head blocks }
+    ensures { (head : Head) → (blocks : List Block) → StandsFor feed head blocks →
+        IfOk result (λ answer. IsBoundsAnswer (record { head = head; blocks = blocks }) (status_of answer) (answer_text answer)) }
 {
-    let bounds = bounds_of(alloc, &certificate)?;
+    let bounds = feed.finish(alloc)?;
     answer_to(alloc, bounds)
 }

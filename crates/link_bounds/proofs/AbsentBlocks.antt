@@ -1,13 +1,11 @@
 -- Of a link without a block only I2 can fail: there all is read as zero but B, which is 1.
-use Rattle.std.proofs.Common.{◌≡◌, ◌∙◌, ◌==◌, ℕ, Some, true, List, length, slice_index, ap, arith, sym}
+use Rattle.std.proofs.Common.{◌≡◌, ◌∙◌, ◌==◌, ℕ, Some, List, length, slice_index, ap, sym}
 use Rattle.std.specs.List.{slice_get}
-use Rattle.std.proofs.lemmas.Bool.{le-leb}
 use Rattle.te_model.specs.declared.certificate.Block.{Block}
 use Rattle.te_model.specs.declared.certificate.Head.{Head}
-use Rattle.te_model.specs.declared.network.Network.{Network}
 use Rattle.te_model.specs.Certificate.{block_of, empty_block}
 use Rattle.te_model.specs.Counting.{first_below, or_else, unless}
-use Rattle.te_model.specs.Inequalities.{failure_at, pays_weights, shares_failure}
+use Rattle.te_model.specs.Inequalities.{failure_at, shares_failure}
 use Rattle.te_model.proofs.Searches.{or_else-none}
 use Rattle.ratio_checker.specs.Ascending.{AscendsFrom}
 use Rattle.ratio_checker.specs.Shares.{AreShareNumbers}

@@ -3,10 +3,9 @@ pub mod SharesOn
 pub mod FirstThree
 pub mod FirstInfeasible
 pub mod AbsentBlocks
-pub mod SharedLinks
+pub mod FedBlocks
 pub mod NeedLaws
 pub mod SameNetworks
 pub mod RepricedValid
 pub mod RepricedHolds
 pub mod Rows
-pub mod OneNeed

@@ -1,7 +1,6 @@
 -- Of a repriced certificate I4 holds of every link, so the first of I1 to I3 that fails is the first inequality that does.
 use Rattle.std.proofs.Common.{◌≡◌, ◌∙◌, ℕ, ◌<◌, true, List, length, ap, arith, get_or, refl, subst, sym}
 use Rattle.std.specs.Prelude.{All, IsTrue, unwrap_or}
-use Rattle.std.proofs.lemmas.Bool.Decides.{nat_tests}
 use Rattle.std.proofs.lemmas.List.Elements.{All-from_get_or, All-get_or}
 use Rattle.te_model.specs.declared.certificate.Block.{Block}
 use Rattle.te_model.specs.declared.certificate.Certificate.{Certificate}
@@ -12,7 +11,7 @@ use Rattle.te_model.specs.Feasible.{infeasibility}
 use Rattle.te_model.specs.Inequalities.{block_failure, failure_at, of_link, pays_weights}
 use Rattle.te_model.specs.Network.{is_well_formed, link_count}
 use Rattle.link_bounds.specs.SameLinks.{AreSameLinks}
-use Rattle.te_model.specs.Validity.{IsValid, IsValidBlock, block_at, has_block_numbers}
+use Rattle.te_model.specs.Validity.{IsValid, IsValidBlock, block_at}
 use Rattle.te_model.proofs.ValidHeads.{block_link}
 use Rattle.te_model.proofs.Failures.{holds_from_none}
 use Rattle.te_model.proofs.FeasibleBlocks.{block_failure-parts, feasible_or_fails}

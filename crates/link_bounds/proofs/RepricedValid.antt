@@ -26,7 +26,6 @@ use Rattle.te_model.proofs.Valid.{rules_hold}
 use Rattle.te_model.proofs.ValidParts.{valid_parts}
 use Rattle.te_model.proofs.WellFormed.{well_formed_parts}
 use Rattle.best_blocks.proofs.Pushed.{all_tests}
-use Rattle.best_blocks.specs.Need.{HasNumbers}
 use Rattle.link_bounds.specs.Laws.{CanReprice, RepricingKeepsValidity}
 use Rattle.link_bounds.specs.Repriced.{greatest_need, repriced}
 use Rattle.link_bounds.proofs.SameNetworks.{nodes_same, path_same}

@@ -1,10 +1,16 @@
 -- The fields of a row one after another, and rows one after another.
-use Rattle.std.proofs.Common.{◌≡◌, ◌∙◌, ℕ, ◌+◌, ◌<◌, ◌≤◌, List, [], ◌∷◌, ◌++◌, append_assoc, ap, length, sym, take, get_or}
-use Rattle.std.specs.Prelude.{decimal, flat_map}
-use Rattle.std.proofs.lemmas.List.{take_all, take_more, flat_map_more}
-use Rattle.std.specs.List.{join_with_byte}
+use Rattle.std.proofs.Common.{◌≡◌, ◌∙◌, ℕ, ◌<◌, Bool, true, false, List, [], ◌∷◌, ◌++◌, append_assoc, ap, map, refl, slice_index}
+use Rattle.std.specs.Prelude.{All, decimal, filter, flat_map}
+use Rattle.std.specs.List.{join_with_byte, range_with_len}
+use Rattle.std.proofs.lemmas.List.Elements.{All-head, All-tail, All-weaker}
+use Rattle.te_model.specs.declared.certificate.Certificate.{Certificate}
+use Rattle.te_model.specs.declared.certificate.Head.{Head}
+use Rattle.te_model.specs.Network.{link_count}
+use Rattle.te_model.proofs.Lists.{range-below}
 use Rattle.link_bounds.specs.declared.needs.LinkNeed.{LinkNeed}
-use Rattle.link_bounds.specs.Table.{row_of}
+use Rattle.link_bounds.specs.Feeds.{HasNeeds}
+use Rattle.link_bounds.specs.Needs.{has_share, need_at}
+use Rattle.link_bounds.specs.Table.{bounds_text, header, need_row, row_of, row_where}
 
 -- five fields after a text, and the end of the line
 pub fields_after : (text a b c d e : List ℕ) →
@@ -23,9 +29,38 @@ pub row_after : (text source target : List ℕ) (capacity : ℕ) (n : LinkNeed) 
     ≡ text ++ row_of source target capacity n
 row_after text source target capacity n = fields_after text (decimal n.link) source target (decimal capacity) (decimal n.need)
 
--- the text of one item more, as a loop puts it at the end
-pub one_more : {X : Type 0} (f : X → List ℕ) (old now more : List ℕ) (xs : List X) (i : ℕ) (d : X) → i < length xs
-    → now ≡ old ++ flat_map f (take i xs) → more ≡ now ++ f (get_or xs i d) → more ≡ old ++ flat_map f (take (i + 1) xs)
-one_more {X} f old now more xs i d lt was put =
-    put ∙ ap (λ (o : List ℕ). o ++ f (get_or xs i d)) was ∙ flat_map_more f old (take i xs) (get_or xs i d)
-    ∙ ap (λ (ys : List X). old ++ flat_map f ys) (sym (take_more xs i d lt))
+-- the row of a link that has a share, and nothing of one that has none
+abbrev pub shared_row : Head → List ℕ → ℕ → List ℕ
+shared_row head needs e = row_where (has_share head.routes e) head.network (record { link = e; need = slice_index needs e })
+
+-- the rows of some links, where these are their needs
+pub shared_rows : (c : Certificate) (needs links : List ℕ) → All (λ e. slice_index needs e ≡ need_at c e) links →
+    flat_map (shared_row c.head needs) links
+    ≡ flat_map (need_row c.head.network) (map (λ e. record { link = e; need = need_at c e }) (filter (has_share c.head.routes) links))
+shared_rows c needs [] are = refl
+shared_rows c needs (e ∷ es) are =
+    at (shared_rows c needs es (All-tail (λ e. slice_index needs e ≡ need_at c e) e es are)) (has_share c.head.routes e) refl
+  where
+    row : ℕ → List ℕ
+    row need = need_row c.head.network (record { link = e; need = need })
+
+    at : flat_map (shared_row c.head needs) es
+        ≡ flat_map (need_row c.head.network) (map (λ e. record { link = e; need = need_at c e }) (filter (has_share c.head.routes) es)) →
+        (t : Bool) → has_share c.head.routes e ≡ t →
+        flat_map (shared_row c.head needs) (e ∷ es)
+        ≡ flat_map (need_row c.head.network) (map (λ e. record { link = e; need = need_at c e }) (filter (has_share c.head.routes) (e ∷ es)))
+    at later true is =
+        rw is
+        (ap (λ (r : List ℕ). r ++ flat_map (shared_row c.head needs) es) (ap row (All-head (λ e. slice_index needs e ≡ need_at c e) e es are))
+        ∙ ap (λ (rs : List ℕ). row (need_at c e) ++ rs) later)
+    at later false is = rw is later
+
+-- the table of all links
+pub whole_table : (c : Certificate) (needs : List ℕ) (n : ℕ) → n ≡ link_count c.head.network → HasNeeds c needs →
+    header ++ flat_map (shared_row c.head needs) (range_with_len 0 n) ≡ bounds_text c
+whole_table c needs n is has =
+    let links = link_count c.head.network in
+    ap (λ k. header ++ flat_map (shared_row c.head needs) (range_with_len 0 k)) is
+    ∙ ap (λ (rows : List ℕ). header ++ rows)
+    (shared_rows c needs (range_with_len 0 links)
+    (All-weaker (λ k. k < links) (λ e. slice_index needs e ≡ need_at c e) has.each (range_with_len 0 links) (range-below links links refl)))

@@ -3,5 +3,6 @@ pub mod Needs
 pub mod Table
 pub mod Proved
 pub mod Bounds
+pub mod Feeds
 pub mod Repriced
 pub mod Laws

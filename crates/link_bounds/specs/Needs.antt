@@ -1,7 +1,6 @@
 -- The needs of the links: of each link with a share the least ratio that its block allows.
 use Rattle.std.specs.Prelude.{ℕ, Bool, not, List, length, filter, map, ◌==◌, if◌then◌else◌}
 use Rattle.std.specs.List.{range_with_len}
-use Rattle.te_model.specs.declared.certificate.Block.{Block}
 use Rattle.te_model.specs.declared.certificate.Certificate.{Certificate}
 use Rattle.te_model.specs.declared.certificate.Head.{Head}
 use Rattle.te_model.specs.declared.route.PairRoutes.{PairRoutes}
@@ -31,8 +30,3 @@ needs_of c = map (λ e. record { link = e; need = need_at c e }) (shared_links c
 -- the need of a link with a share, and 0 of a link that no pair uses
 abbrev pub shared_need : Certificate → ℕ → ℕ
 shared_need c e = if has_share c.head.routes e then need_at c e else 0
-
--- the needs of the blocks of links with a share, one after another
-abbrev pub block_needs : Head → List Block → List LinkNeed
-block_needs head blocks =
-    map (λ b. record { link = b.link; need = need_of head.network b }) (filter (λ b. has_share head.routes b.link) blocks)

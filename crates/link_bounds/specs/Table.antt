@@ -1,5 +1,5 @@
 -- The table of the needs: fields apart by commas (44), lines ended by a line feed (10).
-use Rattle.std.specs.Prelude.{ℕ, List, [], ◌∷◌, ◌++◌, codes, decimal, flat_map}
+use Rattle.std.specs.Prelude.{ℕ, Bool, List, [], ◌∷◌, ◌++◌, codes, decimal, flat_map, if◌then◌else◌}
 use Rattle.std.specs.List.{join_with_byte}
 use Rattle.te_model.specs.declared.certificate.Certificate.{Certificate}
 use Rattle.te_model.specs.declared.network.Network.{Network}
@@ -18,6 +18,10 @@ row_of source target capacity n =
 -- the row of a link of the network
 abbrev pub need_row : Network → LinkNeed → List ℕ
 need_row net n = row_of (name_at net (tail_of net n.link)) (name_at net (head_of net n.link)) (capacity_of net n.link) n
+
+-- the row of a link that has a share, and nothing of one that has none
+abbrev pub row_where : Bool → Network → LinkNeed → List ℕ
+row_where shared net n = if shared then need_row net n else []
 
 -- the header, and a row for each of these
 abbrev pub table_text : Network → List LinkNeed → List ℕ

@@ -1,5 +1,5 @@
 //! Which of the first three inequalities of a certificate fails first.
-ghost use Rattle.std.specs.Prelude.{◌≡◌, All, IfOk};
+ghost use Rattle.std.specs.Prelude.{◌≡◌, ◌-◌, ◌≤◌, All, IfOk};
 ghost use Rattle.te_model.specs.Certificate.{block_of};
 ghost use Rattle.te_model.specs.Inequalities.{shares_failure};
 ghost use Rattle.te_model.specs.Network.{link_count};
@@ -9,6 +9,7 @@ ghost use Rattle.ratio_checker.specs.Checked.{CanCheckBlock, CanCheckHead};
 ghost use Rattle.ratio_checker.specs.Finding.{finding_of};
 ghost use Rattle.ratio_checker.specs.Shares.{AreShareNumbers, HasShares};
 ghost use Rattle.te_model.specs.Feasible.{first_infeasibility, infeasibility};
+ghost use Rattle.link_bounds.specs.Feeds.{infeasibility_from};
 
 use ratio_checker::Finding;
 use ratio_checker::blocks::blocks_after;
@@ -58,24 +59,29 @@ fn link_infeasibility(
     }
 }
 
-// The finding that the first of I1 to I3 that fails makes. Blocks ascend by their links, so one walk serves both.
-pub fn first_infeasibility(certificate: &Certificate, shares: &ShareTable) -> Finding
-    requires valid { IsValid certificate.now }
-    requires shares { HasShares certificate.now.head.routes (link_count certificate.now.head.network) shares.now }
-    ensures { result ≡ finding_of (first_infeasibility certificate.now) }
+// What is found of the links from this one on and below the end, of which these are the blocks. They ascend by their links, so one walk
+// serves both.
+pub fn infeasibility_from(
+    head: &Head,
+    blocks: &[Block],
+    shares: &ShareTable,
+    from: u32,
+    end: u32,
+) -> Finding
+    requires head { CanCheckHead head.now }
+    requires blocks { All (CanCheckBlock head.now) blocks.now }
+    requires ascend { AscendsFrom (λ b. b.link) from blocks.now }
+    requires shares { HasShares head.now.routes (link_count head.now.network) shares.now }
+    requires above { from ≤ end }
+    requires within { end ≤ link_count head.now.network }
+    ensures { result ≡ finding_of (infeasibility_from head.now blocks.now from (end - from)) }
 {
-    let mut blocks = certificate.blocks.as_slice();
-    for e in 0..certificate.head.network.links.as_slice().len() {
-        let link = e as u32;
-        if let Some(failure) = link_infeasibility(
-            &certificate.head,
-            blocks,
-            link,
-            shares.on(link),
-        ) {
+    let mut rest = blocks;
+    for link in from..end {
+        if let Some(failure) = link_infeasibility(head, rest, link, shares.on(link)) {
             return finding_on(link, failure);
         }
-        blocks = blocks_after(blocks, link);
+        rest = blocks_after(rest, link);
     }
     Finding::Yes
 }
@@ -88,5 +94,7 @@ pub fn find_infeasibility(alloc: Global, certificate: &Certificate) -> Result<Fi
     ensures { IfOk result (λ finding. finding ≡ finding_of (first_infeasibility certificate.now)) }
 {
     let shares = ShareTable::new(alloc, &certificate.head)?;
-    Ok(first_infeasibility(certificate, &shares))
+    let links = certificate.head.network.links.as_slice().len() as u32;
+    let blocks = certificate.blocks.as_slice();
+    Ok(infeasibility_from(&certificate.head, blocks, &shares, 0, links))
 }

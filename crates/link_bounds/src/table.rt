@@ -1,14 +1,19 @@
 //! The table of the needs.
-ghost use Rattle.std.specs.Prelude.{◌≡◌, ◌<◌, ◌++◌, ◌∷◌, All, IfOk, OnOk, decimal};
-ghost use Rattle.te_model.specs.declared.certificate.Block.{Block};
-ghost use Rattle.te_model.specs.declared.certificate.Head.{Head};
+ghost use Rattle.std.specs.Prelude.{◌≡◌, ◌<◌, ◌++◌, ◌∷◌, IfOk, List, OnOk, decimal, length};
+ghost use Rattle.te_model.specs.declared.certificate.Certificate.{Certificate};
+ghost use Rattle.te_model.specs.declared.route.PairRoutes.{PairRoutes};
 ghost use Rattle.te_model.specs.Laws.{LinksJoinNodes};
 ghost use Rattle.te_model.specs.Network.{link_count};
-ghost use Rattle.link_bounds.specs.Table.{header, need_row, row_of, table_text};
+ghost use Rattle.ratio_checker.specs.Checked.{CanCheckHead};
+ghost use Rattle.ratio_checker.specs.Shares.{AreShareNumbers, HasShares};
+ghost use Rattle.link_bounds.specs.Feeds.{HasNeeds};
+ghost use Rattle.link_bounds.specs.Needs.{has_share};
+ghost use Rattle.link_bounds.specs.Table.{bounds_text, need_row, row_of, row_where};
 
-use crate::needs::LinkNeed;
+use crate::needs::{LinkNeed, has_share};
+use ratio_checker::share_table::ShareTable;
 use std::alloc::Global;
-use te_model::{Memory, Network};
+use te_model::{Head, Memory, Network};
 
 // Writes a comma and a field.
 fn print_field(text: &mut Vec<u8>, field: &str) -> Result<(), Memory>
@@ -57,15 +62,44 @@ fn print_need(text: &mut Vec<u8>, network: &Network, row: LinkNeed) -> Result<()
     print_row(text, source.as_str(), target.as_str(), link.capacity, row)
 }
 
-// The table of these needs.
-pub fn table_text(alloc: Global, network: &Network, needs: &[LinkNeed]) -> Result<Vec<u8>, Memory>
-    requires links { All (λ n. n.link < link_count network.now) needs.now }
+// Writes the row where some pair sends over the link, on which these are the shares.
+fn print_shared(
+    text: &mut Vec<u8>,
+    network: &Network,
+    shares: &[u32],
+    row: LinkNeed,
+) -> Result<(), Memory>
+    requires link { row.link < link_count network.now }
     requires ends { LinksJoinNodes network.now }
-    ensures { IfOk result (λ text. text.items ≡ table_text network.now needs.now) }
+    ensures { (routes : List PairRoutes) → AreShareNumbers routes row.link shares.now →
+        OnOk result (text.new.items ≡ text.old.items ++ row_where (has_share routes row.link) network.now row) }
+{
+    if has_share(shares) {
+        print_need(text, network, row)?;
+    }
+    Ok(())
+}
+
+// The table of a head with these shares, and with these needs of its links.
+pub fn table_text(
+    alloc: Global,
+    head: &Head,
+    shares: &ShareTable,
+    needs: &[u128],
+) -> Result<Vec<u8>, Memory>
+    requires head { CanCheckHead head.now }
+    requires ends { LinksJoinNodes head.now.network }
+    requires shares { HasShares head.now.routes (link_count head.now.network) shares.now }
+    requires count { length needs.now ≡ link_count head.now.network }
+    ensures { (c : Certificate) → c.head ≡ head.now → HasNeeds c needs.now → IfOk result (λ text. text.items ≡ bounds_text c) }
 {
     let mut text = Vec::from_slice(alloc, b"link,source,target,capacity,need\n")?;
-    for need in needs {
-        print_need(&mut text, network, *need)?;
+    for e in 0..needs.len() {
+        let row = LinkNeed {
+            link: e as u32,
+            need: needs[e],
+        };
+        print_shared(&mut text, &head.network, shares.on(row.link), row)?;
     }
     Ok(text)
 }

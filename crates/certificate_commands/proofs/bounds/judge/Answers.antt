@@ -1,4 +1,4 @@
 use Rattle.certificate_commands.proofs.bounds.judge.Goals as goal
 
 pub returns : goal.returns
-returns c = c.answer_to.ensures c.args.certificate c.in_ok-bounds.ensures
+returns c = λ head blocks stands. c.answer_to.ensures (record { head = head; blocks = blocks }) (c.in_ok-bounds.ensures head blocks stands)

@@ -1,8 +1,9 @@
 use Rattle.std.proofs.Common.{◌≡◌, ◌++◌}
 use Rattle.std.specs.Prelude.{flat_map}
-use Rattle.std.proofs.Common.{take}
-use Rattle.link_bounds.specs.Table.{header, need_row}
+use Rattle.std.specs.List.{range_with_len}
+use Rattle.link_bounds.specs.Table.{header}
+use Rattle.link_bounds.proofs.Rows.{shared_row}
 use Rattle.link_bounds.proofs.table.table_text.Given as goal
 
-abbrev pub invariant-loop-need : goal.invariant-loop-need
-invariant-loop-need l = l.text.items ≡ header ++ flat_map (need_row l.network) (take l.need-index l.needs)
+abbrev pub invariant-loop-e : goal.invariant-loop-e
+invariant-loop-e l = l.text.items ≡ header ++ flat_map (shared_row l.head l.needs) (range_with_len 0 l.e)

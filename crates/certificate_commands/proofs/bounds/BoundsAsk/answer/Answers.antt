@@ -11,14 +11,15 @@ use Rattle.certificate_commands.proofs.bounds.BoundsAsk.answer.Goals as goal
 pub returns-in_err-judge : goal.returns-in_err-judge
 returns-in_err-judge g c =
     let p = err_from_is_err_and c.from_residual-in_err-judge.result c.from_residual-in_err-judge.ensures.1 in
-    let spelled = c.in_ok-spelled.spelled in
+    let fed = c.in_ok-feed.ensures in
+    let spelled : Certificate = record { head = fed.0; blocks = fed.1 } in
     rw (p.1, p.2)
-    (goes_on Certificate certificates c.args.self.now.certificate.now (λ spelled. answers (bounds_of spelled)) spelled _ _ _ (Err Memory)
-    c.in_ok-spelled.ensures.reads (falls_short (answers (bounds_of spelled)) _))
+    (goes_on Certificate certificates c.args.self.now.certificate.now (λ spelled. answers (bounds_of spelled)) spelled _ _ _ (Err Memory) fed.3
+    (falls_short (answers (bounds_of spelled)) _))
 
 pub returns : goal.returns
 returns g c =
-    let spelled = c.in_ok-spelled.spelled in
-    goes_on Certificate certificates c.args.self.now.certificate.now (λ spelled. answers (bounds_of spelled)) spelled _ _ _
-    (Ok c.in_ok-judge.field-0) c.in_ok-spelled.ensures.reads
-    (ends (bounds_of spelled) _ c.in_ok-judge.field-0 c.in_ok-judge.ensures)
+    let fed = c.in_ok-feed.ensures in
+    let spelled : Certificate = record { head = fed.0; blocks = fed.1 } in
+    goes_on Certificate certificates c.args.self.now.certificate.now (λ spelled. answers (bounds_of spelled)) spelled _ _ _ (Ok c.in_ok-judge.field-0) fed.3
+    (ends (bounds_of spelled) _ c.in_ok-judge.field-0 (c.in_ok-judge.ensures fed.0 fed.1 fed.2))

@@ -1,0 +1,10 @@
+use Rattle.link_bounds.specs.declared.bounds.BoundsFeed.{BoundsFeed}
+use Rattle.command_files.proofs.Feeding.{refuses}
+use Rattle.certificate_commands.proofs.FedBounds.{fed_file}
+use Rattle.certificate_commands.proofs.feeding.bounds_in.Goals as goal
+
+pub returns-in-Ok : goal.returns-in-Ok
+returns-in-Ok g c = fed_file _ _ _ _ c.in-Ok.ensures.reads c.in-Ok.ensures.whole
+
+pub returns-in-Err : goal.returns-in-Err
+returns-in-Err g c = refuses {A = BoundsFeed} _ _ _ c.in-Err.fault _ c.in-Err.ensures.reads c.answer_to.ensures

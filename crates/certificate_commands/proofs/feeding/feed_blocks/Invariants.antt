@@ -1,0 +1,12 @@
+use Rattle.block_reader.specs.Blocks.{blocks_left}
+use Rattle.te_ports.specs.Shown.{shown_by}
+use Rattle.certificate_commands.proofs.FedBounds.{StandsFed}
+use Rattle.certificate_commands.proofs.feeding.feed_blocks.Given as goal
+
+abbrev pub invariant-rest : goal.invariant-rest
+invariant-rest g l =
+    StandsFed l.file (shown_by g.D.Depot.content g.D.Depot.gave g.D.Depot.faults l.fn.depot)
+    (shown_by g.D.Depot.content g.D.Depot.gave g.D.Depot.faults l.depot) l.reader l.feed
+
+abbrev pub decreases-rest : goal.decreases-rest
+decreases-rest g l = blocks_left l.reader

@@ -1,5 +1,0 @@
-use Rattle.ratio_checker.proofs.Validity.{valid_head}
-use Rattle.link_bounds.proofs.bounds.bounds_of.Goals as goal
-
-pub new-requires : goal.new-requires
-new-requires c = valid_head c.args.certificate.now c.requires
