@@ -30,15 +30,14 @@ def wide_ring(nodes):
     return [f"n{tail},n{head},{2 ** (13 * place % 33)},1" for place, (tail, head) in enumerate(both)]
 
 
-# By network: its links, the demands, and the greatest ratio that may be published. The least that any routing has is 1 where the limit is near 1, and also of
-# the parallel links; 1.908 of the one-way links, and of the capacities from 1 to 2^32 some 1.52: by linear programs in floating point. So far apart the sweeps
-# do not find it.
+# By network: its links, the demands, and the greatest ratio that may be published. The least that any routing has is 1 where the limit is near 1; 1.908 of the
+# one-way links and 1.522 of the capacities from 1 to 2^32, by linear programs in floating point. Of the last ones the limit is 1.2 times the least.
 NETWORKS = {
     "two parallel links": (PARALLEL_LINKS, ["0,a,b,40"], 1.002),
-    "parallel links of 1, 2^16 and 2^32": (["a,b,1,1", "a,b,65536,1", "a,b,4294967296,1"], ["0,a,b,40"], 6),
+    "parallel links of 1, 2^16 and 2^32": (["a,b,1,1", "a,b,65536,1", "a,b,4294967296,1"], ["0,a,b,40"], 1.001),
     "a line": (line(6), exchange(6), 1.0001),
     "one-way links": (one_way_ring(8), exchange(8), 2.05),
-    "capacities from 1 to 2^32": (wide_ring(6), exchange(6), 1000),
+    "capacities from 1 to 2^32": (wide_ring(6), exchange(6), 1.2 * 1.522),
     "one pair": (DIAMOND, ["0,a,d,10"], 1.01),
     "pairs that share nothing": (["a,b,10,1", "c,d,30,1"], ["0,a,b,1", "0,c,d,1"], 1.0001),
 }

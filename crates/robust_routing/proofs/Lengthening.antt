@@ -1,7 +1,12 @@
--- Lists of lengths, of weights and of paths that grow by one.
-use Rattle.std.proofs.Common.{ℕ, ◌+◌, ◌≤◌, ◌^◌, List, [], ◌∷◌, ◌++◌, arith, ap, refl, ◌∙◌}
-use Rattle.std.proofs.lemmas.List.{length_push}
-use Rattle.std.proofs.lemmas.List.Elements.{All-push}
+-- Lengths that grow by one, and those by inverse capacities.
+use Rattle.std.proofs.Common.{◌≡◌, ℕ, ◌+◌, ◌≤◌, ◌^◌, true, All, List, [], ◌∷◌, ◌++◌, length, replicate, arith, ap, refl, sym, subst, ◌∙◌}
+use Rattle.std.proofs.lemmas.List.{length_push, length-replicate}
+use Rattle.std.proofs.lemmas.List.Elements.{All-push, All-replicate}
+use Rattle.te_model.specs.declared.network.Network.{Network}
+use Rattle.te_model.specs.Network.{is_well_formed, link_count}
+use Rattle.multiplicative_lengths.specs.Growth.{length_of, lengths_of}
+use Rattle.multiplicative_lengths.proofs.EachLink.{count_each}
+use Rattle.multiplicative_lengths.proofs.LengthLimits.{lengths_limit, lengths_some}
 use Rattle.robust_routing.specs.Lengths.{AreLengths}
 
 pub lengths_none : AreLengths 0 []
@@ -13,3 +18,13 @@ lengths_more n lengths l are some small = record {
   positive = All-push (λ (x : ℕ). 1 ≤ x) lengths l are.positive some;
   small = All-push (λ (x : ℕ). x ≤ 2 ^ 28) lengths l are.small small;
 }
+
+-- lengths by multipliers of 1
+pub lengths_by_ones : (net : Network) {ones lengths : List ℕ} → is_well_formed net ≡ true → ones ≡ replicate (link_count net) 1 →
+    lengths ≡ lengths_of net ones → AreLengths (link_count net) lengths
+lengths_by_ones net {ones} {lengths} formed is made =
+    let n = link_count net in
+    let count : length ones ≡ n = ap (λ (l : List ℕ). length l) is ∙ length-replicate {A = ℕ} n 1 in
+    let some : All (λ (m : ℕ). 1 ≤ m) ones = subst (All (λ (m : ℕ). 1 ≤ m)) (sym is) (All-replicate (λ (m : ℕ). 1 ≤ m) n 1 (omega arith)) in
+    subst (AreLengths n) (sym made)
+    (record { count = count_each net (length_of net ones); positive = lengths_some net ones formed count some; small = lengths_limit net ones })

@@ -1,6 +1,5 @@
 -- Limits of the numbers of paths.
-use Rattle.std.proofs.Common.{◌≤◌, ℕ, List, length, arith}
-use Rattle.std.proofs.lemmas.List.Elements.{All-weaker}
+use Rattle.std.proofs.Common.{ℕ, List, arith}
 use Rattle.te_model.specs.declared.route.PairRoutes.{PairRoutes}
 use Rattle.routing.specs.Routes.{HasFewPaths}
 use Rattle.routing.proofs.FewPaths.{few_more}

@@ -1,17 +1,21 @@
 //! The sweeps: each goes over the links and then over the pairs, and the routing of the best one is kept.
-ghost use Rattle.std.specs.Prelude.{◌≤◌, All, IfOk, IsTrue, OnOk};
+ghost use Rattle.std.specs.Prelude.{◌≡◌, ◌≤◌, All, IfOk, IsTrue, OnOk};
 ghost use Rattle.te_model.specs.Network.{is_well_formed};
+ghost use Rattle.shortest_path.specs.declared.rows.Direction.TheVariants.{Backward};
+ghost use Rattle.shortest_path.specs.Links.{every_link};
+ghost use Rattle.shortest_path.specs.Rows.{IsSearchGraph};
 ghost use Rattle.routing.specs.Routes.{HasFewPaths, IsRoutingOf};
 ghost use Rattle.scheme.specs.Reach.{IsPairOf};
-ghost use Rattle.robust_routing.specs.Joint.{IsJoint, IsRound};
+ghost use Rattle.robust_routing.specs.Joint.{ArePathsOfPairs, IsJoint, IsRound};
 ghost use Rattle.robust_routing.specs.Weights.{AreWeightsOfLinks};
 
 use crate::links::sweep_links;
+use crate::lowering::lower_rates;
 use crate::pairs::sweep_pairs;
 use crate::rates::PathRates;
 use crate::round::Round;
 use crate::split::routing_of;
-use crate::start::rates_of;
+use crate::start::{inverse_capacities, move_to_least, rates_of};
 use crate::sweep::{SWEEPS, sweep_of};
 use crate::tables::{Tables, first_tables, write_shares};
 use crate::weights::first_weights;
@@ -40,9 +44,37 @@ pub struct Joint {
     pub least: Option<u64>,
 }
 
-/// Where the sweeps begin, with the first path of each pair in the routing.
+/// The least path of each pair by inverse capacities, or its first path in the routing where that is no longer.
+///
+/// The searches are against links, and every link is open.
+fn first_paths(
+    alloc: Global,
+    net: &Network,
+    pairs: &[Pair],
+    searches: &mut Searches,
+    open: &[bool],
+    start: &Routing,
+) -> Result<Vec<PathRates>, Memory>
+    requires network { IsTrue (is_well_formed net.now) }
+    requires pairs { All (IsPairOf net.now) pairs.now }
+    requires against { IsSearchGraph net.now Backward searches.old }
+    requires every { «open».now ≡ every_link net.now }
+    requires routing { IsRoutingOf net.now pairs.now start.now.routes }
+    ensures same { searches.new ≡ searches.old }
+    ensures rates { IfOk result (λ l. ArePathsOfPairs net.now 1 pairs.now l.items) }
+{
+    let sweep = sweep_of(0, None);
+    let round = Round { net, pairs, sweep };
+    let lengths = inverse_capacities(alloc, net)?;
+    let mut rates = rates_of(alloc, net, pairs, start)?;
+    move_to_least(alloc, &round, searches, open, &lengths, &mut rates)?;
+    Ok(rates)
+}
+
+/// Where the sweeps begin, with one path for each pair: its least one by inverse capacities.
 fn begin(alloc: Global, net: &Network, pairs: &[Pair], start: Routing) -> Result<Joint, Memory>
     requires network { IsTrue (is_well_formed net.now) }
+    requires pairs { All (IsPairOf net.now) pairs.now }
     requires routing { IsRoutingOf net.now pairs.now start.routes }
     requires few { HasFewPaths 1 start.routes }
     ensures { IfOk result (IsJoint net.now pairs.now 1) }
@@ -50,11 +82,11 @@ fn begin(alloc: Global, net: &Network, pairs: &[Pair], start: Routing) -> Result
     let links = net.links.as_slice().len();
     let weights = first_weights(alloc, net)?;
     let proving = first_weights(alloc, net)?;
-    let rates = rates_of(alloc, net, pairs, &start)?;
     let tables = first_tables(alloc, links, pairs.len())?;
     let along = Searches::with_orders(alloc, net, Direction::Forward)?;
-    let against = Searches::with_orders(alloc, net, Direction::Backward)?;
+    let mut against = Searches::with_orders(alloc, net, Direction::Backward)?;
     let every = vec![in alloc; true; links]?;
+    let rates = first_paths(alloc, net, pairs, &mut against, &every, &start)?;
     Ok(Joint {
         weights,
         rates,
@@ -114,6 +146,7 @@ fn take_sweep(alloc: Global, round: &Round, limit: usize, joint: &mut Joint) -> 
         &mut joint.tables.quotients,
     )?;
     keep_best(alloc, round.net, round.pairs, limit, joint, after, ratio)?;
+    lower_rates(alloc, round.sweep, &joint.tables, &mut joint.rates)?;
     sweep_pairs(
         alloc,
         round,

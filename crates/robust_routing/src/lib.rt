@@ -13,6 +13,7 @@ mod law;
 mod lengths;
 mod links;
 mod loads;
+mod lowering;
 mod moving;
 mod offering;
 mod pairs;

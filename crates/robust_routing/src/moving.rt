@@ -76,7 +76,7 @@ fn fastest(rates: &[u64]) -> usize {
 }
 
 /// Scales the rates to the whole, and leaves out those of less than a millionth. What is left goes to the first of the greatest.
-fn level(rates: &mut [u64]) {
+pub fn level(rates: &mut [u64]) {
     let total = total_of(rates).max(1);
     for rate in rates.iter_mut() {
         *rate = part_of(*rate, total);

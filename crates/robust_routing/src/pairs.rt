@@ -18,7 +18,9 @@ use std::alloc::Global;
 use te_model::{Memory, Pair};
 
 /// Moves the rates of a pair by the lengths of the links. Where the pair looks for a path, it may take up one more before.
-fn shift_pair(
+///
+/// The searches are against links, and every link is open. `Memory` comes where memory is wanting.
+pub fn shift_pair(
     alloc: Global,
     round: &Round,
     searches: &mut Searches,

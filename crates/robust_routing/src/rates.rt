@@ -1,7 +1,7 @@
 //! The paths of a pair, and at what rates it sends over them.
 ghost use Rattle.std.specs.Prelude.{◌<◌, ◌≤◌};
 
-use crate::moving::move_rates;
+use crate::moving::{level, move_rates};
 use crate::sweep::{Sweep, WHOLE};
 use std::alloc::Global;
 use std::marker::Model;
@@ -70,6 +70,14 @@ impl PathRates {
     /// Lends the rates.
     pub fn rates(&self) -> &[u64] {
         self.rates.as_slice()
+    }
+
+    /// Puts these rates, scaled to the whole demand, in place of the rates.
+    pub fn set_rates(&mut self, rates: Vec<u64>)
+        ensures { self.new ≡ self.old }
+    {
+        self.rates = rates;
+        level(&mut self.rates);
     }
 
     /// Moves the rates by the costs of their paths.

@@ -1,11 +1,20 @@
-//! The rates of a routing that gives each pair one path.
-ghost use Rattle.std.specs.Prelude.{◌≤◌, IfOk, length};
+//! Where the rates begin: one path for each pair, that of a routing or its least one by inverse capacities.
+ghost use Rattle.std.specs.Prelude.{◌≡◌, ◌≤◌, IfOk, IsTrue, OnOk, length};
+ghost use Rattle.te_model.specs.Network.{is_well_formed, link_count};
 ghost use Rattle.te_model.specs.PathRouting.{IsPathSplit};
-ghost use Rattle.robust_routing.specs.Joint.{ArePathsOfPairs, ArePathsWithin};
+ghost use Rattle.shortest_path.specs.declared.rows.Direction.TheVariants.{Backward};
+ghost use Rattle.shortest_path.specs.Links.{every_link};
+ghost use Rattle.shortest_path.specs.Rows.{IsSearchGraph};
+ghost use Rattle.robust_routing.specs.Joint.{ArePathsOfPairs, ArePathsWithin, IsRound};
+ghost use Rattle.robust_routing.specs.Lengths.{AreLengths};
 ghost use Rattle.routing.specs.Routes.{HasFewPaths, IsRoutingOf};
 
+use crate::pairs::shift_pair;
 use crate::rates::PathRates;
+use crate::round::Round;
+use multiplicative_lengths::lengths_of;
 use routing::Routing;
+use shortest_path::Searches;
 use std::alloc::Global;
 use te_model::{Items, Memory, Network, Pair, PairRoutes, Path};
 
@@ -36,4 +45,50 @@ pub fn rates_of(
         list.push(first_rates(alloc, net, &routes[p])?)?;
     }
     Ok(list)
+}
+
+/// The length of each link: the greatest capacity over its own, rounded up, and at most 2^28. `Memory` comes where memory is wanting.
+pub fn inverse_capacities(alloc: Global, net: &Network) -> Result<Vec<u64>, Memory>
+    requires { IsTrue (is_well_formed net.now) }
+    ensures { IfOk result (λ l. AreLengths (link_count net.now) l.items) }
+{
+    let ones = vec![in alloc; 1; net.links.as_slice().len()]?;
+    let lengths = lengths_of(alloc, net, &ones)?;
+    Ok(lengths)
+}
+
+/// Moves the whole demand of each pair to its least path by the lengths, where its own path is longer by more than a thousandth.
+///
+/// The searches are against links, and every link is open. `Memory` comes where memory is wanting.
+pub fn move_to_least(
+    alloc: Global,
+    round: &Round,
+    searches: &mut Searches,
+    open: &[bool],
+    lengths: &[u64],
+    list: &mut [PathRates],
+) -> Result<(), Memory>
+    requires round { IsRound round.now }
+    requires against { IsSearchGraph round.now.net.now Backward searches.old }
+    requires every { «open».now ≡ every_link round.now.net.now }
+    requires lengths { AreLengths (link_count round.now.net.now) lengths.now }
+    requires list { ArePathsOfPairs round.now.net.now 1 round.now.pairs.now list.old }
+    ensures same { searches.new ≡ searches.old }
+    ensures list { OnOk result (ArePathsOfPairs round.now.net.now 1 round.now.pairs.now list.new) }
+{
+    for p in 0..list.len() {
+        let pair = round.pairs[p];
+        shift_pair(
+            alloc,
+            round,
+            searches,
+            open,
+            lengths,
+            pair,
+            true,
+            1,
+            &mut list[p],
+        )?;
+    }
+    Ok(())
 }

@@ -149,6 +149,14 @@ impl Sweep {
         (share + self.slack) * QUOTIENT_UNIT / (allowance + self.slack)
     }
 
+    /// The share that is allowed where a share has this quotient, to within what the quotient's rounding leaves open.
+    pub fn allowed(self, share: u64, quotient: u64) -> u64
+        requires sweep { IsSweep self }
+        requires share { share < 2 ^ 32 }
+    {
+        ((share + self.slack) * QUOTIENT_UNIT / quotient.max(1)).saturating_sub(self.slack)
+    }
+
     /// How much a pair or link of this quotient counts beside one of the greatest: that counts `WHOLE`.
     pub fn nearness(self, greatest: u64, quotient: u64) -> u64
         requires { IsSweep self }

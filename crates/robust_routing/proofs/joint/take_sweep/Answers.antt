@@ -1,5 +1,6 @@
-use Rattle.std.proofs.Common.{◌≡◌, ◌∙◌, length, sym, subst}
+use Rattle.std.proofs.Common.{◌≡◌, ◌∙◌, List, length, ap, sym, subst}
 use Rattle.std.proofs.lemmas.Result.{on_ok_weaker}
+use Rattle.te_model.specs.declared.route.Path.{Path}
 use Rattle.te_model.proofs.Lists.{written_whole}
 use Rattle.shortest_path.specs.declared.rows.Direction.TheVariants.{Backward, Forward}
 use Rattle.shortest_path.specs.Rows.{IsSearchGraph}
@@ -25,7 +26,12 @@ keep_best-requires-clause-joint c =
 
 pub sweep_pairs-requires-clause-list : goal.sweep_pairs-requires-clause-list
 sweep_pairs-requires-clause-list c =
-    subst (ArePathsOfPairs c.args.round.now.net.now c.args.limit c.args.round.now.pairs.now) (sym c.deref_mut.ensures.value) c.in_ok-keep_best.ensures.paths
+    let rates = c.keep_best.new.joint.rates in
+    let lowered = c.lower_rates.new.list in
+    let same : lowered ≡ rates.items = c.in_ok-lower_rates.ensures ∙ c.deref_mut.ensures.value in
+    let written = written_whole rates.len lowered rates.items (ap (λ (l : List (List Path)). length l) same) rates.ok.0 in
+    subst (ArePathsOfPairs c.args.round.now.net.now c.args.limit c.args.round.now.pairs.now) (sym (c.deref_mut-2.ensures.value ∙ (written ∙ same)))
+    c.in_ok-keep_best.ensures.paths
 
 pub sweep_pairs-requires-clause-every : goal.sweep_pairs-requires-clause-every
 sweep_pairs-requires-clause-every c = c.deref-3.ensures.value ∙ c.in_ok-keep_best.ensures.every
@@ -36,12 +42,16 @@ returns c =
     let pairs = c.args.round.now.pairs.now in
     let joint = c.keep_best.new.joint in
     let is = c.in_ok-keep_best.ensures in
+    let rates = joint.rates in
+    let lowered = c.lower_rates.new.list in
+    let same : lowered ≡ rates.items = c.in_ok-lower_rates.ensures ∙ c.deref_mut.ensures.value in
+    let written = written_whole rates.len lowered rates.items (ap (λ (l : List (List Path)). length l) same) rates.ok.0 in
     let new = c.sweep_pairs.new.list in
     on_ok_weaker c.sweep_pairs.result (λ (paths : ArePathsOfPairs net c.args.limit pairs new).
-    let kept : length new ≡ length joint.rates.items = paths.count ∙ sym is.paths.count in
+    let kept : length new ≡ length rates.items = paths.count ∙ sym is.paths.count in
     record {
       weights = is.weights;
-      paths = rw (written_whole joint.rates.len new joint.rates.items kept joint.rates.ok.0) paths;
+      paths = rw (written ∙ same, written_whole rates.len new rates.items kept rates.ok.0) paths;
       along = is.along;
       against = subst (IsSearchGraph net Backward) (sym c.sweep_pairs.ensures.same) is.against;
       every = is.every;
