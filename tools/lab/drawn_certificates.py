@@ -80,20 +80,31 @@ def numbers_text(numbers):
     return "".join(f" {it}" for it in numbers)
 
 
-def head_of(draw):
-    """A certificate without blocks, up to its ratio."""
-    format_number, nodes = draw.choice((1, 2)), draw.choice((2, 3, 4, 5, 6))
-    links, routes = links_of(draw, nodes), []
+def routes_of(draw, nodes, links):
+    """The lines of drawn pairs and their paths."""
+    routes = []
     for src in range(nodes):
         for dst in range(nodes):
             paths = paths_of(draw, links, src, dst) if src != dst and draw.randrange(2) else []
             if paths:
                 rows = "".join(f"{weight} {len(path)}{numbers_text(path)}\n" for weight, path in zip(weights_of(draw, len(paths)), paths))
                 routes.append(f"{src} {dst} {len(paths)}\n{rows}")
-    names = "".join(f"n{node}\n" for node in range(nodes))
+    return routes
+
+
+def head_over(draw, format_number, names, links):
+    """A certificate of a network without blocks, up to its ratio."""
+    routes = routes_of(draw, len(names), links)
     rows = "".join(f"{tail} {head} {capacity} {cost}\n" for tail, head, capacity, cost in links)
-    network = f"nodes {nodes}\n{names}links {len(links)}\n{rows}"
+    lines = "".join(f"{name}\n" for name in names)
+    network = f"nodes {len(names)}\n{lines}links {len(links)}\n{rows}"
     return f"yates-ratio {format_number}\n{network}pairs {len(routes)}\n{''.join(routes)}{set_of(draw, format_number, len(routes))}"
+
+
+def head_of(draw):
+    """The same of a drawn network."""
+    format_number, nodes = draw.choice((1, 2)), draw.choice((2, 3, 4, 5, 6))
+    return head_over(draw, format_number, [f"n{node}" for node in range(nodes)], links_of(draw, nodes))
 
 
 def potentials(made, weights, source):

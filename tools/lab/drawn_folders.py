@@ -32,12 +32,14 @@ def case(seed, number):
     return files
 
 
-def reading_in(folder, step=None):
-    """What the readers of `tools/explain` find in the folder, of a series that has to have the step, if one is given."""
+def reading_in(folder, step=None, cert=None):
+    """What the readers of `tools/explain` find in the folder, of a series that has to have the step, and of a network and pairs that have to be those
+    of the certificate, where one is given.
+    """
     before = os.getcwd()
     os.chdir(folder)
     try:
-        return Reading(PLAN, False, step)
+        return Reading(PLAN, False, step, cert)
     finally:
         os.chdir(before)
 

@@ -11,7 +11,8 @@ import reference_rates
 import reference_witness
 
 from . import (
-    answers, campaigns, changes, drawn_certificates, drawn_folders, drawn_hoses, drawn_rates, drawn_updates, failing_calls, large_certificates, limits, program,
+    answers, campaigns, changes, drawn_certificates, drawn_folders, drawn_hoses, drawn_rates, drawn_simulations, drawn_updates, failing_calls, large_certificates,
+    limits, program,
 )
 from .inputs import read_failures, read_matrices, read_topology
 from .plans import read_plan
@@ -104,14 +105,15 @@ def faults_of_drawn():
         faults += [f"network {number // drawn_certificates.OF_ONE}: {told}"] * (told[2] != 0)
         statuses.append(reference_check.check_bytes("c", drawn_certificates.case(7, number)["c"])[2])
     faults += [f"{statuses.count(it)} of {len(statuses)} have status {it}" for it in (0, 1, 3) if 5 * statuses.count(it) < len(statuses)]
-    cases = [(kind.case(7, number), kind.case(7, number)) for kind in (drawn_certificates, drawn_updates, drawn_rates, drawn_hoses, drawn_folders, answers) for number in range(4)]
+    kinds = (drawn_certificates, drawn_updates, drawn_rates, drawn_hoses, drawn_folders, drawn_simulations, answers)
+    cases = [(kind.case(7, number), kind.case(7, number)) for kind in kinds for number in range(4)]
     return faults + ["another case the second time"] * any(first != second for first, second in cases)
 
 
 @contextlib.contextmanager
 def program_that_answers(answer):
     """Another program in the place of the one that is built."""
-    modules, other = (answers, drawn_certificates, drawn_folders, large_certificates), types.SimpleNamespace(answer=answer, TOP=program.TOP)
+    modules, other = (answers, drawn_certificates, drawn_folders, drawn_simulations, large_certificates), types.SimpleNamespace(answer=answer, TOP=program.TOP)
     for module in modules:
         module.program = other
     try:
@@ -129,7 +131,7 @@ def faults_of_silence():
     """Over a program that answers nothing each kind finds something wrong."""
     faults = []
     with tempfile.TemporaryDirectory() as work, program_that_answers(silent):
-        for kind in (drawn_certificates, drawn_updates, drawn_folders, answers):
+        for kind in (drawn_certificates, drawn_updates, drawn_folders, drawn_simulations, answers):
             campaign = campaigns.Campaign(kind, 7, work, work)
             found = [campaign.judged(kind.case(7, number), number) for number in range(DRAWN)]
             right = sum(not wrong for _, wrong in found)
@@ -176,7 +178,7 @@ def faults_with_program(load):
         said, status = said_by(load(name), words)
         faults += [said] if status or text not in said else []
     with tempfile.TemporaryDirectory() as folder:
-        for kind, cases in (("certificates", 12), ("updates", 8), ("inputs", 8), ("answers", 1)):
+        for kind, cases in (("certificates", 12), ("updates", 8), ("inputs", 8), ("simulations", 8), ("answers", 1)):
             said, status = said_by(load("campaign"), [kind, "--cases", str(cases), "--seed", "7", "--jobs", "1", "--folder", os.path.join(folder, kind)])
             faults += [said] if status or f"{kind}: {cases} cases" not in said else []
     return faults
