@@ -1,3 +1,4 @@
 pub mod Amounts
+pub mod Found
 pub mod LinksTo
 pub mod Measured

@@ -8,6 +8,7 @@
 mod amount;
 mod lengths;
 mod links;
+mod longest;
 mod ways;
 
 pub use amount::{amount_of, nearness};

@@ -5,11 +5,12 @@ ghost use Rattle.te_model.specs.Network.{is_well_formed, link_count, node_count}
 ghost use Rattle.centred_steps.specs.Loads.{AreSmall};
 ghost use Rattle.centred_steps.specs.Ways.{AreLastLinks, way_to};
 ghost use Rattle.kept_ways.specs.Amounts.{IsNearness};
-ghost use Rattle.kept_ways.specs.KeptWays.{length_by, way_at, AreKeptWays, AreLengths, AreWaysWithin, IsKeptWay, IsWayMore};
+ghost use Rattle.kept_ways.specs.KeptWays.{length_by, way_at, way_over, AreKeptWays, AreLengths, AreWaysWithin, IsKeptWay, IsWayKept};
 
 use crate::amount::{amount_of, nearness};
 use crate::lengths::{greatest_quotient, least_lengths, measure};
 use crate::links::{add_load_on, links_to};
+use crate::longest::longest_of_many;
 use best_blocks::Scale;
 use centred_steps::{clear_loads, narrowest_on};
 use std::alloc::Global;
@@ -86,7 +87,31 @@ impl KeptWays {
         }
     }
 
-    /// Keeps the way to the node by last links, which is so long, for the pair at the place.
+    /// Keeps the way, which is so long: in place of a longest one of its pair, where the pair has as many as it keeps.
+    fn put(&mut self, way: KeptWay, distance: u64) -> Result<(), Memory>
+        requires way { IsKeptWay self.old.pairs way }
+        requires distance { (1 ≤ distance) × (distance ≤ 2 ^ 36) }
+        requires kept { AreKeptWays self.old }
+        ensures kept { OnOk result (AreKeptWays self.new) }
+        ensures links { (n : ℕ) → All (λ h. h < n) way.links → AreWaysWithin n self.old → OnOk result (AreWaysWithin n self.new) }
+        ensures way { OnOk result (IsWayKept way distance self.old self.new) }
+        ensures pairs { self.new.pairs ≡ self.old.pairs }
+    {
+        match longest_of_many(&self.ways, &self.lengths, way.place) {
+            Some(i) => {
+                self.ways[i] = way;
+                self.lengths[i] = distance;
+            }
+            None => {
+                self.ways.push(way)?;
+                self.lengths.push(distance)?;
+            }
+        }
+        Ok(())
+    }
+
+    /// Keeps the way to the node by last links, which is so long, for the pair at the place. Where the pair has sixteen ways, it
+    /// takes the place of a longest one.
     ///
     /// `Memory` comes where memory is wanting.
     pub fn keep(
@@ -109,7 +134,7 @@ impl KeptWays {
         requires links { AreWaysWithin (link_count net.now) self.old }
         ensures kept { OnOk result (AreKeptWays self.new) }
         ensures links { OnOk result (AreWaysWithin (link_count net.now) self.new) }
-        ensures way { OnOk result (IsWayMore net.now (way_to net.now lasts.now (length lasts.now) dst) place share distance self.old self.new) }
+        ensures way { OnOk result (IsWayKept (way_over net.now (way_to net.now lasts.now (length lasts.now) dst) place share) distance self.old self.new) }
         ensures pairs { self.new.pairs ≡ self.old.pairs }
     {
         let links = links_to(alloc, net, lasts, dst)?;
@@ -120,9 +145,7 @@ impl KeptWays {
             capacity,
             links: Items::new(links),
         };
-        self.ways.push(way)?;
-        self.lengths.push(distance)?;
-        Ok(())
+        self.put(way, distance)
     }
 
     /// Measures the ways by the weights of the links. Takes no memory.
