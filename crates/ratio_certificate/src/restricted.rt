@@ -98,7 +98,7 @@ fn is_dear(share: u64, distance: u64, scale: Scale, parts: u64) -> bool
 }
 
 /// Keeps the least way of the pair at the place, if the pair is dear and its kept ways, of which the shortest is so long, are
-/// longer.
+/// longer. Whether it does so.
 fn keep_way(
     alloc: Global,
     problem: &Problem,
@@ -109,7 +109,7 @@ fn keep_way(
     shortest: u64,
     ways: &mut Ways,
     kept: &mut KeptWays,
-) -> Result<(), Memory>
+) -> Result<bool, Memory>
     requires problem { IsProblem problem.now }
     requires shared { IsLinkOf problem.now shared.now }
     requires search { IsSearchOf problem.now shared.now search.now }
@@ -134,11 +134,14 @@ fn keep_way(
             entry.share,
             distance.max(1),
         )?;
+        Ok(true)
+    } else {
+        Ok(false)
     }
-    Ok(())
 }
 
-/// Keeps the least ways of the dear pairs whose kept ways are all longer. `ways` is room for the least ways from a node.
+/// Keeps the least ways of the dear pairs whose kept ways are all longer. Whether there are such pairs. `ways` is room for the
+/// least ways from a node.
 fn keep_ways(
     alloc: Global,
     problem: &Problem,
@@ -147,7 +150,7 @@ fn keep_ways(
     parts: u64,
     ways: &mut Ways,
     kept: &mut KeptWays,
-) -> Result<(), Memory>
+) -> Result<bool, Memory>
     requires problem { IsProblem problem.now }
     requires shared { IsLinkOf problem.now shared.now }
     requires search { IsSearchOf problem.now shared.now search.now }
@@ -159,8 +162,9 @@ fn keep_ways(
 {
     ways.from = NO_NODE;
     let shortest = kept.least_lengths(alloc)?;
+    let mut is_new = false;
     for i in 0..shortest.len() {
-        keep_way(
+        let is_kept = keep_way(
             alloc,
             problem,
             shared,
@@ -171,8 +175,9 @@ fn keep_ways(
             ways,
             kept,
         )?;
+        is_new = is_new | is_kept;
     }
-    Ok(())
+    Ok(is_new)
 }
 
 /// The sweeps without a search after one with so many before it: more of them where the search showed no new way.
@@ -207,8 +212,7 @@ fn search_rows(
     let weights = Vec::from_slice(alloc, &at.weights)?;
     move_to(alloc, problem, shared, &mut at.search, weights)?;
     at.kept.measure(&at.weights);
-    let before = at.kept.ways.len();
-    keep_ways(
+    let is_new = keep_ways(
         alloc,
         problem,
         shared,
@@ -217,7 +221,7 @@ fn search_rows(
         ways,
         &mut at.kept,
     )?;
-    at.between = between_after(at.between, at.kept.ways.len() > before);
+    at.between = between_after(at.between, is_new);
     at.left = at.between;
     Ok(())
 }
