@@ -22,7 +22,7 @@ use racke_mix::Racke;
 use robust_routing::Robust;
 use scheme::{Adaptive, Spf};
 use semi_oblivious::Semi;
-use series_simulation::{Preparation, StepRow, prepare_connected, row_of};
+use series_simulation::{Preparation, StepRow, prepare_connected, row_after};
 use std::alloc::Global;
 use te_model::{Memory, Network};
 use traffic_matrix::Traffic;
@@ -52,19 +52,21 @@ fn lines_with<S: Adaptive>(
     let marks = failures.series(alloc, network, steps)?;
     let mut text = Vec::new(alloc);
     let mut total = Figures::none();
+    let mut last = None;
     for step in 0..steps {
-        let failed = marks[step].as_slice();
-        let row = row_of(
+        let row = row_after(
             alloc,
             scheme,
             network,
             prepared,
             traffic,
-            failed,
+            marks.as_slice(),
             recovery,
             step as u32,
+            last.take(),
         )?;
         add_row(&mut text, &mut total, word, &row)?;
+        last = Some(row);
     }
     print_total(&mut text, word, &total)?;
     Ok(text)

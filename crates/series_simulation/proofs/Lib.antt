@@ -10,6 +10,7 @@ mod Carried
 mod ByPlan
 pub mod Rowing
 pub mod Marking
+pub mod Repeating
 pub mod Existence
 pub mod Kept
 pub mod Standing

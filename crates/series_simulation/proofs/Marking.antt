@@ -1,5 +1,5 @@
 -- The marks of a step among those of a series.
-use Rattle.std.proofs.Common.{◌≡◌, ℕ, ◌<◌, Bool, List, [], length, get_or, ap, ◌∙◌, arith}
+use Rattle.std.proofs.Common.{◌≡◌, ℕ, ◌<◌, All, Bool, List, [], length, get_or, ap, ◌∙◌, arith}
 use Rattle.std.specs.List.{range_with_len}
 use Rattle.std.proofs.lemmas.List.{get_or_default, get_or-map}
 use Rattle.std.proofs.lemmas.List.FromFn.{get_or-range_with_len, length-range_with_len, length-map-range_with_len}
@@ -25,3 +25,11 @@ marks_at net failures steps k series marks all below read =
 
 pub marks_count : (net : Network) (failures : Failures) (k : ℕ) → length (marks_of net failures k) ≡ link_count net
 marks_count net failures k = length-map-range_with_len (has_failed failures k) 0 (link_count net)
+
+-- each step has one mark for each link
+pub marks_sized : (net : Network) (failures : Failures) (steps : ℕ) (series : List (List Bool)) → series ≡ marks_of_steps net failures steps →
+    All (λ (marks : List Bool). length marks ≡ link_count net) series
+marks_sized net failures steps series all k d below =
+    let marks = get_or series k d in
+    let inside : k < steps = omega (arith, below, series_count net failures steps series all) in
+    ap (λ (m : List Bool). length m) (marks_at net failures steps k series marks all inside (get_or_default series k d marks below)) ∙ marks_count net failures k

@@ -22,6 +22,7 @@ mod peak;
 mod preparation;
 mod reachability;
 mod recovery;
+mod repeated_step;
 mod scheme_routing;
 mod series_rows;
 mod standing_paths;
@@ -36,5 +37,6 @@ pub use law::{
 };
 pub use peak::utilisation;
 pub use preparation::{Preparation, prepare_connected};
+pub use repeated_step::row_after;
 pub use series_rows::{drive, matrix_of, row_of, step_of};
 pub use step_row::{SimulatedStep, StepRow};

@@ -1,8 +1,9 @@
-use Rattle.std.proofs.Common.{◌≡◌, ℕ, ◌≤◌, ◌*◌, ◌^◌, ◌∙◌, Bool, List, [], ◌∷◌, ◌++◌, length, ap, sym, subst, arith, refl}
-use Rattle.failure.specs.Series.{marks_of}
-use Rattle.series_simulation.specs.Rows.{IsStepRow}
-use Rattle.traffic_matrix.specs.Traffic.{predicted_in, sent_in}
-use Rattle.series_simulation.proofs.Marking.{marks_at, marks_count, series_count}
+use Rattle.std.proofs.Common.{◌≡◌, ℕ, ◌≤◌, ◌*◌, ◌^◌, ◌∙◌, All, Bool, List, [], ◌∷◌, ◌++◌, length, ap, sym, subst, arith, refl}
+use Rattle.te_model.specs.Network.{link_count}
+use Rattle.failure.specs.Series.{marks_of_steps}
+use Rattle.series_simulation.specs.Repeated.{IsRowIn}
+use Rattle.series_simulation.proofs.Marking.{marks_sized, series_count}
+use Rattle.series_simulation.proofs.Repeating.{row_at}
 use Rattle.series_simulation.proofs.Rowing.{rows_begin, rows_next, rows_end}
 use Rattle.experiment.specs.Text.{AmountsAtMost, figures_of}
 use Rattle.experiment.proofs.SchemeLines.{lines_end, lines_next, total_next}
@@ -20,24 +21,26 @@ loop-step-init g c = record {
   );
   small = subst (AmountsAtMost 0) (sym c.none-total.ensures)
       (record { offered = omega arith; delivered = omega arith; lost_full = omega arith; lost_failed = omega arith; lost_no_path = omega arith });
+  last = tt;
 }
 
-pub index-requires : goal.index-requires
-index-requires g c =
+pub row_after-requires-clause-count : goal.row_after-requires-clause-count
+row_after-requires-clause-count g c =
     omega (
       arith,
-      c.loop-step-test.true,
-      c.in_ok-marks.marks.ok.0,
+      ap length c.as_slice-steps.ensures,
+      ap length c.as_slice.ensures,
       series_count c.args.network.now c.args.failures.now (length c.as_slice-steps.result.now) c.in_ok-marks.marks.items c.in_ok-marks.ensures,
     )
 
-pub row_of-requires-clause-marks : goal.row_of-requires-clause-marks
-row_of-requires-clause-marks g c =
+pub row_after-requires-clause-marks : goal.row_after-requires-clause-marks
+row_after-requires-clause-marks g c =
     let net = c.args.network.now in
-    let failed : c.as_slice-failed.result.now ≡ marks_of net c.args.failures.now c.loop-step.step =
-    c.as_slice-failed.ensures ∙ marks_at net c.args.failures.now (length c.as_slice-steps.result.now) c.loop-step.step c.in_ok-marks.marks.items
-    c.index.result.now c.in_ok-marks.ensures c.loop-step-test.true c.index.ensures in
-    ap (λ (marks : List Bool). length marks) failed ∙ marks_count net c.args.failures.now c.loop-step.step
+    subst (λ (series : List (List Bool)). All (λ m. length m ≡ link_count net) series) (sym c.as_slice.ensures)
+    (marks_sized net c.args.failures.now (length c.as_slice-steps.result.now) c.in_ok-marks.marks.items c.in_ok-marks.ensures)
+
+pub row_after-requires-clause-last : goal.row_after-requires-clause-last
+row_after-requires-clause-last g c = c.loop-step.invariant.last
 
 pub add_row-requires : goal.add_row-requires
 add_row-requires g c =
@@ -63,27 +66,25 @@ loop-step-preserved g c =
     let row = c.in_ok-row.row in
     let so_far = c.loop-step.invariant in
     let rows = so_far.written.0 in
-    let failed : c.as_slice-failed.result.now ≡ marks_of net failures step =
-    c.as_slice-failed.ensures ∙ marks_at net failures (length c.as_slice-steps.result.now) step c.in_ok-marks.marks.items
-    c.index.result.now c.in_ok-marks.ensures c.loop-step-test.true c.index.ensures in
+    let count = ap length c.as_slice-steps.ensures in
+    let all = c.in_ok-marks.ensures ∙ ap (marks_of_steps net failures) count in
+    let here = subst (λ (marks : List (List Bool)). IsRowIn g.S.Scheme.PATHS (g.S.Scheme.is_plan c.args.scheme.now) (g.S.Scheme.relates c.args.scheme.now)
+    g.S.Note.LowNote.low (g.S.Adaptive.path_set_routes c.args.scheme.now) (g.S.Adaptive.adapts c.args.scheme.now) net marks traffic c.args.recovery plan row)
+    c.as_slice.ensures c.in_ok-row.ensures.row in
     record {
       written = (
         rows ++ row ∷ [],
         rows_next g.S.Scheme.PATHS (g.S.Scheme.is_plan c.args.scheme.now) (g.S.Scheme.relates c.args.scheme.now) g.S.Note.LowNote.low
             (g.S.Adaptive.path_set_routes c.args.scheme.now) (g.S.Adaptive.adapts c.args.scheme.now)
             net traffic failures c.args.recovery plan step rows row so_far.written.1
-            (record {
-              step = c.in_ok-row.ensures.step;
-              row = subst (λ (marks : List Bool). IsStepRow g.S.Scheme.PATHS (g.S.Scheme.is_plan c.args.scheme.now)
-                  (g.S.Scheme.relates c.args.scheme.now) g.S.Note.LowNote.low
-                  (g.S.Adaptive.path_set_routes c.args.scheme.now) (g.S.Adaptive.adapts c.args.scheme.now) net marks traffic.sent.pairs.list (predicted_in traffic step) (sent_in traffic step)
-                  c.args.recovery plan row) failed c.in_ok-row.ensures.row;
-              conserved = c.in_ok-row.ensures.conserved;
-            }),
+            (row_at g.S.Scheme.PATHS (g.S.Scheme.is_plan c.args.scheme.now) (g.S.Scheme.relates c.args.scheme.now) g.S.Note.LowNote.low
+            (g.S.Adaptive.path_set_routes c.args.scheme.now) (g.S.Adaptive.adapts c.args.scheme.now)
+            net traffic failures c.args.recovery plan c.in_ok-marks.marks.items row step c.in_ok-row.ensures.step all here),
         lines_next c.args.word.now c.loop-step.text.items c.add_row.new.text.items rows row so_far.written.2 c.in_ok-add_row.ensures.line,
         total_next c.loop-step.total (figures_of row) c.add_row.new.total rows row so_far.written.3 refl c.in_ok-add_row.ensures.total,
       );
       small = subst (λ (n : ℕ). AmountsAtMost n c.add_row.new.total) (omega arith) (c.in_ok-add_row.ensures.small (step * 2 ^ 64) so_far.small);
+      last = here;
     }
 
 pub returns : goal.returns

@@ -1,6 +1,8 @@
 use Rattle.std.proofs.Common.{◌≡◌, ◌*◌, ◌^◌, List}
 use Rattle.std.specs.List.{flat_map}
+use Rattle.std.specs.Option.{IfSome}
 use Rattle.series_simulation.specs.declared.step_row.StepRow.{StepRow}
+use Rattle.series_simulation.specs.Repeated.{IsRowIn}
 use Rattle.series_simulation.proofs.Rowing.{AreRowsBefore}
 use Rattle.experiment.specs.Text.{AmountsAtMost, step_line, total_of}
 use Rattle.experiment.proofs.reporting.lines_with.Given as goal
@@ -13,4 +15,6 @@ invariant-loop-step g l = record {
       l.recovery l.prepared.plan l.step rows
       × (l.text.items ≡ flat_map (step_line l.word) rows) × (l.total ≡ total_of rows);
   small : AmountsAtMost (l.step * 2 ^ 64) l.total;
+  last : IfSome l.last (IsRowIn g.S.Scheme.PATHS (g.S.Scheme.is_plan l.scheme) (g.S.Scheme.relates l.scheme) g.S.Note.LowNote.low
+      (g.S.Adaptive.path_set_routes l.scheme) (g.S.Adaptive.adapts l.scheme) l.network l.marks.items l.traffic l.recovery l.prepared.plan);
 }
