@@ -8,6 +8,7 @@ mod StandingRates
 mod StandingPairs
 mod Carried
 mod ByPlan
+mod StepRoutings
 pub mod Rowing
 pub mod Marking
 pub mod Repeating

@@ -3,6 +3,8 @@ pub mod OriginalLinks
 pub mod StandingPaths
 pub mod Simulation
 pub mod Rows
+pub mod SurvivorPreparation
+pub mod StepInput
 pub mod Repeated
 pub mod KeptRouting
 pub mod Laws

@@ -9,7 +9,7 @@ ghost use Rattle.series_simulation.specs.Simulation.{IsConservedStep};
 
 use crate::peak::peak;
 use crate::recovery::{mode_of, without_rerouting};
-use crate::series_rows::matrix_of;
+use crate::step_matrices::matrix_of;
 use crate::step_row::StepRow;
 use crate::step_simulation::simulate;
 use plan::Recovery;

@@ -30,14 +30,14 @@ index-requires g c =
       series_count c.args.net.now c.args.failures.now (length c.as_slice-steps.result.now) c.in_ok-marks.marks.items c.in_ok-marks.ensures,
     )
 
-pub row_of-requires-clause-tells : goal.row_of-requires-clause-tells
-row_of-requires-clause-tells g c = c.in_ok-prepared.ensures.tells
+pub step_of-requires-clause-tells : goal.step_of-requires-clause-tells
+step_of-requires-clause-tells g c = c.in_ok-prepared.ensures.tells
 
-pub row_of-requires-clause-marks : goal.row_of-requires-clause-marks
-row_of-requires-clause-marks g c =
+pub step_of-requires-clause-marks : goal.step_of-requires-clause-marks
+step_of-requires-clause-marks g c =
     let net = c.args.net.now in
-    let failed : c.as_slice.result.now ≡ marks_of net c.args.failures.now c.loop-step.step =
-    c.as_slice.ensures ∙ marks_at net c.args.failures.now (length c.as_slice-steps.result.now) c.loop-step.step c.in_ok-marks.marks.items
+    let failed : c.as_slice-failed.result.now ≡ marks_of net c.args.failures.now c.loop-step.step =
+    c.as_slice-failed.ensures ∙ marks_at net c.args.failures.now (length c.as_slice-steps.result.now) c.loop-step.step c.in_ok-marks.marks.items
     c.index.result.now c.in_ok-marks.ensures c.loop-step-test.true c.index.ensures in
     ap (λ (marks : List Bool). length marks) failed ∙ marks_count net c.args.failures.now c.loop-step.step
 
@@ -48,10 +48,10 @@ loop-step-preserved g c =
     let failures = c.args.failures.now in
     let step = c.loop-step.step in
     let rows = c.loop-step.rows.items in
-    let row = c.in_ok-row.row in
+    let row = c.in_ok-simulated.simulated.row in
     let plan = c.in_ok-prepared.prepared.plan in
-    let failed : c.as_slice.result.now ≡ marks_of net failures step =
-    c.as_slice.ensures ∙ marks_at net failures (length c.as_slice-steps.result.now) step c.in_ok-marks.marks.items
+    let failed : c.as_slice-failed.result.now ≡ marks_of net failures step =
+    c.as_slice-failed.ensures ∙ marks_at net failures (length c.as_slice-steps.result.now) step c.in_ok-marks.marks.items
     c.index.result.now c.in_ok-marks.ensures c.loop-step-test.true c.index.ensures in
     subst (AreRowsBefore g.S.Scheme.PATHS (g.S.Scheme.is_plan c.args.scheme.now) (g.S.Scheme.relates c.args.scheme.now) g.S.Note.LowNote.low
     (g.S.Adaptive.path_set_routes c.args.scheme.now) (g.S.Adaptive.adapts c.args.scheme.now) net traffic
@@ -60,11 +60,11 @@ loop-step-preserved g c =
     (g.S.Adaptive.path_set_routes c.args.scheme.now) (g.S.Adaptive.adapts c.args.scheme.now) net traffic
     failures c.args.recovery plan step rows row c.loop-step.invariant
     (record {
-      step = c.in_ok-row.ensures.step;
+      step = c.in_ok-simulated.ensures.number;
       row = subst (λ (marks : List Bool). IsStepRow g.S.Scheme.PATHS (g.S.Scheme.is_plan c.args.scheme.now) (g.S.Scheme.relates c.args.scheme.now)
           g.S.Note.LowNote.low
-          (g.S.Adaptive.path_set_routes c.args.scheme.now) (g.S.Adaptive.adapts c.args.scheme.now) net marks traffic.sent.pairs.list (predicted_in traffic step) (sent_in traffic step) c.args.recovery plan row) failed c.in_ok-row.ensures.row;
-      conserved = c.in_ok-row.ensures.conserved;
+          (g.S.Adaptive.path_set_routes c.args.scheme.now) (g.S.Adaptive.adapts c.args.scheme.now) net marks traffic.sent.pairs.list (predicted_in traffic step) (sent_in traffic step) c.args.recovery plan row) failed (c.in_ok-simulated.simulated.rates.routes, c.in_ok-simulated.ensures.step);
+      conserved = c.in_ok-simulated.ensures.conserved;
     }))
 
 pub returns-clause-rows : goal.returns-clause-rows

@@ -6,7 +6,7 @@ use Rattle.te_model.specs.Pairs.{AreDemands}
 use Rattle.traffic_matrix.specs.declared.series.Series.{Series}
 use Rattle.traffic_matrix.specs.Text.{no_matrix}
 use Rattle.traffic_matrix.specs.Traffic.{demands_in}
-use Rattle.series_simulation.proofs.series_rows.matrix_of.Goals as goal
+use Rattle.series_simulation.proofs.step_matrices.matrix_of.Goals as goal
 
 -- the demands of the matrix that was read are those of the step
 demands_read : (series : Series) (step : ℕ) {matrix : Matrix} → step < length series.steps → matrix ≡ get_or series.steps step matrix →

@@ -15,36 +15,42 @@ use Rattle.series_simulation.proofs.Order.{Ascends}
 use Rattle.series_simulation.proofs.Mapping.{few-back, pairs-back, routes_below, routing-back}
 use Rattle.series_simulation.proofs.SeriesLemmas.{surviving_pairs}
 use Rattle.series_simulation.proofs.Surviving.{survivor_part}
-use Rattle.series_simulation.proofs.step_routing.reroute.Goals as goal
+use Rattle.series_simulation.proofs.survivor_preparation.route_survivor.Goals as goal
 
-pub route_anew-requires-clause-pairs : goal.route_anew-requires-clause-pairs
-route_anew-requires-clause-pairs g c =
-    subst (λ (s : Survivor). ArePairsOf s.network c.args.pairs.now.list) (sym c.in_ok-survivor.ensures.survivor)
-    (surviving_pairs c.args.net.now c.args.failed.now c.args.pairs.now.list c.requires.pairs)
+pub route_connected-requires-clause-pairs : goal.route_connected-requires-clause-pairs
+route_connected-requires-clause-pairs g c =
+    subst (λ (s : Survivor). ArePairsOf s.network c.args.pairs.now.list) (sym c.requires.made.survivor)
+    (surviving_pairs c.args.net.now c.args.made.now.failed c.args.pairs.now.list c.requires.pairs)
+
+pub route_connected-requires-clause-network : goal.route_connected-requires-clause-network
+route_connected-requires-clause-network g c = c.requires.made.formed
+
+pub route_connected-requires-clause-tells : goal.route_connected-requires-clause-tells
+route_connected-requires-clause-tells g c = c.requires.made.tells
 
 pub original_routing-requires-clause-ascending : goal.original_routing-requires-clause-ascending
 original_routing-requires-clause-ascending g c =
     let net = c.args.net.now in
-    let failed = c.args.failed.now in
-    let origin = c.as_slice.ensures ∙ ap (λ (s : Survivor). s.origin) c.in_ok-survivor.ensures.survivor in
-    subst Ascends (sym origin) (survivor_part net failed c.requires.marks).ascending
+    let failed = c.args.made.now.failed in
+    let origin = c.as_slice.ensures ∙ ap (λ (s : Survivor). s.origin) c.requires.made.survivor in
+    subst Ascends (sym origin) (survivor_part net failed c.requires.made.count).ascending
 
 pub original_routing-requires-clause-links : goal.original_routing-requires-clause-links
 original_routing-requires-clause-links g c =
     let net = c.args.net.now in
-    let failed = c.args.failed.now in
+    let failed = c.args.made.now.failed in
     let left = survivor_of net failed in
     let own = c.in_ok-own.own.routing.routes in
-    let same = c.in_ok-survivor.ensures.survivor in
+    let same = c.requires.made.survivor in
     let origin = c.as_slice.ensures ∙ ap (λ (s : Survivor). s.origin) same in
-    let splits = subst (λ (s : Survivor). IsPathRouting s.network own) same c.in_ok-own.ensures.routed.1.routing.splits in
+    let splits = subst (λ (s : Survivor). IsPathRouting s.network own) same c.in_ok-own.ensures.routed.routing.splits in
     subst (λ (o : List ℕ). All (HavePathsBelow (length o)) own) (sym origin)
-    (routes_below left.network net left.origin own (survivor_part net failed c.requires.marks) splits)
+    (routes_below left.network net left.origin own (survivor_part net failed c.requires.made.count) splits)
 
 pub returns-clause-rerouted : goal.returns-clause-rerouted
 returns-clause-rerouted g c =
     let own = c.in_ok-own.own in
-    let same = c.in_ok-survivor.ensures.survivor in
+    let same = c.requires.made.survivor in
     let origin = c.as_slice.ensures ∙ ap (λ (s : Survivor). s.origin) same in
     let routed = c.in_ok-own.ensures.routed in
     let says = g.S.Scheme.is_plan c.args.scheme.now in
@@ -53,32 +59,32 @@ returns-clause-rerouted g c =
     let predicted = option_map (λ m. m.now.demand) c.args.predicted in
     let demand = c.args.matrix.now.demand in
     IfOk-weaker c.original_routing.result _
-    (λ r. IsReroutedOn g.S.Scheme.PATHS says relates low c.args.net.now c.args.failed.now c.args.pairs.now.list predicted demand r.routing.routes r.parts r.low)
+    (λ r. IsReroutedOn g.S.Scheme.PATHS says relates low c.args.net.now c.args.made.now.failed c.args.pairs.now.list predicted demand r.routing.routes r.parts r.low)
     (λ r is. record {
-      plan = routed.0;
+      plan = c.args.made.now.prepared.plan;
       own = own.routing.routes;
       routed = rw (is.1, is.2)
-          (subst (λ (s : Survivor). IsRouted g.S.Scheme.PATHS says relates low s.network c.args.pairs.now.list predicted demand routed.0 own.routing.routes own.parts own.low) same routed.1);
+          (subst (λ (s : Survivor). IsRouted g.S.Scheme.PATHS says relates low s.network c.args.pairs.now.list predicted demand c.args.made.now.prepared.plan own.routing.routes own.parts own.low) same routed);
       mapped = is.0 ∙ ap (λ (o : List ℕ). original_routes o own.routing.routes) origin;
     }) c.original_routing.ensures
 
 pub returns-clause-routing : goal.returns-clause-routing
 returns-clause-routing g c =
     let net = c.args.net.now in
-    let failed = c.args.failed.now in
+    let failed = c.args.made.now.failed in
     let left = survivor_of net failed in
     let own = c.in_ok-own.own.routing.routes in
-    let same = c.in_ok-survivor.ensures.survivor in
+    let same = c.requires.made.survivor in
     let origin = c.as_slice.ensures ∙ ap (λ (s : Survivor). s.origin) same in
-    let splits = subst (λ (s : Survivor). IsPathRouting s.network own) same c.in_ok-own.ensures.routed.1.routing.splits in
+    let splits = subst (λ (s : Survivor). IsPathRouting s.network own) same c.in_ok-own.ensures.routed.routing.splits in
     IfOk-weaker c.original_routing.result _ (λ r. IsPathRouting net r.routing.routes)
     (λ r is. subst (IsPathRouting net) (sym (is.0 ∙ ap (λ (o : List ℕ). original_routes o own) origin))
-    (routing-back left.network net left.origin own (survivor_part net failed c.requires.marks) splits)) c.original_routing.ensures
+    (routing-back left.network net left.origin own (survivor_part net failed c.requires.made.count) splits)) c.original_routing.ensures
 
 pub returns-clause-pairs : goal.returns-clause-pairs
 returns-clause-pairs g c =
     let own = c.in_ok-own.own.routing.routes in
-    let routed = c.in_ok-own.ensures.routed.1 in
+    let routed = c.in_ok-own.ensures.routed in
     IfOk-weaker c.original_routing.result _ (λ r. IsSublist (pairs_of r.routing.routes) c.args.pairs.now.list)
     (λ r is. (routed.has_path, ap pairs_of is.0 ∙ (pairs-back c.as_slice.result.now own ∙ routed.routing.in_order))) c.original_routing.ensures
 
