@@ -1,7 +1,6 @@
 -- The envelope of a series is within the limits.
-use Rattle.std.proofs.Common.{ℕ, ◌+◌, ◌^◌, ◌≤◌, ◌<◌, ◌≡◌, ◌∙◌, sym, ap, List, [], ◌∷◌, length, get_or, take, max, min, arith, rules, slice_index}
+use Rattle.std.proofs.Common.{ℕ, ◌+◌, ◌^◌, ◌≤◌, ◌<◌, ◌≡◌, ◌∙◌, sym, ap, List, [], ◌∷◌, length, get_or, take, max, min, arith, slice_index}
 use Rattle.std.specs.Prelude.{All}
-use Rattle.std.specs.Ordering.{ord_max, nat_cmp}
 use Rattle.std.specs.List.{fold}
 use Rattle.std.proofs.Math.Nat.{min-le_left}
 use Rattle.std.proofs.lemmas.List.Sums.{fold_more}

@@ -3,6 +3,7 @@ mod Envelopes
 mod PublishedSets
 pub mod JoinedFields
 mod Reports
+mod SchemeTexts
 pub mod SchemeLines
 mod ByName
 mod Seeds

@@ -3,4 +3,5 @@ pub mod Envelope
 pub mod Published
 pub mod Text
 pub mod Report
+pub mod SchemeTexts
 pub mod Laws

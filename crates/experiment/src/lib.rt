@@ -13,6 +13,7 @@
 #![tactic(auto)]
 
 mod demand_set;
+mod driving;
 mod envelope;
 pub mod fields;
 mod figures;
@@ -20,8 +21,10 @@ mod laws;
 mod lines;
 mod published_file;
 mod publishing;
+mod report_input;
 mod reporting;
 mod robust_publishing;
+mod scheme_texts;
 
 pub use figures::Figures;
 pub use laws::{

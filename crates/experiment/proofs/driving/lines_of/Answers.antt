@@ -1,8 +1,11 @@
 use Rattle.series_simulation.proofs.SeriesLemmas.{series_pairs}
-use Rattle.experiment.proofs.reporting.lines_of.Goals as goal
+use Rattle.experiment.proofs.driving.lines_of.Goals as goal
 
 pub prepare_connected-requires-clause-pairs : goal.prepare_connected-requires-clause-pairs
-prepare_connected-requires-clause-pairs g c = series_pairs c.args.network.now c.args.traffic.now.sent c.requires.network c.requires.traffic.sent
+prepare_connected-requires-clause-pairs g c = series_pairs c.args.input.now.network.now c.args.input.now.traffic.now.sent c.requires.input.network c.requires.input.traffic.sent
+
+pub prepare_connected-requires-clause-network : goal.prepare_connected-requires-clause-network
+prepare_connected-requires-clause-network g c = c.requires.input.network
 
 pub lines_with-requires-clause-tells : goal.lines_with-requires-clause-tells
 lines_with-requires-clause-tells g c = c.in_ok-prepared.ensures.tells
