@@ -40,8 +40,8 @@ PUBLISHED = [
         (f'{{"topology":"t","matrices":"m","publish":"racke","margin":[2,1],{KEYS}}}', "margin 2 1", 2_793_919),
         (f'{{"topology":"t","matrices":"m","publish":"spf","margin":[2,1],{KEYS}}}', "margin 2 1", 7_417_426),
         (f'{{"topology":"t","matrices":"m","publish":"ksp","margin":[2,1],{KEYS}}}', "margin 2 1", 8_040_836),
-        ('{"topology":"t","matrices":"m","publish":"robust","budget":16}', "all", 1_887_967),
-        ('{"topology":"t","matrices":"m","publish":"robust","budget":16,"margin":[2,1]}', "margin 2 1", 1_723_000),
+        ('{"topology":"t","matrices":"m","publish":"robust","budget":16}', "all", 1_885_416),
+        ('{"topology":"t","matrices":"m","publish":"robust","budget":16,"margin":[2,1]}', "margin 2 1", 1_722_831),
         # The default scheme, for the envelope of the matrices.
         (f'{{"topology":"t","matrices":"m","envelope":true,{KEYS}}}', "box", 3_638_794),
     ]
