@@ -19,7 +19,7 @@ use std::alloc::Global;
 use te_model::Memory;
 
 /// The sweeps without a search after one that showed a new way.
-const FEWEST_BETWEEN: usize = 3;
+const FEWEST_BETWEEN: usize = 5;
 
 /// The most sweeps without a search.
 const MOST_BETWEEN: usize = 23;

@@ -21,7 +21,7 @@ const CLOSENESS: u128 = 64;
 const SLACK: u128 = 500;
 
 /// A need is good enough without a second search that is at most one of so many parts above the floor.
-const LAST_SLACK: u128 = 100;
+const LAST_SLACK: u128 = 200;
 
 /// Puts the weights in place of those at the place, if they need less.
 fn take_lesser(list: &mut [Weighting], place: usize, found: Weighting)
