@@ -1,5 +1,6 @@
 -- What the paths have put on the links, path by path.
-use Rattle.std.proofs.Common.{◌≡◌, inl, inr, ℕ, suc, ◌+◌, ◌*◌, ◌≤◌, List, [], ◌++◌, length, get_or, replicate, arith, ap, sym, ◌∙◌, subst}
+use Rattle.std.proofs.Common.{◌≡◌, inl, inr, ℕ, suc, Bool, true, false, ◌+◌, ◌*◌, ◌^◌, ◌<◌, ◌≤◌, List, [], ◌++◌, length, get_or, slice_index, replicate, arith, refl, ap, sym, ◌∙◌, subst}
+use Rattle.std.specs.Prelude.{if◌then◌else◌}
 use Rattle.std.proofs.lemmas.Bool.{cases_lt}
 use Rattle.std.proofs.lemmas.List.{get_or-replicate, get_or_append_left, get_or_past, length-replicate}
 use Rattle.std.proofs.lemmas.List.FromFn.{fill_by_all}
@@ -7,6 +8,7 @@ use Rattle.te_model.specs.declared.network.Network.{Network}
 use Rattle.te_model.specs.Network.{link_count}
 use Rattle.te_model.specs.Path.{amount_on, has_number}
 use Rattle.te_model.specs.Counting.{sum_below}
+use Rattle.te_model.proofs.Amounts.{has_at}
 use Rattle.te_model.proofs.Conditionals.{if_le-self}
 use Rattle.te_model.proofs.Sums.{sum_below-same}
 use Rattle.multiplicative_lengths.specs.Loads.{loads_of, put_on}
@@ -66,3 +68,11 @@ loads_done net amount most paths n loads far done =
 
 pub length-loads_of : (net : Network) (amount : ℕ → ℕ) (paths : List (List ℕ)) → length (loads_of net amount paths) ≡ link_count net
 length-loads_of net amount paths = count_each net (λ e. sum_below (length paths) (put_on amount paths e))
+
+-- links with numbers of 32 bits put nothing on a link beyond them
+pub none_beyond : (links : List ℕ) (amount e : ℕ) → ((k : ℕ) → k < length links → slice_index links k < 2 ^ 32) → 2 ^ 32 ≤ e → amount_on links amount e ≡ 0
+none_beyond links amount e small wide = go (has_number links e) refl
+  where
+    go : (b : Bool) → has_number links e ≡ b → (if b then amount else 0) ≡ 0
+    go true has = let (k, below, at) = has_at links e has in absurd (omega (arith, small k below, at, wide))
+    go false has = refl

@@ -3,30 +3,18 @@ ghost use Rattle.std.specs.Prelude.{◌≡◌, ℕ, ◌+◌, ◌*◌, ◌^◌, �
 ghost use Rattle.te_model.specs.declared.limits.TheConstants.{FORMAT_2};
 ghost use Rattle.te_model.specs.declared.units.TheConstants.{SHARE_UNIT};
 ghost use Rattle.te_model.specs.Flow.{load};
-ghost use Rattle.te_model.specs.Path.{amount_on, is_distinct, share, weight_on};
+ghost use Rattle.te_model.specs.Path.{share, weight_on};
 ghost use Rattle.ratio_witness.specs.Judged.{CanJudge};
 ghost use Rattle.ratio_witness.specs.Rules.{demand_of};
 ghost use Rattle.ratio_witness.specs.Witness.{rival_share};
 ghost use Rattle.ratio_checker.specs.Checked.{IsSimplePath};
 
 use crate::witness::Witness;
+use multiplicative_lengths::add_wide_along;
 use te_model::{FORMAT_2, Head, PathShare};
 
 /// How many links a network has at most.
 const MOST: usize = FORMAT_2.links as usize;
-
-// Adds the amount to the load of each link of a path.
-fn add_amount(loads: &mut [u128], links: &[u32], amount: u128)
-    requires within { All (λ h. h < length loads.old) links.now }
-    requires once { IsTrue (is_distinct links.now) }
-    requires room { (h : ℕ) → slice_index loads.old h + amount < 2 ^ 128 }
-    ensures length { length loads.new ≡ length loads.old }
-    ensures added { (h : ℕ) → slice_index loads.new h ≡ slice_index loads.old h + amount_on links.now amount h }
-{
-    for h in links {
-        loads[*h as usize] += amount;
-    }
-}
 
 // Adds what the demand of a pair with these paths puts on the links.
 fn add_demand(loads: &mut [u128], paths: &[PathShare], demand: u64)
@@ -41,7 +29,7 @@ fn add_demand(loads: &mut [u128], paths: &[PathShare], demand: u64)
     for path in paths {
         let links = path.links.as_slice();
         let amount = u128::from(demand) * u128::from(path.weight);
-        add_amount(loads, links, amount);
+        add_wide_along(loads, links, amount);
     }
 }
 

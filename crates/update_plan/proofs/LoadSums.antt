@@ -6,7 +6,6 @@ use Rattle.std.proofs.lemmas.Nat.{mul-le}
 use Rattle.te_model.specs.declared.network.Network.{Network}
 use Rattle.te_model.specs.Counting.{sum_below}
 use Rattle.te_model.specs.Path.{amount_on, has_number}
-use Rattle.te_model.proofs.Amounts.{has_at}
 use Rattle.te_model.proofs.Conditionals.{if_le-self}
 use Rattle.te_model.proofs.Sums.{sum_below-bound}
 use Rattle.update_plan.specs.declared.loads.WeightKind.{WeightKind}
@@ -56,11 +55,3 @@ load_small net demand paths kind n e small are le =
       if_le-self (has_number (update_at paths k).links e) (slice_index demand (update_at paths k).pair * weight_of kind (update_at paths k)),
       amount_small net demand paths kind k small are (omega (arith, below, le)),
     ))
-
--- links with numbers of 32 bits put nothing on a link beyond them
-pub none_beyond : (links : List ℕ) (amount e : ℕ) → ((k : ℕ) → k < length links → slice_index links k < 2 ^ 32) → 2 ^ 32 ≤ e → amount_on links amount e ≡ 0
-none_beyond links amount e small wide = go (has_number links e) refl
-  where
-    go : (b : Bool) → has_number links e ≡ b → (if b then amount else 0) ≡ 0
-    go true has = let (k, below, at) = has_at links e has in absurd (omega (arith, small k below, at, wide))
-    go false has = refl

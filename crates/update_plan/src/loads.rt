@@ -4,6 +4,7 @@ ghost use Rattle.te_model.specs.Path.{amount_on, is_distinct};
 ghost use Rattle.update_plan.specs.Loads.{AreLinkLoads, AreLoadsOf, IsUpdatePath, weight_of};
 
 use crate::path::UpdatePath;
+use multiplicative_lengths::add_wide_along;
 use std::alloc::Global;
 use te_model::{Items, Memory, Network};
 
@@ -38,19 +39,6 @@ fn weight_of(kind: WeightKind, path: &UpdatePath) -> u64
     }
 }
 
-/// Adds the amount to the load of each of the links.
-fn add_along(loads: &mut [u128], links: &[u32], amount: u128)
-    requires links { All (λ h. h < length loads.old) links.now }
-    requires distinct { IsTrue (is_distinct links.now) }
-    requires room { (e : ℕ) → slice_index loads.old e + amount < 2 ^ 128 }
-    ensures added { (e : ℕ) → slice_index loads.new e ≡ slice_index loads.old e + amount_on links.now amount e }
-    ensures wide { (e : ℕ) → 2 ^ 32 ≤ e → slice_index loads.new e ≡ slice_index loads.old e }
-{
-    for h in links {
-        loads[*h as usize] += amount;
-    }
-}
-
 /// The load of each link by the weights of one kind.
 fn loads_of(
     alloc: Global,
@@ -68,7 +56,7 @@ fn loads_of(
     for path in paths {
         let demand = demands[path.pair as usize];
         let amount = u128::from(demand) * u128::from(weight_of(kind, path));
-        add_along(&mut loads, path.links.as_slice(), amount);
+        add_wide_along(&mut loads, path.links.as_slice(), amount);
     }
     Ok(loads)
 }

@@ -12,8 +12,8 @@ widened : (paths : List PathShare) (i demand wide_demand wide_weight : ℕ) (ite
 widened paths i demand wide_demand wide_weight item read same weight =
     ap (λ x. x * wide_weight) same ∙ ap (λ x. demand * x) (weight ∙ ap (λ (s : PathShare). s.weight) read)
 
-pub add_amount-requires-clause-room : goal.add_amount-requires-clause-room
-add_amount-requires-clause-room c = λ h.
+pub add_wide_along-requires-clause-room : goal.add_wide_along-requires-clause-room
+add_wide_along-requires-clause-room c = λ h.
     let paths = c.args.paths.now in
     let i = c.loop-path.path-index in
     let demand = c.args.demand in
@@ -29,7 +29,7 @@ add_amount-requires-clause-room c = λ h.
 
 pub loop-path-preserved : goal.loop-path-preserved
 loop-path-preserved c = record {
-  count = c.add_amount.ensures.length ∙ c.loop-path.invariant.count;
+  count = c.add_wide_along.auto.loads ∙ c.loop-path.invariant.count;
   sums = λ e.
       let paths = c.args.paths.now in
       let i = c.loop-path.path-index in
@@ -43,7 +43,7 @@ loop-path-preserved c = record {
       in
       omega (
         arith,
-        c.add_amount.ensures.added e,
+        c.add_wide_along.ensures.added e,
         puts,
         path_more paths demand e i c.loop-path-test.true,
         c.loop-path.invariant.sums e,

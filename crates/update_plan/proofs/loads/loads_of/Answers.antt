@@ -7,8 +7,8 @@ use Rattle.update_plan.specs.Paths.{no_update, update_at}
 use Rattle.update_plan.proofs.LoadSums.{amount_is, amount_small, load_more, load_small}
 use Rattle.update_plan.proofs.loads.loads_of.Goals as goal
 
-pub add_along-requires-clause-room : goal.add_along-requires-clause-room
-add_along-requires-clause-room c e =
+pub add_wide_along-requires-clause-room : goal.add_wide_along-requires-clause-room
+add_wide_along-requires-clause-room c e =
     let net = c.args.net.now in
     let demands = c.args.demands.now in
     let paths = c.args.paths.now in
@@ -37,9 +37,9 @@ loop-path-preserved c =
     let k = c.loop-path.path-index in
     let u = c.path-item.result in
     let old = c.loop-path.loads.items in
-    let new = c.add_along.new.loads in
+    let new = c.add_wide_along.new.loads in
     let lent : c.deref_mut.result.now ≡ old = c.deref_mut.ensures.value in
-    let kept : length new ≡ length old = c.add_along.auto.loads ∙ ap (λ (l : List ℕ). length l) lent in
+    let kept : length new ≡ length old = c.add_wide_along.auto.loads ∙ ap (λ (l : List ℕ). length l) lent in
     let item : u ≡ update_at paths k = get_or_read paths k u (omega (arith, c.loop-path-test.true)) c.path-item.is no_update in
     let amount : c.from.result * c.from-in-loop-path.result ≡ slice_index demands (update_at paths k).pair * weight_of kind (update_at paths k) =
     amount_is demands paths kind k u c.from.result c.from-in-loop-path.result item c.from.ensures (c.from-in-loop-path.ensures ∙ c.weight_of.ensures)
@@ -52,6 +52,6 @@ loop-path-preserved c =
     in
     rw (written_whole c.loop-path.loads.len new old kept c.loop-path.loads.ok.0) (record {
       count = kept ∙ c.loop-path.invariant.count;
-      beyond = λ e wide. c.add_along.ensures.wide e wide ∙ (was e ∙ c.loop-path.invariant.beyond e wide);
-      each = λ e. omega (arith, c.add_along.ensures.added e, was e, c.loop-path.invariant.each e, load_more demands paths kind k e, puts e);
+      beyond = λ e wide. c.add_wide_along.ensures.beyond e wide ∙ (was e ∙ c.loop-path.invariant.beyond e wide);
+      each = λ e. omega (arith, c.add_wide_along.ensures.added e, was e, c.loop-path.invariant.each e, load_more demands paths kind k e, puts e);
     })
