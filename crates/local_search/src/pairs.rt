@@ -69,7 +69,7 @@ fn empty_table(alloc: Global, links: usize) -> Result<Vec<LinkPairs>, Memory>
     ensures { IfOk result (λ t. (vec_len t ≡ links) × All (λ s. s ≡ []) t.items) }
 {
     let mut table = Vec::with_capacity(alloc, links)?;
-    for _ in 0..links {
+    'links: for _ in 0..links {
         let list = Vec::new(alloc);
         table.push(LinkPairs { list })?;
     }

@@ -13,29 +13,28 @@ use crate::step::{Aim, Move, SIZES, Target};
 use std::alloc::Global;
 use te_model::{Matrix, Memory, Network, PairRoutes, PathShare};
 
-/// Whether the link, if the network has it, carries no more than `times` its capacity once the amount
-/// has gone from the links of one path to those of another.
-fn is_within(
-    net: &Network,
-    loads: &[u128],
-    times: u128,
-    link: u32,
-    from: &[u32],
-    to: &[u32],
+/// An amount that goes from the links of one path to those of another.
+#[derive(Clone, Copy)]
+struct Shift<'a> {
+    from: &'a [u32],
+    to: &'a [u32],
     amount: u128,
-) -> bool
+}
+
+/// Whether the link, if the network has it, carries no more than `times` its capacity once the amount has gone.
+fn is_within(net: &Network, loads: &[u128], times: u128, link: u32, shift: &Shift<'_>) -> bool
     requires network { IsTrue (is_well_formed net.now) }
     requires count { length loads.now ≡ link_count net.now }
     requires small { All (λ x. x < 2 ^ 84) loads.now }
     requires times { times < 2 ^ 85 }
-    requires amount { amount ≤ 2 ^ 64 }
-    ensures { IsTrue result ↔ (link < link_count net.now → load_after (slice_index loads.now link) from.now to.now amount link ≤ times * capacity_of net.now link) }
+    requires amount { shift.now.amount ≤ 2 ^ 64 }
+    ensures { IsTrue result ↔ (link < link_count net.now → load_after (slice_index loads.now link) shift.now.from.now shift.now.to.now shift.now.amount link ≤ times * capacity_of net.now link) }
 {
     let h = link as usize;
     if h >= loads.len() {
         return true;
     }
-    let load = load_after(loads[h], link, from, to, amount);
+    let load = load_after(loads[h], link, shift.from, shift.to, shift.amount);
     load <= times * u128::from(net.links.as_slice()[h].capacity)
 }
 
@@ -61,55 +60,45 @@ pub fn links_above(
     Ok(above)
 }
 
-/// Whether none of these links, of those that the network has, carries more than `times` its capacity once the amount
-/// has gone from the links of one path to those of another.
+/// Whether none of these links, of those that the network has, carries more than `times` its capacity once the amount has gone.
 fn are_within_on(
     net: &Network,
     loads: &[u128],
     times: u128,
     links: &[u32],
-    from: &[u32],
-    to: &[u32],
-    amount: u128,
+    shift: &Shift<'_>,
 ) -> bool
     requires network { IsTrue (is_well_formed net.now) }
     requires count { length loads.now ≡ link_count net.now }
     requires small { All (λ x. x < 2 ^ 84) loads.now }
     requires times { times < 2 ^ 85 }
-    requires amount { amount ≤ 2 ^ 64 }
-    ensures { IsTrue result ↔ AreWithinOn net.now times (λ e. load_after (slice_index loads.now e) from.now to.now amount e) links.now }
+    requires amount { shift.now.amount ≤ 2 ^ 64 }
+    ensures { IsTrue result ↔ AreWithinOn net.now times (λ e. load_after (slice_index loads.now e) shift.now.from.now shift.now.to.now shift.now.amount e) links.now }
 {
     for link in links {
-        if !is_within(net, loads, times, *link, from, to, amount) {
+        if !is_within(net, loads, times, *link, shift) {
             return false;
         }
     }
     true
 }
 
-/// Whether no link carries more than the aim allows once the amount has gone from the links of one
-/// path to those of another. Only links that carry more now, and those of the other path, may.
-fn are_within(
-    net: &Network,
-    loads: &[u128],
-    aim: &Aim,
-    from: &[u32],
-    to: &[u32],
-    amount: u128,
-) -> bool
+/// Whether no link carries more than the aim allows once the amount has gone. Only links that carry more now, and those to which it goes,
+/// may.
+fn are_within(net: &Network, loads: &[u128], aim: &Aim, shift: &Shift<'_>) -> bool
     requires network { IsTrue (is_well_formed net.now) }
     requires count { length loads.now ≡ link_count net.now }
     requires small { All (λ x. x < 2 ^ 84) loads.now }
     requires times { aim.now.times < 2 ^ 85 }
     requires above { HasAbove net.now aim.now.times (slice_index loads.now) aim.now.above }
-    requires amount { amount ≤ 2 ^ 64 }
-    ensures { IsTrue result ↔ AreWithin net.now aim.now.times (λ e. load_after (slice_index loads.now e) from.now to.now amount e) }
+    requires amount { shift.now.amount ≤ 2 ^ 64 }
+    ensures { IsTrue result ↔ AreWithin net.now aim.now.times (λ e. load_after (slice_index loads.now e) shift.now.from.now shift.now.to.now shift.now.amount e) }
 {
     let above = aim.above.as_slice();
-    if !are_within_on(net, loads, aim.times, above, from, to, amount) {
+    if !are_within_on(net, loads, aim.times, above, shift) {
         return false;
     }
-    are_within_on(net, loads, aim.times, to, from, to, amount)
+    are_within_on(net, loads, aim.times, shift.to, shift)
 }
 
 /// The first size of a move from the path to these links that fits.
@@ -132,7 +121,13 @@ fn fitting_size(
 {
     for size in SIZES {
         let amount = u128::from(demand) * u128::from(size.min(from.weight));
-        if are_within(net, loads, aim, from.links.as_slice(), to, amount) {
+        let links = from.links.as_slice();
+        let shift = Shift {
+            from: links,
+            to,
+            amount,
+        };
+        if are_within(net, loads, aim, &shift) {
             return Some(size);
         }
     }

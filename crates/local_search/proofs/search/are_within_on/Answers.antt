@@ -11,7 +11,7 @@ returns c =
     let loads = c.args.loads.now in (
       λ t e below used.
           let (k, inside, at) = has_at c.args.links.now e used in
-          subst (λ x. load_after (slice_index loads x) c.args.from.now c.args.to.now c.args.amount x ≤ c.args.times * capacity_of net x) at
+          subst (λ x. load_after (slice_index loads x) c.args.shift.now.from.now c.args.shift.now.to.now c.args.shift.now.amount x ≤ c.args.times * capacity_of net x) at
           (c.loop-link.invariant k (omega (arith, inside, c.loop-link-test.false)) (subst (λ x. x < link_count net) (sym at) below)),
       λ within. refl,
     )
@@ -21,7 +21,7 @@ loop-link-preserved c =
     let net = c.args.net.now in
     let loads = c.args.loads.now in
     let links = c.args.links.now in
-    below_more (λ k. slice_index links k < link_count net → load_after (slice_index loads (slice_index links k)) c.args.from.now c.args.to.now c.args.amount
+    below_more (λ k. slice_index links k < link_count net → load_after (slice_index loads (slice_index links k)) c.args.shift.now.from.now c.args.shift.now.to.now c.args.shift.now.amount
     (slice_index links k) ≤ c.args.times * capacity_of net (slice_index links k)) c.loop-link.link-index c.loop-link.invariant
     (c.is_within.ensures.0 c.if-not-is_within.false)
 

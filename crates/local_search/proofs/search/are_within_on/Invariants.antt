@@ -5,4 +5,4 @@ use Rattle.local_search.proofs.search.are_within_on.Given as goal
 
 abbrev pub invariant-loop-link : goal.invariant-loop-link
 invariant-loop-link l = (k : ℕ) → k < l.link-index → slice_index l.links k < link_count l.net →
-    load_after (slice_index l.loads (slice_index l.links k)) l.from l.to l.amount (slice_index l.links k) ≤ l.times * capacity_of l.net (slice_index l.links k)
+    load_after (slice_index l.loads (slice_index l.links k)) l.shift.from.now l.shift.to.now l.shift.amount (slice_index l.links k) ≤ l.times * capacity_of l.net (slice_index l.links k)

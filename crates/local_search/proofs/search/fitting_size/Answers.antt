@@ -21,7 +21,7 @@ loop-size-preserved c =
     below_more (λ i. AreWithin net c.args.aim.now.times (loads_moved loads demand from to (slice_index sizes i)) → ⊥) c.loop-size.size-index c.loop-size.invariant
     (λ within.
     let same = subst (λ a. AreWithin net c.args.aim.now.times (λ e. load_after (slice_index loads e) from.links to a e)) (sym amount) within in
-    let tried = subst (λ (l : List ℕ). AreWithin net c.args.aim.now.times (λ e. load_after (slice_index loads e) l to (c.from.result * c.from-in-loop-size.result) e)) (sym c.as_slice.ensures) same in
+    let tried = subst (λ (l : List ℕ). AreWithin net c.args.aim.now.times (λ e. load_after (slice_index loads e) l to (c.from.result * c.from-in-loop-size.result) e)) (sym c.as_slice-links.ensures) same in
     false≢true (sym c.if-are_within.false ∙ c.are_within.ensures.1 tried))
 
 pub returns-clause-none : goal.returns-clause-none
