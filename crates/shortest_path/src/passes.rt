@@ -39,7 +39,6 @@ fn pass(
     arcs: &Arcs,
     lengths: &[u64],
     open: &[bool],
-    start: u32,
     order: &[u32],
     distances: &mut [Option<u64>],
     scans: &mut [Option<u64>],
@@ -51,8 +50,8 @@ fn pass(
     requires limit { All (λ l. l ≤ 2 ^ 28) lengths.now }
     requires order { All (λ v. v < node_count net.now) order.now }
     requires few { length order.now ≤ FORMAT_2.nodes }
-    requires part { IsPartSearch (graph_of net.now lengths.now «open».now arcs.now.direction arcs.now.rows.items) start (2 ^ 28) (2 ^ 20) distances.old scans.old }
-    ensures { (n : ℕ) → IsPartSearch (graph_of net.now lengths.now «open».now arcs.now.direction arcs.now.rows.items) start (2 ^ 28) n distances.old scans.old → IsPartSearch (graph_of net.now lengths.now «open».now arcs.now.direction arcs.now.rows.items) start (2 ^ 28) (n + FORMAT_2.nodes) distances.new scans.new }
+    requires part { (start : ℕ) × IsPartSearch (graph_of net.now lengths.now «open».now arcs.now.direction arcs.now.rows.items) start (2 ^ 28) (2 ^ 20) distances.old scans.old }
+    ensures { (start n : ℕ) → IsPartSearch (graph_of net.now lengths.now «open».now arcs.now.direction arcs.now.rows.items) start (2 ^ 28) n distances.old scans.old → IsPartSearch (graph_of net.now lengths.now «open».now arcs.now.direction arcs.now.rows.items) start (2 ^ 28) (n + FORMAT_2.nodes) distances.new scans.new }
 {
     for node in order {
         let u = *node as usize;
@@ -117,54 +116,12 @@ fn settle_by_passes(
     forget(scans);
     distances[start as usize] = Some(0);
     for before in 0..MAX_PASSES {
-        pass(net, arcs, lengths, open, start, order, distances, scans);
+        pass(net, arcs, lengths, open, order, distances, scans);
         if is_settled(distances, scans) {
             return Some(before + 1);
         }
     }
     None
-}
-
-/// Writes the distances of all nodes from `start`, and says whether that took more than one pass over the order.
-fn settle_in_order(
-    net: &Network,
-    arcs: &Arcs,
-    lengths: &[u64],
-    open: &[bool],
-    start: u32,
-    order: &[u32],
-    distances: &mut [Option<u64>],
-    room: &mut Room,
-) -> bool
-    requires sound { HasSoundLinks net.now }
-    requires rows { AreArcRows net.now arcs.now.direction (link_count net.now) arcs.now.rows.items }
-    requires lengths { length lengths.now ≡ link_count net.now }
-    requires marks { length «open».now ≡ link_count net.now }
-    requires limit { All (λ l. l ≤ 2 ^ 28) lengths.now }
-    requires start { start < node_count net.now }
-    requires order { All (λ v. v < node_count net.now) order.now }
-    requires count { length order.now ≡ node_count net.now }
-    requires nodes { length distances.old ≡ node_count net.now }
-    requires room { IsRoom (node_count net.now) room.old }
-    ensures distances { AreSettledDistances (graph_of net.now lengths.now «open».now arcs.now.direction arcs.now.rows.items) start distances.new }
-    ensures room { IsRoom (node_count net.now) room.new }
-{
-    match settle_by_passes(
-        net,
-        arcs,
-        lengths,
-        open,
-        start,
-        order,
-        distances,
-        &mut room.scans,
-    ) {
-        Some(passes) => passes > 1,
-        None => {
-            settle(net, arcs, lengths, open, start, distances, &mut room.done);
-            true
-        }
-    }
 }
 
 /// Writes the distances of all nodes from `start` over the open links. The nearer the order is to that of the distances, the less
@@ -193,8 +150,14 @@ pub fn search(
     ensures room { IsRoom (node_count net.now) room.new }
 {
     let nodes = order.as_slice();
-    // An order in which each node stands behind the one before it on its way takes one pass, and stays.
-    if settle_in_order(net, arcs, lengths, open, start, nodes, distances, room) {
-        order.sort(distances);
+    let scans = &mut room.scans;
+    match settle_by_passes(net, arcs, lengths, open, start, nodes, distances, scans) {
+        // In such an order each node stands behind the one before it on its way.
+        Some(1) => {}
+        Some(_) => order.sort(distances),
+        None => {
+            settle(net, arcs, lengths, open, start, distances, &mut room.done);
+            order.sort(distances);
+        }
     }
 }

@@ -28,22 +28,21 @@ relax-requires-clause-links c =
 pub relax-requires-clause-near : goal.relax-requires-clause-near
 relax-requires-clause-near c =
     let u = get_or c.args.order.now c.loop-node.node-index 0 in
-    omega (arith, (c.loop-node.invariant 1048576 c.requires.part).bound u c.in-Some.reach c.in-Some.is, c.loop-node-test.true, c.requires.few)
+    omega (arith, (c.loop-node.invariant c.requires.part.0 1048576 c.requires.part.1).bound u c.in-Some.reach c.in-Some.is, c.loop-node-test.true, c.requires.few)
 
 pub loop-node-preserved : goal.loop-node-preserved
-loop-node-preserved c = λ n part.
+loop-node-preserved c = λ s n part.
     let net = c.args.net.now in
     let lengths = c.args.lengths.now in
     let marks = c.args.open.now in
     let direction = c.args.arcs.now.direction in
     let rows = c.args.arcs.now.rows.items in
     let graph = graph_of net lengths marks direction rows in
-    let s = c.args.start in
     let i = c.loop-node.node-index in
     let u = get_or c.args.order.now i 0 in
     let distances = c.loop-node.distances in
     let scans = c.loop-node.scans in
-    let before = c.loop-node.invariant n part in
+    let before = c.loop-node.invariant s n part in
     let inside : u < node_count net = All-get_or (λ v. v < node_count net) c.args.order.now i 0 c.loop-node-test.true c.requires.order in
     let size : length graph ≡ node_count net = length-map rows (arcs_of net lengths marks direction) ∙ c.requires.rows.count in
     elim c.match-distances-u.branch [
@@ -67,7 +66,7 @@ loop-node-preserved c = λ n part.
     ]
 
 pub returns : goal.returns
-returns c = λ n part.
+returns c = λ s n part.
     let graph = graph_of c.args.net.now c.args.lengths.now c.args.open.now c.args.arcs.now.direction c.args.arcs.now.rows.items in
-    part_weaker graph c.args.start 268435456 (n + c.loop-node.node-index) (n + 128) c.loop-node.distances c.loop-node.scans
-    (omega (arith, c.loop-node.auto.node-index-end, c.requires.few)) (c.loop-node.invariant n part)
+    part_weaker graph s 268435456 (n + c.loop-node.node-index) (n + 128) c.loop-node.distances c.loop-node.scans
+    (omega (arith, c.loop-node.auto.node-index-end, c.requires.few)) (c.loop-node.invariant s n part)

@@ -5,5 +5,5 @@ use Rattle.shortest_path.proofs.passes.pass.Given as goal
 
 abbrev pub invariant-loop-node : goal.invariant-loop-node
 invariant-loop-node l =
-    (n : ℕ) → IsPartSearch (graph_of l.net l.lengths l.open l.arcs.direction l.arcs.rows.items) l.start (2 ^ 28) n l.initial.distances l.initial.scans →
-    IsPartSearch (graph_of l.net l.lengths l.open l.arcs.direction l.arcs.rows.items) l.start (2 ^ 28) (n + l.node-index) l.distances l.scans
+    (start n : ℕ) → IsPartSearch (graph_of l.net l.lengths l.open l.arcs.direction l.arcs.rows.items) start (2 ^ 28) n l.initial.distances l.initial.scans →
+    IsPartSearch (graph_of l.net l.lengths l.open l.arcs.direction l.arcs.rows.items) start (2 ^ 28) (n + l.node-index) l.distances l.scans

@@ -17,18 +17,20 @@ loop-before-init c =
 
 pub pass-requires-clause-part : goal.pass-requires-clause-part
 pass-requires-clause-part c =
-    let graph = graph_of c.args.net.now c.args.lengths.now c.args.open.now c.args.arcs.now.direction c.args.arcs.now.rows.items in
-    part_weaker graph c.args.start 268435456 (128 * c.loop-before.before) 1048576 c.loop-before.distances c.loop-before.scans (omega (arith, c.loop-before-test.true))
-    c.loop-before.invariant
+    let graph = graph_of c.args.net.now c.args.lengths.now c.args.open.now c.args.arcs.now.direction c.args.arcs.now.rows.items in (
+      c.args.start,
+      part_weaker graph c.args.start 268435456 (128 * c.loop-before.before) 1048576 c.loop-before.distances c.loop-before.scans
+          (omega (arith, c.loop-before-test.true)) c.loop-before.invariant,
+    )
 
 pub returns-then-is_settled : goal.returns-then-is_settled
 returns-then-is_settled c =
     let graph = graph_of c.args.net.now c.args.lengths.now c.args.open.now c.args.arcs.now.direction c.args.arcs.now.rows.items in
     part_settled graph c.args.start 268435456 (128 * c.loop-before.before + 128) c.pass.new.distances c.pass.new.scans
-    (c.pass.ensures (128 * c.loop-before.before) c.loop-before.invariant) (c.is_settled.ensures c.if-is_settled.true)
+    (c.pass.ensures c.args.start (128 * c.loop-before.before) c.loop-before.invariant) (c.is_settled.ensures c.if-is_settled.true)
 
 pub loop-before-preserved : goal.loop-before-preserved
 loop-before-preserved c =
     let graph = graph_of c.args.net.now c.args.lengths.now c.args.open.now c.args.arcs.now.direction c.args.arcs.now.rows.items in
     part_weaker graph c.args.start 268435456 (128 * c.loop-before.before + 128) (128 * (c.loop-before.before + 1)) c.pass.new.distances c.pass.new.scans (omega arith)
-    (c.pass.ensures (128 * c.loop-before.before) c.loop-before.invariant)
+    (c.pass.ensures c.args.start (128 * c.loop-before.before) c.loop-before.invariant)

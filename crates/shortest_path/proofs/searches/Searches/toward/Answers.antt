@@ -1,11 +1,11 @@
 use Rattle.std.proofs.Common.{◌≡◌, length, arith, sym, subst, ◌∙◌, ◌<◌}
-use Rattle.std.proofs.lemmas.List.{length-map, length-set}
-use Rattle.std.proofs.lemmas.List.Elements.{All-set}
+use Rattle.std.proofs.lemmas.List.{length-map}
 use Rattle.shortest_path.specs.declared.rows.Direction.TheVariants.{Backward}
 use Rattle.shortest_path.specs.Graph.{AreSettledDistances}
 use Rattle.shortest_path.specs.Passes.{IsRoom}
 use Rattle.shortest_path.specs.Rows.{IsSearchGraph, arcs_of, graph_of, AreArcRows}
 use Rattle.shortest_path.proofs.Building.{graph_of_rows}
+use Rattle.shortest_path.proofs.Orders.{orders_set}
 use Rattle.shortest_path.proofs.LeastSums.{sums_of_settled}
 use Rattle.te_model.specs.Network.{link_count}
 use Rattle.shortest_path.proofs.searches.Searches.toward.Goals as goal
@@ -53,14 +53,7 @@ search-requires-clause-room c =
 pub invariant_of-self : goal.invariant_of-self
 invariant_of-self c =
     let is = subst (IsSearchGraph c.args.net.now Backward) (sym c.self.view_is) c.requires.against in
-    let orders = c.self.inside.orders in
-    let nodes = length c.self.inside.arcs.rows.items in
-    let place = c.min-place.result in
-    let new = c.search.new.order in
-    let inside : place < length orders.items = omega (arith, c.min-place.ensures, c.len.ensures, orders.ok.0, c.self.invariant.1) in
-    let same : new ≡ nodes = c.search.ensures.order ∙ (c.index_mut-order.ensures.value ∙ c.self.invariant.2 place c.index_mut-order.result.now inside) in (
-      c.self.invariant.0,
-      omega (arith, length-set orders.items place new, c.self.invariant.1),
-      All-set (λ o. o ≡ nodes) orders.items place new same c.self.invariant.2,
-      subst (λ n. IsRoom n c.search.new.room) (sym is.rows.count) c.search.ensures.room,
-    )
+    let inside : c.min-place.result < length c.self.inside.orders.items = omega (arith, c.min-place.ensures, c.len.ensures, c.self.inside.orders.ok.0, c.self.invariant.1) in
+    let same = c.search.ensures.order ∙ (c.index_mut-order.ensures.value ∙ c.self.invariant.2 c.min-place.result c.index_mut-order.result.now inside) in
+    let (some, each) = orders_set c.self.inside.orders.items c.min-place.result c.search.new.order _ c.self.invariant.1 c.self.invariant.2 inside same in
+    (c.self.invariant.0, some, each, subst (λ n. IsRoom n c.search.new.room) (sym is.rows.count) c.search.ensures.room)
