@@ -1,5 +1,6 @@
 pub mod Ascending
 pub mod WeightOn
+mod Covering
 pub mod RowFailures
 pub mod NoWeights
 pub mod SourceRows

@@ -1,11 +1,12 @@
 use Rattle.std.proofs.Common.{◌≡◌, ◌∙◌, ◌<◌, sym, ap, length, get_or, slice_index, arith, true}
 use Rattle.std.proofs.lemmas.List.{get_or_default}
 use Rattle.te_model.specs.Counting.{unless}
-use Rattle.te_model.specs.Path.{no_routes, routes_at, share, source_of, destination_of}
-use Rattle.te_model.specs.Certificate.{row_of, potential}
+use Rattle.te_model.specs.Path.{no_routes, routes_at}
+use Rattle.te_model.specs.Certificate.{row_of}
 use Rattle.te_model.specs.Inequalities.{covers_share, failure_at}
 use Rattle.te_model.proofs.Searches.{first_below_found, first_below_more}
 use Rattle.ratio_checker.specs.Uncovered.{covers_by}
+use Rattle.ratio_checker.proofs.Covering.{covers_by-is}
 use Rattle.ratio_checker.proofs.WeightOn.{weight_on_le}
 use Rattle.ratio_checker.proofs.share_rows.shares_failure.Goals.{then-pair-source, else-pair-source, else-not-is_free-via-then-not-is_free+else-not-covers, else-not-is_free-via-else-not-is_free}
 use Rattle.ratio_checker.proofs.share_rows.shares_failure.Goals as goal
@@ -28,7 +29,6 @@ returns-then-not-covers c =
     let p = c.loop-p.p in
     let block = c.args.block.now in
     let routes = c.args.head.now.routes in
-    let shares = c.args.shares.now in
     let r = get_or c.as_slice.result.now p c.index-as_slice-p.result in
     let below : p < length routes = omega (arith, c.loop-p-test.true, c.requires.shares.count) in
     let at : routes_at routes p ≡ r = get_or_default routes p no_routes c.index-as_slice-p.result below
@@ -43,11 +43,8 @@ returns-then-not-covers c =
           ∙ ap (λ s. (row_of block.rows s).potential) (sym w.if-pair-source.false)
     ]
     in
-    let distance : c.number_at-distance.result ≡ potential block (source_of routes p) (destination_of routes p) =
-    c.number_at-distance.ensures ∙ ap (λ xs. slice_index xs r.pair.dst) row ∙ ap (λ t. potential block t.pair.src t.pair.dst) (sym at)
-    in
-    let same : covers_by block p (slice_index shares p) c.number_at-distance.result ≡ covers_share routes block p =
-    ap (λ s. covers_by block p s c.number_at-distance.result) (c.requires.shares.each p below) ∙ ap (covers_by block p (share routes p block.link)) distance
+    let same : covers_by block p (slice_index c.args.shares.now p) c.number_at-distance.result ≡ covers_share routes block p =
+    covers_by-is block routes p _ _ r _ at (c.requires.shares.each p below) row c.number_at-distance.ensures
     in
     sym (first_below_found (length routes) p (λ k. unless (covers_share routes block k) (failure_at 2 k)) (failure_at 2 p) below c.loop-p.invariant.none
     (ap (λ b. unless b (failure_at 2 p)) (sym same ∙ sym c.covers.ensures ∙ c.if-not-covers.true)))
@@ -57,7 +54,6 @@ loop-p-preserved c =
     let p = c.loop-p.p in
     let block = c.args.block.now in
     let routes = c.args.head.now.routes in
-    let shares = c.args.shares.now in
     let r = get_or c.as_slice.result.now p c.index-as_slice-p.result in
     let below : p < length routes = omega (arith, c.loop-p-test.true, c.requires.shares.count) in
     let at : routes_at routes p ≡ r = get_or_default routes p no_routes c.index-as_slice-p.result below
@@ -73,13 +69,10 @@ loop-p-preserved c =
     ]
     in
     let source : c.if-pair-source.source ≡ r.pair.src = elim c.if-pair-source.branch [ then-pair-source w ↦ w.source-is | else-pair-source w ↦ w.source-is ∙ sym w.if-pair-source.false ] in
-    let distance : c.number_at-distance.result ≡ potential block (source_of routes p) (destination_of routes p) =
-    c.number_at-distance.ensures ∙ ap (λ xs. slice_index xs r.pair.dst) own ∙ ap (λ t. potential block t.pair.src t.pair.dst) (sym at)
+    let same : covers_by block p (slice_index c.args.shares.now p) c.number_at-distance.result ≡ covers_share routes block p =
+    covers_by-is block routes p _ _ r _ at (c.requires.shares.each p below) own c.number_at-distance.ensures
     in
-    let same : covers_by block p (slice_index shares p) c.number_at-distance.result ≡ covers_share routes block p =
-    ap (λ s. covers_by block p s c.number_at-distance.result) (c.requires.shares.each p below) ∙ ap (covers_by block p (share routes p block.link)) distance
-    in
-    let covered : covers_by block p (slice_index shares p) c.number_at-distance.result ≡ true = elim c.else-not-is_free.branch [
+    let covered : covers_by block p (slice_index c.args.shares.now p) c.number_at-distance.result ≡ true = elim c.else-not-is_free.branch [
       | else-not-is_free-via-then-not-is_free+else-not-covers w ↦ sym w.covers.ensures ∙ w.if-not-covers.false
       | else-not-is_free-via-else-not-is_free w ↦ c.is_free.ensures w.if-not-is_free.false c.number_at-distance.result
     ]
