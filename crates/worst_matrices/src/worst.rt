@@ -135,45 +135,31 @@ fn add_stage(
     add_mean(alloc, usage.set, &sums, found)
 }
 
-/// Goes on with the search by the stages of ever smaller steps, and adds their means.
-fn add_middle_stages(
+/// Goes on with the search by so many stages, and adds their means. A step of the first has `first` parts, and each stage has twice the
+/// parts of the one before, up to `most`.
+fn add_stages(
     alloc: Global,
     usage: &LinkUsage,
     marks: &[bool],
     search: &mut Search,
+    count: usize,
+    first: u64,
+    most: u64,
     found: &mut Vec<ScaledMatrix>,
 ) -> Result<(), Memory>
     requires usage { IsLinkUsage usage.now }
     requires marks { length marks.now ≡ node_count usage.now.net.now }
     requires search { IsWeightSearch usage.now search.old }
+    requires first { (1 ≤ first) × (first ≤ 128) }
+    requires most { (1 ≤ most) × (most ≤ 128) }
     requires found { All (IsScaledMember usage.now.set.now (length usage.now.shares.now)) found.old.items }
     ensures search { OnOk result (IsWeightSearch usage.now search.new) }
     ensures found { OnOk result (All (IsScaledMember usage.now.set.now (length usage.now.shares.now)) found.new.items) }
 {
-    let mut parts = MIDDLE_PARTS;
-    for _ in 0..MIDDLE_STAGES {
+    let mut parts = first;
+    for _ in 0..count {
         add_stage(alloc, usage, marks, search, parts, found)?;
-        parts = (2 * parts).min(MAX_PARTS);
-    }
-    Ok(())
-}
-
-/// Goes on with the search by the stages of equal steps, and adds their means.
-fn add_last_stages(
-    alloc: Global,
-    usage: &LinkUsage,
-    marks: &[bool],
-    search: &mut Search,
-    found: &mut Vec<ScaledMatrix>,
-) -> Result<(), Memory>
-    requires usage { IsLinkUsage usage.now }
-    requires marks { length marks.now ≡ node_count usage.now.net.now }
-    requires search { IsWeightSearch usage.now search.old }
-    requires found { All (IsScaledMember usage.now.set.now (length usage.now.shares.now)) found.old.items }
-    ensures { OnOk result (All (IsScaledMember usage.now.set.now (length usage.now.shares.now)) found.new.items) }
-{
-    for _ in 0..LAST_STAGES {
-        add_stage(alloc, usage, marks, search, LAST_PARTS, found)?;
+        parts = (2 * parts).min(most);
     }
     Ok(())
 }
@@ -188,8 +174,26 @@ fn means_for(alloc: Global, usage: &LinkUsage) -> Result<Vec<ScaledMatrix>, Memo
     let mut search = start(alloc, usage, &marks)?;
     let mut found = Vec::new(alloc);
     make_first_stages(alloc, usage, &marks, &mut search)?;
-    add_middle_stages(alloc, usage, &marks, &mut search, &mut found)?;
-    add_last_stages(alloc, usage, &marks, &mut search, &mut found)?;
+    add_stages(
+        alloc,
+        usage,
+        &marks,
+        &mut search,
+        MIDDLE_STAGES,
+        MIDDLE_PARTS,
+        MAX_PARTS,
+        &mut found,
+    )?;
+    add_stages(
+        alloc,
+        usage,
+        &marks,
+        &mut search,
+        LAST_STAGES,
+        LAST_PARTS,
+        LAST_PARTS,
+        &mut found,
+    )?;
     Ok(found)
 }
 

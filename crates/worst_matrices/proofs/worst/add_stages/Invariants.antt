@@ -1,7 +1,7 @@
 use Rattle.std.proofs.Common.{◌≤◌, length, All}
 use Rattle.worst_matrices.specs.Members.{IsScaledMember}
 use Rattle.worst_matrices.specs.Usage.{IsWeightSearch}
-use Rattle.worst_matrices.proofs.worst.add_middle_stages.Given as goal
+use Rattle.worst_matrices.proofs.worst.add_stages.Given as goal
 
 abbrev pub invariant-loop : goal.invariant-loop
 invariant-loop l =
