@@ -34,7 +34,7 @@ use Rattle.plan.specs.declared.scheme_name.SchemeName.TheVariants.{Spf, Ecmp, Ks
 use Rattle.series_simulation.specs.declared.step_row.StepRow.{StepRow}
 use Rattle.series_simulation.specs.Rows.{AreStepRows, IsStepRow}
 
--- the greatest number of paths of a pair, for each scheme
+-- the greatest number of paths of a pair, for each scheme: `robust`, `ksp`, `mcf` and `smore` may be asked for as many
 abbrev pub spf_paths : ℕ
 spf_paths = 1
 
@@ -42,16 +42,16 @@ abbrev pub ecmp_paths : ℕ
 ecmp_paths = 1024
 
 abbrev pub ksp_paths : ℕ
-ksp_paths = 32
+ksp_paths = most_ways
 
 abbrev pub mcf_paths : ℕ
-mcf_paths = 32
+mcf_paths = most_ways
 
 abbrev pub racke_paths : ℕ
 racke_paths = 16
 
 abbrev pub smore_paths : ℕ
-smore_paths = 32
+smore_paths = most_ways
 
 abbrev pub valiant_paths : ℕ
 valiant_paths = 128

@@ -17,6 +17,7 @@ use ecmp_split::Ecmp;
 use k_paths::Ksp;
 use plan::{Experiment, SchemeName};
 use racke_mix::Racke;
+use robust_routing::Robust;
 use scheme::{SchemeFault, Spf};
 use std::alloc::Global;
 use te_model::{Certificate, Network};
@@ -70,7 +71,10 @@ fn certificate_by_seed(
             publish(alloc, &scheme, network, pairs, set, plan.budget)
         }
         SchemeName::Valiant => publish(alloc, &Valiant, network, pairs, set, plan.budget),
-        SchemeName::Robust => publish_robust(alloc, network, pairs, set, plan.budget),
+        SchemeName::Robust => {
+            let scheme = Robust { ways: plan.budget };
+            publish_robust(alloc, &scheme, network, pairs, set)
+        }
         // A plan publishes an oblivious scheme.
         SchemeName::Mcf | SchemeName::Smore => unreachable!(),
     }

@@ -61,23 +61,24 @@ fn has_all_matrices(set: &DemandSet) -> bool
     }
 }
 
-/// A certificate of the routing. The offers are weights for all matrices, so that a set between bounds is not made from them.
+/// A certificate of the routing. The weights of the plan are for all matrices, so that a set between bounds is not made from them.
 fn certify(
     alloc: Global,
     net: &Network,
     routing: &Routing,
+    plan: &RobustPlan,
     set: DemandSet,
-    offers: &[Offer],
 ) -> Result<Certificate, Memory>
     requires network { IsTrue (is_well_formed net.now) }
     requires links { 1 ≤ link_count net.now }
     requires routing { IsRoutingWithin net.now routing.now.routes }
+    requires weights { AreWeightsOfLinks net.now plan.now.weights }
     requires set { IsSetWithin (length routing.now.routes) set }
-    requires offers { AreOffers net.now offers.now }
     ensures { IfOk result (IsMadeWithinAll net.now routing.now.routes set) }
 {
     if has_all_matrices(&set) {
-        refine(alloc, net, routing, set, offers)
+        let offers = offers_by(alloc, net, plan)?;
+        refine(alloc, net, routing, set, &offers)
     } else {
         make(alloc, net, routing, set)
     }
@@ -121,35 +122,33 @@ fn certificate_by(
     ensures { IfOk result (IsMadeWithinAll net.now (trimmed_routes budget plan.now.routing.routes) set) }
 {
     let routing = routing_by(alloc, net, pairs, plan, budget)?;
-    let offers = offers_by(alloc, net, plan)?;
-    certify(alloc, net, &routing, set, &offers)
+    certify(alloc, net, &routing, plan, set)
 }
 
-/// A certificate of the routing of the pairs that `robust` finds over at most `budget` paths a pair. It is that of `publish`, but that
-/// for all matrices the weights by which the sweeps prove its ratio are offered to it.
+/// A certificate of the routing of the pairs that the scheme finds, of at most `ways` paths a pair, which are from 1 to 32. It is that of
+/// `publish`, but that for all matrices the weights by which the sweeps prove its ratio are offered to it.
 ///
 /// `NoPath` names the first pair without a path, exactly where there is one, and `Memory` comes where memory is wanting.
 pub fn publish_robust(
     alloc: Global,
+    scheme: &Robust,
     net: &Network,
     pairs: &Pairs,
     set: DemandSet,
-    budget: u32,
 ) -> Result<Certificate, SchemeFault>
     requires network { IsTrue (is_well_formed net.now) }
     requires links { 1 ≤ link_count net.now }
     requires pairs { ArePairsOf net.now pairs.now.list }
     requires ascending { AscendPairs pairs.now.list }
     requires set { IsSetWithin (length pairs.now.list) set }
-    requires some { 1 ≤ budget }
-    requires few { budget ≤ 32 }
-    ensures made { IfOk result (λ c. (plan : RobustPlan) × IsRobustPlan (ways_of budget) net.now pairs.now.list plan
-        × IsMadeWithinAll net.now (trimmed_routes budget plan.routing.routes) set c) }
+    requires some { 1 ≤ scheme.now.ways }
+    requires few { scheme.now.ways ≤ 32 }
+    ensures made { IfOk result (λ c. (plan : RobustPlan) × IsRobustPlan (ways_of scheme.now.ways) net.now pairs.now.list plan
+        × IsMadeWithinAll net.now (trimmed_routes scheme.now.ways plan.routing.routes) set c) }
     ensures reached { OnOk result (AllReached net.now pairs.now.list) }
     ensures fault { IfErr result (IsFault net.now pairs.now.list) }
 {
-    let scheme = Robust { ways: budget };
     let plan = scheme.prepare(alloc, net, pairs)?;
-    let certificate = certificate_by(alloc, net, pairs, &plan, set, budget)?;
+    let certificate = certificate_by(alloc, net, pairs, &plan, set, scheme.ways)?;
     Ok(certificate)
 }

@@ -4,8 +4,7 @@ use Rattle.std.proofs.lemmas.Result.{IfOk-weaker}
 use Rattle.te_model.specs.declared.route.PairRoutes.{PairRoutes}
 use Rattle.te_model.specs.declared.route.Pair.{Pair}
 use Rattle.best_blocks.specs.Conditions.{IsSetWithin}
-use Rattle.ratio_certificate.specs.declared.offers.Offer.{Offer}
-use Rattle.ratio_certificate.specs.Offers.{AreOffers, IsMadeWithinAll}
+use Rattle.ratio_certificate.specs.Offers.{IsMadeWithinAll}
 use Rattle.experiment.proofs.RoutingWithin.{routing_within}
 use Rattle.experiment.proofs.robust_publishing.certificate_by.Goals as goal
 
@@ -21,9 +20,6 @@ certify-requires-clause-set c =
     ap (λ (ps : List Pair). length ps) (sym c.in_ok-routing.ensures.routing.in_order) ∙ length-map c.in_ok-routing.routing.routes (λ (r : PairRoutes). r.pair)
     in
     subst (λ n. IsSetWithin n c.args.set) count c.requires.set
-
-pub certify-requires-clause-offers : goal.certify-requires-clause-offers
-certify-requires-clause-offers c = subst (λ (os : List Offer). AreOffers c.args.net.now os) (sym c.deref.ensures.value) c.in_ok-offers.ensures
 
 pub returns : goal.returns
 returns c =
