@@ -136,9 +136,9 @@ pub fn adapt<S: Adaptive>(
     requires pairs { ArePairsOf net.now pairs.now.list }
     requires ascending { AscendPairs pairs.now.list }
     requires paths { S.Scheme.PATHS ≤ 4096 }
+    requires set { S.path_set_routes scheme.now prepared.now.plan ≡ Some paths.now.routes }
     requires tells { TellsPaths net.now (connects prepared.now.reach) }
     requires planned { S.Scheme.is_plan scheme.now net.now (filter (connects prepared.now.reach) pairs.now.list) prepared.now.plan }
-    requires set { S.path_set_routes scheme.now prepared.now.plan ≡ Some paths.now.routes }
     requires predicted { AreDemandsIfSome (length pairs.now.list) (option_map (λ m. m.now.demand) predicted) }
     requires demands { AreDemands (length pairs.now.list) matrix.now.demand }
     ensures adapted { IfOk result (λ r. IsAdaptedOn S.Scheme.PATHS (S.Scheme.is_plan scheme.now) (S.Scheme.relates scheme.now) S.Note.low (S.path_set_routes scheme.now) (S.adapts scheme.now)
