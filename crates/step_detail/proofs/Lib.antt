@@ -1,4 +1,5 @@
 mod Lines
+mod PathCosts
 mod Pairs
 mod Steps
 pub mod Existence

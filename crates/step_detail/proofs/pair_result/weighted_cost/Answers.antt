@@ -2,12 +2,13 @@ use Rattle.std.proofs.Common.{◌≡◌, ◌*◌, ◌^◌, ◌<◌, ◌≤◌, �
 use Rattle.std.proofs.Math.Nat.{mul-le-mul, mul-le-mul_left}
 use Rattle.std.proofs.lemmas.List.{get_or_read, take_all}
 use Rattle.std.proofs.lemmas.List.Elements.{All-get_or, All-weaker}
-use Rattle.std.proofs.lemmas.List.Sums.{get_or-le-sum_by, sum_by-take-le, sum_by_more}
+use Rattle.std.proofs.lemmas.List.Sums.{sum_by-take-le, sum_by_more}
 use Rattle.te_model.specs.declared.limits.TheConstants.{FORMAT_2}
 use Rattle.te_model.specs.declared.route.PathShare.{PathShare}
 use Rattle.routing.specs.Merge.{no_path}
 use Rattle.shortest_path.specs.Paths.{sum_along}
 use Rattle.step_detail.specs.Pairs.{weighted_cost}
+use Rattle.step_detail.proofs.PathCosts.{cost_within, weight_within}
 use Rattle.step_detail.proofs.pair_result.weighted_cost.Goals as goal
 
 pub length_along-requires-clause-links : goal.length_along-requires-clause-links
@@ -27,24 +28,8 @@ overflow_mul-cost c =
     let paths = c.args.paths.now in
     let i = c.loop-path.path-index in
     let read = get_or_read paths i c.path-item.result c.loop-path-test.true c.path-item.is no_path in
-    let light : c.from.result ≤ 1000000 =
-    omega (
-      arith,
-      c.from.ensures,
-      ap (λ (s : PathShare). s.weight) read,
-      get_or-le-sum_by (λ (s : PathShare). s.weight) paths i no_path c.loop-path-test.true,
-      c.requires.whole,
-    )
-    in
-    let short : c.length_along.result ≤ 34359738368 =
-    omega (
-      arith,
-      c.length_along.ensures.limit,
-      ap (λ (l : List ℕ). length l) c.as_slice.ensures,
-      ap (λ (s : PathShare). length s.links) read,
-      All-get_or (λ (s : PathShare). length s.links ≤ FORMAT_2.nodes) paths i no_path c.loop-path-test.true c.requires.short,
-    )
-    in
+    let light = weight_within paths i c.from.result c.path-item.result c.loop-path-test.true read c.from.ensures c.requires.whole in
+    let short = cost_within paths i c.length_along.result c.path-item.result c.as_slice.result.now c.loop-path-test.true read c.as_slice.ensures c.length_along.ensures.limit c.requires.short in
     omega (arith, mul-le-mul light short)
 
 pub overflow_add-sum : goal.overflow_add-sum
@@ -52,24 +37,8 @@ overflow_add-sum c =
     let paths = c.args.paths.now in
     let i = c.loop-path.path-index in
     let read = get_or_read paths i c.path-item.result c.loop-path-test.true c.path-item.is no_path in
-    let light : c.from.result ≤ 1000000 =
-    omega (
-      arith,
-      c.from.ensures,
-      ap (λ (s : PathShare). s.weight) read,
-      get_or-le-sum_by (λ (s : PathShare). s.weight) paths i no_path c.loop-path-test.true,
-      c.requires.whole,
-    )
-    in
-    let short : c.length_along.result ≤ 34359738368 =
-    omega (
-      arith,
-      c.length_along.ensures.limit,
-      ap (λ (l : List ℕ). length l) c.as_slice.ensures,
-      ap (λ (s : PathShare). length s.links) read,
-      All-get_or (λ (s : PathShare). length s.links ≤ FORMAT_2.nodes) paths i no_path c.loop-path-test.true c.requires.short,
-    )
-    in
+    let light = weight_within paths i c.from.result c.path-item.result c.loop-path-test.true read c.from.ensures c.requires.whole in
+    let short = cost_within paths i c.length_along.result c.path-item.result c.as_slice.result.now c.loop-path-test.true read c.as_slice.ensures c.length_along.ensures.limit c.requires.short in
     omega (
       arith,
       mul-le-mul light short,
