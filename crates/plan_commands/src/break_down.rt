@@ -40,7 +40,7 @@ impl<'a> Ask for BreakDown<'a> {
     fn answer<D: Depot>(&self, alloc: Global, depot: &mut D) -> Result<Answer, Fault> {
         let inputs = inputs_in(alloc, depot, self.plan, Some(self.step))?;
         let predictions = predictions_in(alloc, depot, &inputs)?;
-        break_down_on(alloc, depot, inputs, predictions, self.breakdown, self.step)
+        break_down_on(alloc, depot, inputs, predictions, self)
     }
 }
 
@@ -72,26 +72,26 @@ fn break_down_with(
     Ok(Answer::Done(text))
 }
 
-// The breakdown of the step on these inputs and predictions, for which the failures are read.
+// The breakdown that is asked for on these inputs and predictions, for which the failures are read.
 fn break_down_on<D: Depot>(
     alloc: Global,
     depot: &mut D,
     inputs: Inputs,
     predictions: Option<Series>,
-    breakdown: Breakdown,
-    step: u32,
+    asked: &BreakDown<'_>,
 ) -> Result<Answer, Fault>
     requires plan { InRange inputs.plan }
     requires network { IsTrue (is_well_formed inputs.network) }
     requires series { IsSeries (node_count inputs.network) inputs.series }
     requires predictions { IfSome predictions (IsSeries (node_count inputs.network)) }
-    requires step { step < length inputs.series.steps }
+    requires step { asked.now.step < length inputs.series.steps }
     ensures { Follows (with_failures inputs.network inputs.series inputs.plan.failures (λ failures.
-        answers (breakdown_of breakdown inputs.plan inputs.network (traffic_of (node_count inputs.network) inputs.series predictions) failures step)))
+        answers (breakdown_of asked.now.breakdown inputs.plan inputs.network (traffic_of (node_count inputs.network) inputs.series predictions) failures asked.now.step)))
         (shown_by D.content D.gave D.faults depot.old) (shown_by D.content D.gave D.faults depot.new) result }
 {
     let failures = outages_in(alloc, depot, &inputs)?;
-    break_down_with(alloc, inputs, predictions, &failures, breakdown, step)
+    let breakdown = asked.breakdown;
+    break_down_with(alloc, inputs, predictions, &failures, breakdown, asked.step)
 }
 
 /// The step of which the word is the decimal, where it is below 1024.

@@ -13,7 +13,7 @@ returns-in_err-failures g c =
     let inputs = c.args.inputs in
     let traffic = traffic_of (node_count inputs.network) inputs.series c.args.predictions in
     rw (p.1, p.2)
-    (failures_stop inputs.network inputs.series inputs.plan.failures (λ failures. answers (breakdown_of c.args.breakdown inputs.plan inputs.network traffic failures c.args.step)) _ _
+    (failures_stop inputs.network inputs.series inputs.plan.failures (λ failures. answers (breakdown_of c.args.asked.now.breakdown inputs.plan inputs.network traffic failures c.args.asked.now.step)) _ _
     c.in_err-failures.field-0.0 c.in_err-failures.ensures.reads)
 
 pub returns : goal.returns
@@ -21,6 +21,6 @@ returns g c =
     let inputs = c.args.inputs in
     let traffic = traffic_of (node_count inputs.network) inputs.series c.args.predictions in
     let failures = c.in_ok-failures.failures in
-    failures_go_on inputs.network inputs.series inputs.plan.failures (λ failures. answers (breakdown_of c.args.breakdown inputs.plan inputs.network traffic failures c.args.step))
+    failures_go_on inputs.network inputs.series inputs.plan.failures (λ failures. answers (breakdown_of c.args.asked.now.breakdown inputs.plan inputs.network traffic failures c.args.asked.now.step))
     failures _ _ _ c.break_down_with.result c.in_ok-failures.ensures.reads
-    (ends_or_falls_short (breakdown_of c.args.breakdown inputs.plan inputs.network traffic failures c.args.step) _ c.break_down_with.result c.break_down_with.ensures.answer c.break_down_with.ensures.memory)
+    (ends_or_falls_short (breakdown_of c.args.asked.now.breakdown inputs.plan inputs.network traffic failures c.args.asked.now.step) _ c.break_down_with.result c.break_down_with.ensures.answer c.break_down_with.ensures.memory)
