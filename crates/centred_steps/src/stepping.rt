@@ -1,5 +1,5 @@
 //! Steps of weights.
-ghost use Rattle.std.specs.Prelude.{◌≡◌, ℕ, ◌*◌, ◌^◌, ◌<◌, ◌≤◌, IsTrue, length, slice_index};
+ghost use Rattle.std.specs.Prelude.{◌≡◌, ℕ, ◌*◌, ◌^◌, ◌<◌, ◌≤◌, IsTrue, length, slice_index, true};
 ghost use Rattle.te_model.specs.Network.{is_well_formed, link_count};
 ghost use Rattle.centred_steps.specs.Loads.{AreLoadsWithin};
 ghost use Rattle.centred_steps.specs.Weights.{AreWeightsUpTo};
@@ -84,23 +84,27 @@ fn greatest(weights: &[u64]) -> u64
     most
 }
 
-/// Doubles each of the weights.
-fn double_each(weights: &mut [u64])
-    requires { AreWeightsUpTo (2 ^ 26) weights.old }
-    ensures { AreWeightsUpTo (2 ^ 27) weights.new }
+/// The double of the weight, or its half, rounded up.
+fn double_or_half(weight: u64, doubles: bool) -> u64
+    requires weight { (1 ≤ weight) × (weight ≤ 2 ^ 28) }
+    requires small { doubles ≡ true → weight ≤ 2 ^ 26 }
+    ensures { (1 ≤ result) × (result ≤ 2 ^ 27) }
 {
-    for weight in weights.iter_mut() {
-        *weight *= 2;
+    if doubles {
+        weight * 2
+    } else {
+        (weight + 1) / 2
     }
 }
 
-/// Halves each of the weights, rounding up.
-fn halve_each(weights: &mut [u64])
-    requires { AreWeightsUpTo (2 ^ 28) weights.old }
+/// Doubles each of the weights, or halves it, rounding up.
+fn level_each(weights: &mut [u64], doubles: bool)
+    requires weights { AreWeightsUpTo (2 ^ 28) weights.old }
+    requires small { doubles ≡ true → AreWeightsUpTo (2 ^ 26) weights.old }
     ensures { AreWeightsUpTo (2 ^ 27) weights.new }
 {
     for weight in weights.iter_mut() {
-        *weight = (*weight + 1) / 2;
+        *weight = double_or_half(*weight, doubles);
     }
 }
 
@@ -111,9 +115,9 @@ fn level(weights: &mut [u64])
 {
     let most = greatest(weights);
     if most < SMALL_WEIGHT {
-        double_each(weights);
+        level_each(weights, true);
     } else if most > MAX_WEIGHT {
-        halve_each(weights);
+        level_each(weights, false);
     }
 }
 

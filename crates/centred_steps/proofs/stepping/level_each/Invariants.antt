@@ -1,5 +1,5 @@
 use Rattle.std.proofs.Common.{◌≡◌, ℕ, ◌^◌, ◌<◌, ◌≤◌, slice_index}
-use Rattle.centred_steps.proofs.stepping.halve_each.Given as goal
+use Rattle.centred_steps.proofs.stepping.level_each.Given as goal
 
 abbrev pub invariant-loop-weight : goal.invariant-loop-weight
 invariant-loop-weight l =
