@@ -292,7 +292,7 @@ impl Window {
         ensures content { D.content depot.new ≡ D.content depot.old }
     {
         self.clear();
-        'pieces: while self.state == State::Open {
+        'rest: while self.state == State::Open {
             self.fetch(depot, name);
             self.clear();
         }

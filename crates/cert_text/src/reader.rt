@@ -116,7 +116,7 @@ impl<C: Cursor> Reader<C> {
         ensures takes { Takes self.old self.new (Reads result) (λ p. read_digits p.line first p.rest) }
     {
         let mut value = first;
-        while let Some(b) = self.source.peek() {
+        'digits: while let Some(b) = self.source.peek() {
             if !b.is_ascii_digit() {
                 break;
             }

@@ -75,12 +75,12 @@ pub fn first_link(
 {
     let nexts = outgoing.nexts.as_slice();
     let mut best: Option<(u32, u128)> = None;
-    let mut h = outgoing.firsts.as_slice()[node as usize];
-    while (h as usize) < nexts.len() {
-        if let Some(sum) = sum_over(net, ways, src, prefix, excluded, node, h) {
-            best = lesser(best, h, sum);
+    let mut link = outgoing.firsts.as_slice()[node as usize];
+    while (link as usize) < nexts.len() {
+        if let Some(sum) = sum_over(net, ways, src, prefix, excluded, node, link) {
+            best = lesser(best, link, sum);
         }
-        h = nexts[h as usize];
+        link = nexts[link as usize];
     }
     best
 }

@@ -18,7 +18,7 @@ use std::alloc::Global;
 fn pass_lines<'a>(r: &mut Reader<Bytes<'a>>, alloc: Global) -> Result<(), Stop>
     ensures { PassesLines body_lines result (place_of r.old) }
 {
-    while !is_end_next(r.source().left()) {
+    'lines: while !is_end_next(r.source().left()) {
         line(r, alloc)?;
     }
     closing(r)

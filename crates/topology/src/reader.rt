@@ -76,7 +76,7 @@ fn read_links(alloc: Global, rows: &mut Rows<'_>, draft: &mut Draft) -> Result<(
     ensures refused { IfErr result (λ e. e ≢ fault.Memory → fold_rows with_link_row no_links 1 rows.old.rest ≡ Err e) }
 {
     let mut row = 1u64;
-    while rows.advance()? {
+    'links: while rows.advance()? {
         let entry = read_entry(rows, row)?;
         draft.add_link(alloc, entry, row)?;
         row += 1;

@@ -10,16 +10,16 @@ pub returns-in_err-line : goal.returns-in_err-line
 returns-in_err-line c =
     let p = err_from_is_err_and c.from_residual.result c.from_residual.ensures.1 in
     let last = c.is_end_next.ensures ∙ ap begins_with_end (c.left.ensures ∙ ap (λ s. s.bytes.now) c.source.ensures) in
-    rw (p.1, p.2) (line_passes_not (Unit {0}) (place_of c.args.r.now) (place_of c.loop-alloc.r) c.in_err-line.field-0.0 c.loop-alloc.invariant (sym last ∙ c.loop-alloc-test.true) (c.in_err-line.ensures.takes.reads tt))
+    rw (p.1, p.2) (line_passes_not (Unit {0}) (place_of c.args.r.now) (place_of c.lines.r) c.in_err-line.field-0.0 c.lines.invariant (sym last ∙ c.lines-test.true) (c.in_err-line.ensures.takes.reads tt))
 
-pub loop-alloc-smaller : goal.loop-alloc-smaller
-loop-alloc-smaller c = fewer_left (place_of c.loop-alloc.r) c.in_ok-line.field-0 (place_of c.line.new.r) (c.in_ok-line.ensures.takes.reads tt)
+pub lines-smaller : goal.lines-smaller
+lines-smaller c = fewer_left (place_of c.lines.r) c.in_ok-line.field-0 (place_of c.line.new.r) (c.in_ok-line.ensures.takes.reads tt)
 
-pub loop-alloc-preserved : goal.loop-alloc-preserved
-loop-alloc-preserved c =
-    one_more_passed (place_of c.args.r.now) (place_of c.loop-alloc.r) c.in_ok-line.field-0 (place_of c.line.new.r) c.loop-alloc.invariant (c.in_ok-line.ensures.takes.reads tt)
+pub lines-preserved : goal.lines-preserved
+lines-preserved c =
+    one_more_passed (place_of c.args.r.now) (place_of c.lines.r) c.in_ok-line.field-0 (place_of c.line.new.r) c.lines.invariant (c.in_ok-line.ensures.takes.reads tt)
 
 pub returns : goal.returns
 returns c =
     let last = c.is_end_next.ensures ∙ ap begins_with_end (c.left.ensures ∙ ap (λ s. s.bytes.now) c.source.ensures) in
-    closing_passes (place_of c.args.r.now) (place_of c.loop-alloc.r) (place_of c.closing.new.r) c.closing.result c.loop-alloc.invariant (sym last ∙ c.loop-alloc-test.false) (c.closing.ensures.takes.reads tt)
+    closing_passes (place_of c.args.r.now) (place_of c.lines.r) (place_of c.closing.new.r) c.closing.result c.lines.invariant (sym last ∙ c.lines-test.false) (c.closing.ensures.takes.reads tt)

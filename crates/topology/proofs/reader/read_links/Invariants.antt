@@ -5,13 +5,13 @@ use Rattle.topology.specs.Topology.{with_link_row, no_links}
 use Rattle.topology.proofs.reader.read_links.Given as goal
 
 -- what the rows that are left add to the network so far is what all of them make
-abbrev pub invariant-loop-rows : goal.invariant-loop-rows
-invariant-loop-rows l = record {
+abbrev pub invariant-links : goal.invariant-links
+invariant-links l = record {
   made : fold_rows with_link_row no_links 1 l.fn.rows.rest ≡ fold_rows with_link_row l.draft l.row l.rows.rest;
   row : l.row ≡ length l.draft.links + 1;
   nodes : length l.draft.names ≤ MAX_NODES;
   links : length l.draft.links ≤ MAX_LINKS;
 }
 
-abbrev pub decreases-loop-rows : goal.decreases-loop-rows
-decreases-loop-rows l = length l.rows.rest
+abbrev pub decreases-links : goal.decreases-links
+decreases-links l = length l.rows.rest

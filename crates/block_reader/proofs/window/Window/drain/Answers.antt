@@ -8,8 +8,8 @@ use Rattle.block_reader.proofs.Going.{at_clear, in_clear}
 use Rattle.block_reader.proofs.Reading.{at_most_itself}
 use Rattle.block_reader.proofs.window.Window.drain.Goals as goal
 
-pub pieces-init : goal.pieces-init
-pieces-init g c =
+pub rest-init : goal.rest-init
+rest-init g c =
     let w = c.args.self.now in
     let clear = c.clear.ensures in (
       refl,
@@ -28,16 +28,16 @@ pieces-init g c =
       (λ closed. clear.fetched),
     )
 
-pub pieces-preserved : goal.pieces-preserved
-pieces-preserved g c =
-    let all = c.pieces.invariant in
+pub rest-preserved : goal.rest-preserved
+rest-preserved g c =
+    let all = c.rest.invariant in
     let next = c.fetch.ensures in
-    let clear = c.clear-in-pieces.ensures in
+    let clear = c.clear-in-rest.ensures in
     let w = c.fetch.new.self in
-    let after = c.clear-in-pieces.new.self in
+    let after = c.clear-in-rest.new.self in
     let name = c.args.name.now in
-    let is_open : c.pieces.self.state ≡ Open = search rules in
-    let sound : c.pieces.self.state ≢ Failed = (λ (is : c.pieces.self.state ≡ Failed). cc) in (
+    let is_open : c.rest.self.state ≡ Open = search rules in
+    let sound : c.rest.self.state ≢ Failed = (λ (is : c.rest.self.state ≡ Failed). cc) in (
       next.content ∙ all.0,
       (λ before passed s. let h = all.1 before passed s in (
         h.0 ++ ready w,
@@ -59,6 +59,6 @@ pieces-preserved g c =
       (λ is. next.steady (λ failed. is (clear.state ∙ failed)) ∙ all.9 sound),
       (λ other. le_trans (all.10 other) (next.later other)),
       adds_then _ _ _ _ _ all.0 all.11 next.added,
-      omega (arith, all.12, clear.fetched, next.count, ap length next.behind.1, length-append (ready c.pieces.self) next.behind.0),
+      omega (arith, all.12, clear.fetched, next.count, ap length next.behind.1, length-append (ready c.rest.self) next.behind.0),
       (λ closed. absurd (closed (sym (all.7 closed).0 ∙ is_open))),
     )

@@ -5,8 +5,8 @@ use Rattle.block_reader.specs.declared.window.State.TheVariants.{Open, Failed}
 use Rattle.block_reader.specs.Standing.{ready, fetched_of, state_of, room_of, limit_of, reads_left, StandsAt, StandsIn}
 use Rattle.block_reader.proofs.window.Window.drain.Given as goal
 
-abbrev pub invariant-pieces : goal.invariant-pieces
-invariant-pieces g l =
+abbrev pub invariant-rest : goal.invariant-rest
+invariant-rest g l =
     (g.D.Depot.content l.depot ≡ g.D.Depot.content l.fn.depot)
     × ((before : List Read) (passed : List ℕ) → StandsAt (pass l.name before (g.D.Depot.gave l.fn.depot)) l.fn.self passed →
     (more : List ℕ) × StandsAt (pass l.name before (g.D.Depot.gave l.depot)) l.self (passed ++ more))
@@ -24,5 +24,5 @@ invariant-pieces g l =
     × (fetched_of l.fn.self ≤ fetched_of l.self)
     × (state_of l.fn.self ≢ Open → fetched_of l.self ≡ fetched_of l.fn.self)
 
-abbrev pub decreases-pieces : goal.decreases-pieces
-decreases-pieces g l = reads_left l.self
+abbrev pub decreases-rest : goal.decreases-rest
+decreases-rest g l = reads_left l.self
