@@ -2,7 +2,6 @@ pub mod Verdict
 pub mod Checking
 pub mod CheckingWitnesses
 pub mod Converting
-pub mod FedBounds
 pub mod Bounding
 pub mod BoundsAnswers
 pub mod Repricing

@@ -2,7 +2,6 @@ pub mod CheckWitness
 pub mod Attack
 pub mod Challenge
 pub mod Convert
-pub mod Feeding
 pub mod Bounds
 pub mod Reprice
 pub mod Tighten

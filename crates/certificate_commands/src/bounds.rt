@@ -8,8 +8,7 @@ ghost use Rattle.link_bounds.specs.Feeds.{StandsFor};
 ghost use Rattle.command_frame.specs.Outcome.{status_of, answer_text};
 ghost use Rattle.certificate_commands.specs.Bounds.{IsBoundsAnswer};
 
-use crate::feeding::bounds_in;
-use command_files::failure_answer;
+use command_files::{failure_answer, feed_in};
 use command_frame::{Answer, Ask, Fault};
 use link_bounds::{Bounds as LinkBounds, BoundsFeed};
 use std::alloc::Global;
@@ -28,7 +27,7 @@ impl<'a> Ask for Bounds<'a> {
     ghost reading = { λ c. (bounds_entry c.certificate.now).reading };
 
     fn answer<D: Depot>(&self, alloc: Global, depot: &mut D) -> Result<Answer, Fault> {
-        let feed = bounds_in(alloc, depot, self.certificate)?;
+        let feed: BoundsFeed = feed_in(alloc, depot, self.certificate)?;
         Ok(judge(alloc, feed)?)
     }
 }

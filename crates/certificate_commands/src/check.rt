@@ -27,7 +27,7 @@ impl<'a> Ask for Check<'a> {
     ghost reading = { λ c. (check_entry c.certificate.now).reading };
 
     fn answer<D: Depot>(&self, alloc: Global, depot: &mut D) -> Result<Answer, Fault> {
-        let feed = feed_in(alloc, depot, self.certificate)?;
+        let feed: Feed = feed_in(alloc, depot, self.certificate)?;
         Ok(judge(alloc, feed)?)
     }
 }

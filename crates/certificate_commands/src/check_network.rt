@@ -31,7 +31,7 @@ impl<'a> Ask for CheckNetwork<'a> {
     ghost reading = { λ c. (check_network_entry c.certificate.now c.topology.now).reading };
 
     fn answer<D: Depot>(&self, alloc: Global, depot: &mut D) -> Result<Answer, Fault> {
-        let feed = feed_in(alloc, depot, self.certificate)?;
+        let feed: Feed = feed_in(alloc, depot, self.certificate)?;
         let same = is_network_of(alloc, depot, &feed.head().network, self.topology)?;
         Ok(judge_on(alloc, feed, same)?)
     }

@@ -9,7 +9,6 @@ mod check;
 mod check_network;
 mod check_witness;
 mod convert;
-mod feeding;
 mod reprice;
 mod tighten;
 

@@ -3,7 +3,7 @@ ghost use Rattle.te_model.specs.Validity.{IsValid};
 
 use crate::cases::{Case, all_hold};
 use cert_text::{CertFault, read};
-use ratio_checker::{Feed, Finding, verdict};
+use ratio_checker::{BlockFeed, Feed, Finding, verdict};
 use std::alloc::{AllocError, Global};
 use te_model::{Certificate, Memory};
 

@@ -11,100 +11,91 @@ use Rattle.block_reader.specs.declared.stream_fault.StreamFault.{StreamFault}
 use Rattle.block_reader.specs.declared.stream_fault.StreamFault.TheVariants as faults
 use Rattle.block_reader.specs.Blocks.{HasRead, IsReaderOf, IsTextOf, IsFaultOf, name_of, lent_block, last_link, noted_fault}
 use Rattle.block_reader.proofs.Begun.{fault_begun}
-use Rattle.ratio_checker.specs.declared.feed.Feed.{Feed}
-use Rattle.ratio_checker.specs.Feeds.{StandsFor, head_of_feed, next_link}
 use Rattle.command_frame.specs.declared.answer.Fault.{Fault}
 use Rattle.command_frame.specs.declared.answer.Fault.TheVariants.{Refused, Read, Memory}
 use Rattle.command_files.specs.CertificateFile.{certificates}
 use Rattle.command_files.specs.Refusals.{shape_reason, rule_reason}
 use Rattle.te_ports.specs.Shown.{Shown}
 use Rattle.command_frame.specs.Outcome.{KeepsDepot, ReadsFile}
-use Rattle.command_files.specs.Blocks.{IsFed, IsFedWhole, ReadsOn, IsAnswerTo, FeedsFile, link_after}
+use Rattle.command_files.specs.Blocks.{IsFedWhole, ReadsOn, IsAnswerTo, FeedsFile}
 use Rattle.command_files.proofs.Streaming.{HasReadSoFar, after_more, after_on, after_whole, after_stops, text_file}
+
+-- the least link that may follow this one
+abbrev pub link_after : Option ℕ → ℕ
+link_after None = 0
+link_after (Some link) = link + 1
 
 follows_after : (before : Option ℕ) (link : ℕ) → IsTrue (follows before link) → link_after before ≤ link
 follows_after None link is = omega arith
 follows_after (Some before) link is = search (rules, tests)
 
--- so far no read failed, and the feed was given what was read
-pub record StandsFed (file : List ℕ) (old new : Shown) (reader : BlockReader) (feed : Feed) : Type 0 where
-  pub head : Head
-  pub blocks : List Block
-  pub fed : IsFed (pass file old.gave new.gave) reader feed head blocks
-  pub named : name_of reader ≡ file
-  pub steady : new.faults ≡ old.faults
-  pub may : KeepsDepot old new
+module _ {F : Type 0} (stands_for : F → Head → List Block → Type 0) (given_head : F → Head) (least_link : F → ℕ) where
+  -- so far no read failed, and the feed was given what was read
+  pub record StandsFed (file : List ℕ) (old new : Shown) (reader : BlockReader) (feed : F) : Type 0 where
+    pub head : Head
+    pub blocks : List Block
+    pub read : HasReadSoFar file old new reader head blocks
+    pub fed : stands_for feed head blocks
+    pub same : given_head feed ≡ head
+    pub next : least_link feed ≡ link_after (last_link reader)
 
--- the block that was read is valid
-pub fed_valid : (file : List ℕ) (old mid : Shown) (reader next : BlockReader) (feed : Feed) (block : Block) → StandsFed file old mid reader feed →
-    ((head : Head) → IsReaderOf reader head → IsValidBlock head (lent_block next)) → block ≡ lent_block next → IsValidBlock (head_of_feed feed) block
-fed_valid file old mid reader next feed block s valid same =
-    subst (λ h. IsValidBlock h block) (sym s.fed.fed.same)
-    (subst (λ b. IsValidBlock s.head b) (sym same) (valid s.head s.fed.read.stands.of_head))
+  -- the block that was read is valid
+  pub fed_valid : (file : List ℕ) (old mid : Shown) (reader next : BlockReader) (feed : F) (block : Block) → StandsFed file old mid reader feed →
+      ((head : Head) → IsReaderOf reader head → IsValidBlock head (lent_block next)) → block ≡ lent_block next → IsValidBlock (given_head feed) block
+  fed_valid file old mid reader next feed block s valid same =
+      subst (λ h. IsValidBlock h block) (sym s.same)
+      (subst (λ b. IsValidBlock s.head b) (sym same) (valid s.head s.read.read.stands.of_head))
 
--- and the reader stands after it
-read_so_far : (file : List ℕ) (old new : Shown) (reader : BlockReader) (feed : Feed) (s : StandsFed file old new reader feed) →
-    HasReadSoFar file old new reader s.head s.blocks
-read_so_far file old new reader feed s = record { read = s.fed.read; named = s.named; steady = s.steady; may = s.may }
+  -- and above those before it
+  pub may_follow : (reader next : BlockReader) (feed : F) (block : Block) → least_link feed ≡ link_after (last_link reader) → block ≡ lent_block next →
+      IsTrue (follows (last_link reader) (lent_block next).link) → least_link feed ≤ block.link
+  may_follow reader next feed block at same above =
+      rw (at, same) (follows_after (last_link reader) (lent_block next).link above)
 
--- the same after one block more
-pub fed_more : (file : List ℕ) (old mid new : Shown) (reader next : BlockReader) (feed more : Feed) (block : Block) →
-    StandsFed file old mid reader feed →
-    ((before : List FileRead) (head : Head) (blocks : List Block) → HasRead (pass (name_of reader) before mid.gave) reader head blocks →
-    HasRead (pass (name_of reader) before new.gave) next head (blocks ++ lent_block next ∷ [])) →
-    ((head : Head) (blocks : List Block) → StandsFor feed head blocks → StandsFor more head (blocks ++ block ∷ [])) →
-    block ≡ lent_block next → last_link next ≡ Some (lent_block next).link → next_link more ≡ block.link + 1 →
-    name_of next ≡ name_of reader → new.faults ≡ mid.faults → KeepsDepot mid new → StandsFed file old new next more
-fed_more file old mid new reader next feed more block s handed given same last follows named steady may =
-    let on = after_more file old mid new reader next s.head s.blocks (read_so_far file old mid reader feed s) handed named steady may in
-    record {
-      head = s.head;
-      blocks = s.blocks ++ lent_block next ∷ [];
-      fed = record {
-        read = on.read;
-        fed = subst (λ b. StandsFor more s.head (s.blocks ++ b ∷ [])) same (given s.head s.blocks s.fed.fed);
-        next = follows ∙ ap (λ b. b.link + 1) same ∙ sym (ap link_after last);
-      };
-      named = on.named;
-      steady = on.steady;
-      may = on.may;
-    }
+  -- the same after one block more
+  pub fed_more : (file : List ℕ) (old mid new : Shown) (reader next : BlockReader) (feed more : F) (block : Block) →
+      StandsFed file old mid reader feed →
+      ((before : List FileRead) (head : Head) (blocks : List Block) → HasRead (pass (name_of reader) before mid.gave) reader head blocks →
+      HasRead (pass (name_of reader) before new.gave) next head (blocks ++ lent_block next ∷ [])) →
+      ((head : Head) (blocks : List Block) → stands_for feed head blocks → stands_for more head (blocks ++ block ∷ [])) →
+      block ≡ lent_block next → last_link next ≡ Some (lent_block next).link → (given_head more ≡ given_head feed) × (least_link more ≡ block.link + 1) →
+      name_of next ≡ name_of reader → new.faults ≡ mid.faults → KeepsDepot mid new → StandsFed file old new next more
+  fed_more file old mid new reader next feed more block s handed given same last rest named steady may = record {
+    head = s.head;
+    blocks = s.blocks ++ lent_block next ∷ [];
+    read = after_more file old mid new reader next s.head s.blocks s.read handed named steady may;
+    fed = subst (λ b. stands_for more s.head (s.blocks ++ b ∷ [])) same (given s.head s.blocks s.fed);
+    same = rest.0 ∙ s.same;
+    next = rest.1 ∙ ap (λ b. b.link + 1) same ∙ sym (ap link_after last);
+  }
 
--- the block is above those before it
-pub may_follow : (reader next : BlockReader) (feed : Feed) (block : Block) → next_link feed ≡ link_after (last_link reader) → block ≡ lent_block next →
-    IsTrue (follows (last_link reader) (lent_block next).link) → next_link feed ≤ block.link
-may_follow reader next feed block at same above =
-    rw (at, same) (follows_after (last_link reader) (lent_block next).link above)
+  -- the file was read to its end
+  pub fed_on : (file : List ℕ) (old mid new : Shown) (reader : BlockReader) (feed : F) → StandsFed file old mid reader feed →
+      new.faults ≡ mid.faults → KeepsDepot mid new → ReadsOn {A = F} file old new (Ok feed)
+  fed_on file old mid new reader feed s steady may = after_on feed file old mid new reader s.head s.blocks s.read steady may
 
--- the file was read to its end
-pub fed_on : (file : List ℕ) (old mid new : Shown) (reader : BlockReader) (feed : Feed) → StandsFed file old mid reader feed →
-    new.faults ≡ mid.faults → KeepsDepot mid new → ReadsOn {A = Feed} file old new (Ok feed)
-fed_on file old mid new reader feed s steady may =
-    after_on feed file old mid new reader s.head s.blocks (read_so_far file old mid reader feed s) steady may
+  -- or reading of it stopped
+  pub fed_stops : (A B : Type 0) (file : List ℕ) (old mid new : Shown) (reader : BlockReader) (feed : F) (fault : StreamFault) →
+      StandsFed file old mid reader feed →
+      ((before : List FileRead) (head : Head) (blocks : List Block) → HasRead (pass (name_of reader) before mid.gave) reader head blocks →
+      IsFaultOf (pass (name_of reader) before new.gave) fault) →
+      (◌≡◌ {A = Result A StreamFault} (Err fault) (Err faults.Failed) → (noted_fault reader ≡ Some faults.Failed) ⊎ Rose (mid.faults (name_of reader)) (new.faults (name_of reader))) →
+      ((◌≡◌ {A = Result A StreamFault} (Err fault) (Err faults.Failed) → ⊥) → new.faults ≡ mid.faults) → KeepsDepot mid new →
+      ReadsOn {A = B} file old new (Err fault)
+  fed_stops A B file old mid new reader feed fault s refused failed steady may =
+      after_stops {A = A} {B = B} file old mid new reader s.head s.blocks fault s.read refused failed steady may
 
--- or reading of it stopped
-pub fed_stops : {A B : Type 0} (file : List ℕ) (old mid new : Shown) (reader : BlockReader) (feed : Feed) (fault : StreamFault) →
-    StandsFed file old mid reader feed →
-    ((before : List FileRead) (head : Head) (blocks : List Block) → HasRead (pass (name_of reader) before mid.gave) reader head blocks →
-    IsFaultOf (pass (name_of reader) before new.gave) fault) →
-    (◌≡◌ {A = Result A StreamFault} (Err fault) (Err faults.Failed) → (noted_fault reader ≡ Some faults.Failed) ⊎ Rose (mid.faults (name_of reader)) (new.faults (name_of reader))) →
-    ((◌≡◌ {A = Result A StreamFault} (Err fault) (Err faults.Failed) → ⊥) → new.faults ≡ mid.faults) → KeepsDepot mid new →
-    ReadsOn {A = B} file old new (Err fault)
-fed_stops {A} {B} file old mid new reader feed fault s refused failed steady may =
-    after_stops {A = A} {B = B} file old mid new reader s.head s.blocks fault (read_so_far file old mid reader feed s) refused failed steady may
+  -- at the end of the file the feed was given a certificate
+  pub fed_whole : (file : List ℕ) (old mid new : Shown) (reader : BlockReader) (feed : F) → StandsFed file old mid reader feed →
+      ((before : List FileRead) (head : Head) (blocks : List Block) → HasRead (pass (name_of reader) before mid.gave) reader head blocks →
+      IsTextOf (pass (name_of reader) before new.gave) head blocks) →
+      IsFedWhole stands_for (pass file old.gave new.gave) feed
+  fed_whole file old mid new reader feed s whole = (s.head, s.blocks, s.fed, after_whole file old mid new reader s.head s.blocks s.read whole)
 
--- at the end of the file the feed was given a certificate
-pub fed_whole : (file : List ℕ) (old mid new : Shown) (reader : BlockReader) (feed : Feed) → StandsFed file old mid reader feed →
-    ((before : List FileRead) (head : Head) (blocks : List Block) → HasRead (pass (name_of reader) before mid.gave) reader head blocks →
-    IsTextOf (pass (name_of reader) before new.gave) head blocks) →
-    IsFedWhole (pass file old.gave new.gave) feed
-fed_whole file old mid new reader feed s whole =
-    (s.head, s.blocks, s.fed.fed, after_whole file old mid new reader s.head s.blocks (read_so_far file old mid reader feed s) whole)
-
--- which is what the file gives
-pub fed_file : (file : List ℕ) (old new : Shown) (feed : Feed) → ReadsOn {A = Feed} file old new (Ok feed) →
-    IsFedWhole (pass file old.gave new.gave) feed → FeedsFile file old new (Ok feed)
-fed_file file old new feed on whole = (whole.0, whole.1, whole.2, text_file feed file old new whole.0 whole.1 on whole.3)
+  -- which is what the file gives
+  pub fed_file : (file : List ℕ) (old new : Shown) (feed : F) → ReadsOn {A = F} file old new (Ok feed) →
+      IsFedWhole stands_for (pass file old.gave new.gave) feed → FeedsFile stands_for file old new (Ok feed)
+  fed_file file old new feed on whole = (whole.0, whole.1, whole.2, text_file feed file old new whole.0 whole.1 on whole.3)
 
 -- memory was short for the line
 short : {A : Type 0} (file : List ℕ) (old new : Shown) (fault : StreamFault) → ReadsOn {A = A} file old new (Err fault) →

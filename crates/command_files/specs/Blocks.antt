@@ -1,15 +1,12 @@
 -- The file of a certificate that is read one block at a time.
-use Rattle.std.specs.Prelude.{◌≡◌, ◌≢◌, ℕ, ◌+◌, List, codes, Option, Some, None, Result, Ok, Err, IsErrOf}
+use Rattle.std.specs.Prelude.{◌≡◌, ◌≢◌, ℕ, List, codes, Result, Ok, Err, IsErrOf}
 use Rattle.te_ports.specs.Ports.{Rose}
 use Rattle.te_ports.specs.Record.{Pass, pass}
 use Rattle.te_model.specs.declared.certificate.Block.{Block}
 use Rattle.te_model.specs.declared.certificate.Head.{Head}
-use Rattle.block_reader.specs.declared.block_reader.BlockReader.{BlockReader}
 use Rattle.block_reader.specs.declared.stream_fault.StreamFault.{StreamFault}
 use Rattle.block_reader.specs.declared.stream_fault.StreamFault.TheVariants as faults
-use Rattle.block_reader.specs.Blocks.{HasRead, IsFaultOf, IsTextOf, last_link}
-use Rattle.ratio_checker.specs.declared.feed.Feed.{Feed}
-use Rattle.ratio_checker.specs.Feeds.{StandsFor, next_link}
+use Rattle.block_reader.specs.Blocks.{IsFaultOf, IsTextOf}
 use Rattle.command_frame.specs.declared.answer.Fault.{Fault}
 use Rattle.command_frame.specs.declared.answer.Fault.TheVariants.{Read, Memory}
 use Rattle.command_frame.specs.Reading.{too_long}
@@ -18,20 +15,9 @@ use Rattle.command_files.specs.Refusals.{shape_reason, rule_reason}
 use Rattle.te_ports.specs.Shown.{Shown}
 use Rattle.command_frame.specs.Outcome.{KeepsDepot, ReadsFile, IsRefusal}
 
--- the least link that may follow this one
-abbrev pub link_after : Option ℕ → ℕ
-link_after None = 0
-link_after (Some link) = link + 1
-
--- the feed was given the head and the blocks behind which the reader stands in what reads gave
-pub record IsFed (gave : Pass) (reader : BlockReader) (feed : Feed) (head : Head) (blocks : List Block) : Type 0 where
-  pub read : HasRead gave reader head blocks
-  pub fed : StandsFor feed head blocks
-  pub next : next_link feed ≡ link_after (last_link reader)
-
 -- the feed was given the head and the blocks of a certificate whose text is all that reads gave
-abbrev pub IsFedWhole : Pass → Feed → Type 0
-IsFedWhole gave feed = (head : Head) × (blocks : List Block) × StandsFor feed head blocks × IsTextOf gave head blocks
+abbrev pub IsFedWhole : {F : Type 0} → (F → Head → List Block → Type 0) → Pass → F → Type 0
+IsFedWhole stands_for gave feed = (head : Head) × (blocks : List Block) × stands_for feed head blocks × IsTextOf gave head blocks
 
 -- the contract of a call that reads a file block by block: a fault is that of what its reads gave, and a failed read is one of the call
 pub record ReadsOn {A : Type 0} (file : List ℕ) (old new : Shown) (result : Result A StreamFault) : Type 0 where
@@ -49,11 +35,11 @@ IsAnswerTo file (faults.Rule rule) answer = IsRefusal file (rule_reason (codes "
 IsAnswerTo file faults.Memory answer = answer ≡ Memory
 
 -- the feed was given the certificate that the file gives, or the file is refused or not read
-abbrev pub FeedsFile : List ℕ → Shown → Shown → Result Feed Fault → Type 0
-FeedsFile file old new (Ok feed) =
-    (head : Head) × (blocks : List Block) × StandsFor feed head blocks
+abbrev pub FeedsFile : {F : Type 0} → (F → Head → List Block → Type 0) → List ℕ → Shown → Shown → Result F Fault → Type 0
+FeedsFile stands_for file old new (Ok feed) =
+    (head : Head) × (blocks : List Block) × stands_for feed head blocks
     × ReadsFile certificates file old new (Ok (record { head = head; blocks = blocks }))
-FeedsFile file old new (Err fault) = ReadsFile certificates file old new (Err fault)
+FeedsFile stands_for file old new (Err fault) = ReadsFile certificates file old new (Err fault)
 
 -- this is the head of a certificate whose text is all that reads gave
 abbrev pub IsHeadOf : Pass → Head → Type 0

@@ -8,7 +8,7 @@ ghost use Rattle.te_ports.specs.Shown.{shown_by};
 use crate::reasons::FormatReason;
 use block_reader::{BlockReader, StreamFault};
 use command_frame::{Fault, refuse, too_long};
-use ratio_checker::Feed;
+use ratio_checker::BlockFeed;
 use std::alloc::Global;
 use te_model::Head;
 use te_ports::Depot;
@@ -27,13 +27,17 @@ fn answer_to(alloc: Global, file: &str, fault: StreamFault) -> Fault
 }
 
 // A feed that was given the head of the file, and each of its blocks. The file is read to its end.
-fn feed_blocks<D: Depot>(alloc: Global, depot: &mut D, file: &str) -> Result<Feed, StreamFault>
-    ensures whole { IfOk result (IsFedWhole (pass file.now (D.gave depot.old) (D.gave depot.new))) }
+fn feed_blocks<F: BlockFeed + Drop, D: Depot>(
+    alloc: Global,
+    depot: &mut D,
+    file: &str,
+) -> Result<F, StreamFault>
+    ensures whole { IfOk result (IsFedWhole F.stands_for (pass file.now (D.gave depot.old) (D.gave depot.new))) }
     ensures reads { ReadsOn file.now (shown_by D.content D.gave D.faults depot.old)
         (shown_by D.content D.gave D.faults depot.new) result }
 {
     let (mut reader, head) = BlockReader::open(alloc, depot, file)?;
-    let Ok(mut feed) = Feed::new(alloc, head) else {
+    let Ok(mut feed) = F::new(alloc, head) else {
         return Err(StreamFault::Memory);
     };
     'rest: while reader.next(depot)? {
@@ -43,11 +47,15 @@ fn feed_blocks<D: Depot>(alloc: Global, depot: &mut D, file: &str) -> Result<Fee
 }
 
 /// What is found of the certificate that the file of this name gives, as a feed that was given its head and all its
-/// blocks. No more than one of them is kept.
+/// blocks. No more than one of them is held at a time.
 ///
 /// `Refused` comes only for bytes that reads of the file gave, and `Read` only where a read of it failed in the call.
-pub fn feed_in<D: Depot>(alloc: Global, depot: &mut D, file: &str) -> Result<Feed, Fault>
-    ensures { FeedsFile file.now (shown_by D.content D.gave D.faults depot.old)
+pub fn feed_in<F: BlockFeed + Drop, D: Depot>(
+    alloc: Global,
+    depot: &mut D,
+    file: &str,
+) -> Result<F, Fault>
+    ensures { FeedsFile F.stands_for file.now (shown_by D.content D.gave D.faults depot.old)
         (shown_by D.content D.gave D.faults depot.new) result }
 {
     match feed_blocks(alloc, depot, file) {
@@ -63,7 +71,7 @@ fn read_head<D: Depot>(alloc: Global, depot: &mut D, file: &str) -> Result<Head,
         (shown_by D.content D.gave D.faults depot.new) result }
 {
     let (mut reader, head) = BlockReader::open(alloc, depot, file)?;
-    'rest: while reader.next(depot)? {}
+    'blocks: while reader.next(depot)? {}
     Ok(head)
 }
 

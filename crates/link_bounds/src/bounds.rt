@@ -1,13 +1,12 @@
 //! What the blocks of a certificate prove of each link, where they come one at a time.
 ghost use Rattle.std.specs.Prelude.{List, Option};
 ghost use Rattle.te_model.specs.declared.certificate.Head.{Head};
-ghost use Rattle.te_model.specs.Validity.{IsValidBlock, IsValidHead};
 
 use crate::feasibility::infeasibility_from;
 use crate::table::table_text;
 use best_blocks::need;
-use ratio_checker::Finding;
 use ratio_checker::share_table::ShareTable;
+use ratio_checker::{BlockFeed, Finding};
 use std::alloc::Global;
 use std::slice::from_ref;
 use te_model::{Block, Head, Memory};
@@ -33,7 +32,7 @@ pub struct BoundsFeed {
 }
 
 impl BoundsFeed {
-    ghost use Rattle.std.specs.Prelude.{◌≡◌, ◌-◌, ◌+◌, ◌<◌, ◌≤◌, ◌++◌, ◌∷◌, [], All, IfOk};
+    ghost use Rattle.std.specs.Prelude.{◌≡◌, ◌-◌, ◌≤◌, All, IfOk};
     ghost use Rattle.te_model.specs.declared.certificate.Block.{Block};
     ghost use Rattle.te_model.specs.Counting.{or_else};
     ghost use Rattle.te_model.specs.Feasible.{first_infeasibility};
@@ -43,23 +42,7 @@ impl BoundsFeed {
     ghost use Rattle.ratio_checker.specs.Checked.{CanCheckBlock};
     ghost use Rattle.ratio_checker.specs.Finding.{finding_of};
     ghost use Rattle.link_bounds.specs.Bounds.{AreBoundsOf};
-    ghost use Rattle.link_bounds.specs.Feeds.{CanFind, StandsFor, head_of_feed, infeasibility_from, next_link};
-
-    /// Takes a valid head, and all the memory of the feed: 4 bytes for each pair on each link, and 16 for each link.
-    pub fn new(alloc: Global, head: Head) -> Result<BoundsFeed, Memory>
-        requires { IsValidHead head }
-        ensures { IfOk result (λ f. StandsFor f head [] × (head_of_feed f ≡ head) × (next_link f ≡ 0)) }
-    {
-        let shares = ShareTable::new(alloc, &head)?;
-        let needs = vec![in alloc; 0u128; head.network.links.as_slice().len()]?;
-        Ok(BoundsFeed {
-            head,
-            shares,
-            next: 0,
-            found: Finding::Yes,
-            needs,
-        })
-    }
+    ghost use Rattle.link_bounds.specs.Feeds.{CanFind, StandsFor, infeasibility_from};
 
     // What is found already, or else of the links from the next one on and below the end, of which these are the blocks.
     fn found_below(&self, blocks: &[Block], end: u32) -> Finding
@@ -75,21 +58,6 @@ impl BoundsFeed {
             Finding::Yes => { infeasibility_from(&self.head, blocks, &self.shares, self.next, end) }
             Finding::No { .. } => self.found,
         }
-    }
-
-    /// Judges the links without a block since the last one, and then that of the block, which is valid and above the last.
-    /// What was found first stands.
-    pub fn block(&mut self, block: &Block)
-        requires fed { (head : Head) × (blocks : List Block) × StandsFor self.old head blocks }
-        requires block { IsValidBlock (head_of_feed self.old) block.now }
-        requires above { next_link self.old ≤ block.now.link }
-        ensures fed { (head : Head) → (blocks : List Block) → StandsFor self.old head blocks →
-            StandsFor self.new head (blocks ++ block.now ∷ []) }
-        ensures rest { (head_of_feed self.new ≡ head_of_feed self.old) × (next_link self.new ≡ block.now.link + 1) }
-    {
-        self.found = self.found_below(from_ref(block), block.link + 1);
-        self.needs[block.link as usize] = need(&self.head.network, block);
-        self.next = block.link + 1;
     }
 
     // The finding that the first of I1 to I3 that fails makes.
@@ -115,5 +83,35 @@ impl BoundsFeed {
             }
             Finding::No { link, rule, place } => Ok(Bounds::Infeasible { link, rule, place }),
         }
+    }
+}
+
+impl BlockFeed for BoundsFeed {
+    ghost use Rattle.link_bounds.specs.Feeds.{StandsFor, head_of_feed, next_link};
+
+    ghost stands_for = { StandsFor };
+
+    ghost given_head = { head_of_feed };
+
+    ghost least_link = { next_link };
+
+    /// The memory is 4 bytes for each pair on each link, and 16 for each link.
+    fn new(alloc: Global, head: Head) -> Result<BoundsFeed, Memory> {
+        let shares = ShareTable::new(alloc, &head)?;
+        let needs = vec![in alloc; 0u128; head.network.links.as_slice().len()]?;
+        Ok(BoundsFeed {
+            head,
+            shares,
+            next: 0,
+            found: Finding::Yes,
+            needs,
+        })
+    }
+
+    /// Judges the links without a block since the last one, and then that of the block. What was found first stands.
+    fn block(&mut self, block: &Block) {
+        self.found = self.found_below(from_ref(block), block.link + 1);
+        self.needs[block.link as usize] = need(&self.head.network, block);
+        self.next = block.link + 1;
     }
 }

@@ -12,7 +12,8 @@ use Rattle.te_model.specs.declared.certificate.Certificate.{Certificate}
 use Rattle.te_model.specs.Network.{node_count}
 use Rattle.te_model.specs.Path.{routes_at, source_of, destination_of}
 use Rattle.te_model.specs.Certificate.{empty_block}
-use Rattle.te_model.specs.Validity.{IsValid, IsValidBlock, is_small, rows_ascend, pair_below}
+use Rattle.te_model.specs.Validity.{IsValid, IsValidBlock, IsValidHead, is_small, rows_ascend, pair_below}
+use Rattle.te_model.proofs.ValidHeads.{valid_without_blocks}
 use Rattle.te_model.proofs.ValidParts.{valid_parts}
 use Rattle.te_model.proofs.Tests.{and_true, list_all_weaker}
 use Rattle.te_model.proofs.Valid.{rules_hold, valid_limits, block_small}
@@ -42,6 +43,10 @@ valid_head c valid =
       paths = λ p below. simple_paths c.head.network (source_of c.head.routes p) (destination_of c.head.routes p) (routes_at c.head.routes p).paths
           (valid_limits c valid).links (rules.paths p below);
     }
+
+-- so is a valid head alone
+pub head_of_valid : (head : Head) → IsValidHead head → CanCheckHead head
+head_of_valid head valid = valid_head (record { head = head; blocks = [] }) (valid_without_blocks head valid)
 
 rows_in_order : (rows : List Row) (low : ℕ) → rows_ascend rows ≡ true → ((r : Row) (rs : List Row) → rows ≡ r ∷ rs → low ≤ r.source) →
     AscendsFrom (λ r. r.source) low rows

@@ -1,5 +1,5 @@
 //! The verdict on a certificate whose blocks come one at a time.
-ghost use Rattle.std.specs.Prelude.{◌≡◌, ℕ, ◌+◌, ◌-◌, ◌≤◌, ◌++◌, ◌∷◌, [], ◌↔◌, List, Option, IfOk};
+ghost use Rattle.std.specs.Prelude.{◌≡◌, ℕ, ◌+◌, ◌-◌, ◌≤◌, ◌↔◌, List, Option};
 ghost use Rattle.te_model.specs.declared.certificate.Block.{Block};
 ghost use Rattle.te_model.specs.declared.certificate.Head.{Head};
 ghost use Rattle.te_model.specs.Counting.{or_else};
@@ -7,10 +7,10 @@ ghost use Rattle.te_model.specs.First.{IsFirstFailure};
 ghost use Rattle.te_model.specs.Inequalities.{LinkFailure, block_failure, first_failure, of_link, Holds};
 ghost use Rattle.te_model.specs.Network.{link_count};
 ghost use Rattle.te_model.specs.Ratio.{IsObliviousRatio};
-ghost use Rattle.te_model.specs.Validity.{IsValidBlock, IsValidHead};
 ghost use Rattle.ratio_checker.specs.Checked.{CanCheckBlock};
 ghost use Rattle.ratio_checker.specs.Finding.{finding_of};
 
+use crate::block_feed::BlockFeed;
 use crate::finding::{Finding, block_failure, finding_on};
 use crate::share_rows::{first_share, shares_failure};
 use crate::share_table::ShareTable;
@@ -27,21 +27,7 @@ pub struct Feed {
 }
 
 impl Feed {
-    ghost use Rattle.ratio_checker.specs.Feeds.{CanJudge, StandsFor, failure_without, head_of_feed, next_link};
-
-    /// Takes a valid head, and all the memory of the feed: 4 bytes for each pair on each link.
-    pub fn new(alloc: Global, head: Head) -> Result<Feed, Memory>
-        requires { IsValidHead head }
-        ensures { IfOk result (λ f. StandsFor f head [] × (head_of_feed f ≡ head) × (next_link f ≡ 0)) }
-    {
-        let shares = ShareTable::new(alloc, &head)?;
-        Ok(Feed {
-            head,
-            shares,
-            next: 0,
-            found: Finding::Yes,
-        })
-    }
+    ghost use Rattle.ratio_checker.specs.Feeds.{CanJudge, StandsFor, failure_without, head_of_feed};
 
     /// The head that `new` was given.
     pub fn head(&self) -> &Head
@@ -100,20 +86,6 @@ impl Feed {
         }
     }
 
-    /// Judges the links without a block since the last one, and then that of the block, which is valid and above the last.
-    /// What was found first stands.
-    pub fn block(&mut self, block: &Block)
-        requires fed { (head : Head) × (blocks : List Block) × StandsFor self.old head blocks }
-        requires block { IsValidBlock (head_of_feed self.old) block.now }
-        requires above { next_link self.old ≤ block.now.link }
-        ensures fed { (head : Head) → (blocks : List Block) → StandsFor self.old head blocks →
-            StandsFor self.new head (blocks ++ block.now ∷ []) }
-        ensures rest { (head_of_feed self.new ≡ head_of_feed self.old) × (next_link self.new ≡ block.now.link + 1) }
-    {
-        self.found = self.found_with(block);
-        self.next = block.link + 1;
-    }
-
     // The finding that the first failure makes.
     fn first_finding(&self) -> Finding
         requires { (head : Head) × (blocks : List Block) × StandsFor self.now head blocks }
@@ -145,5 +117,32 @@ impl Feed {
             IsObliviousRatio (head_of_feed self).network (head_of_feed self).routes (head_of_feed self).set (head_of_feed self).ratio }
     {
         self.first_finding()
+    }
+}
+
+impl BlockFeed for Feed {
+    ghost use Rattle.ratio_checker.specs.Feeds.{StandsFor, head_of_feed, next_link};
+
+    ghost stands_for = { StandsFor };
+
+    ghost given_head = { head_of_feed };
+
+    ghost least_link = { next_link };
+
+    /// The memory is 4 bytes for each pair on each link.
+    fn new(alloc: Global, head: Head) -> Result<Feed, Memory> {
+        let shares = ShareTable::new(alloc, &head)?;
+        Ok(Feed {
+            head,
+            shares,
+            next: 0,
+            found: Finding::Yes,
+        })
+    }
+
+    /// Judges the links without a block since the last one, and then that of the block. What was found first stands.
+    fn block(&mut self, block: &Block) {
+        self.found = self.found_with(block);
+        self.next = block.link + 1;
     }
 }

@@ -7,7 +7,7 @@ use Rattle.ratio_checker.specs.Finding.{finding_of}
 use Rattle.ratio_checker.proofs.FedBlocks.{block_more}
 use Rattle.ratio_checker.proofs.MoreBlocks.{before_more, count_more, link_is_there, valid_more}
 use Rattle.ratio_checker.proofs.Validity.{valid_block}
-use Rattle.ratio_checker.proofs.feed.Feed.block.Goals as goal
+use Rattle.ratio_checker.proofs.feed.FeedBlockFeed.block.Goals as goal
 
 pub found_with-self-requires-clause-block : goal.found_with-self-requires-clause-block
 found_with-self-requires-clause-block c = valid_block c.args.self.now.head c.args.block.now c.requires.block

@@ -1,13 +1,13 @@
 use Rattle.std.proofs.Common.{[], ap, arith, length, refl, subst, sym}
 use Rattle.std.proofs.lemmas.List.Elements.{All-nil}
 use Rattle.te_model.proofs.ValidHeads.{valid_without_blocks}
-use Rattle.ratio_checker.proofs.Validity.{valid_head}
+use Rattle.ratio_checker.proofs.Validity.{head_of_valid}
 use Rattle.link_bounds.specs.Feeds.{HasNeeds}
 use Rattle.link_bounds.proofs.FedBlocks.{needs_none}
-use Rattle.link_bounds.proofs.bounds.BoundsFeed.new.Goals as goal
+use Rattle.link_bounds.proofs.bounds.BoundsFeedBlockFeed.new.Goals as goal
 
 pub new-requires : goal.new-requires
-new-requires c = valid_head (record { head = c.args.head; blocks = [] }) (valid_without_blocks c.args.head c.requires)
+new-requires c = head_of_valid c.args.head c.requires
 
 pub returns : goal.returns
 returns c =
@@ -15,7 +15,7 @@ returns c =
       record {
         same = refl;
         valid = valid;
-        finds = record { head = valid_head (record { head = c.args.head; blocks = [] }) valid; shares = c.in_ok-shares.ensures };
+        finds = record { head = head_of_valid c.args.head c.requires; shares = c.in_ok-shares.ensures };
         before = All-nil _;
         count = omega arith;
         within = omega arith;

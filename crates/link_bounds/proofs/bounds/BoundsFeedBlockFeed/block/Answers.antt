@@ -14,7 +14,7 @@ use Rattle.ratio_checker.proofs.Validity.{valid_block}
 use Rattle.te_model.proofs.ValidParts.{valid_parts}
 use Rattle.link_bounds.specs.Feeds.{HasNeeds, infeasibility_from}
 use Rattle.link_bounds.proofs.FedBlocks.{block_more, needs_more}
-use Rattle.link_bounds.proofs.bounds.BoundsFeed.block.Goals as goal
+use Rattle.link_bounds.proofs.bounds.BoundsFeedBlockFeed.block.Goals as goal
 
 pub found_below-self-requires-clause-feed : goal.found_below-self-requires-clause-feed
 found_below-self-requires-clause-feed c = c.requires.fed.2.finds
