@@ -1,5 +1,5 @@
 -- The head of a made certificate is valid.
-use Rattle.std.proofs.Common.{◌≡◌, ℕ, zero, suc, ◌+◌, ◌-◌, ◌*◌, ◌^◌, ◌<◌, ◌≤◌, ◌⊎◌, inl, inr, map, Bool, true, ◌&&◌, List, [], ◌∷◌, None, length, arith, refl, ap, sym, subst, get_or, nat_lt, ◌==◌, sum_by, slice_index}
+use Rattle.std.proofs.Common.{◌≡◌, ℕ, zero, suc, ◌+◌, ◌-◌, ◌*◌, ◌^◌, ◌<◌, ◌≤◌, ◌⊎◌, inl, inr, map, true, ◌&&◌, List, [], ◌∷◌, length, arith, refl, ap, sym, subst, get_or, nat_lt, ◌==◌, sum_by, slice_index}
 use Rattle.std.specs.Prelude.{All, IsTrue}
 use Rattle.std.specs.List.{list_all}
 use Rattle.std.proofs.lemmas.Bool.{and_parts, and_from, or_cases, ltb-true, lt-ltb, le-leb, eqb-true, eq-eqb, ne_eqb}
@@ -26,8 +26,8 @@ use Rattle.te_model.proofs.FewPairs.{ascending_pairs_few}
 use Rattle.te_model.specs.Path.{chains, is_path, is_distinct, nodes_visited, routes_at, no_routes, source_of, destination_of}
 use Rattle.te_model.specs.PathRouting.{IsPathSplit}
 use Rattle.te_model.specs.Shape.{is_word, are_words, is_row_of, is_shaped_link, is_shaped_network, is_shaped_path, is_shaped_pair, is_shaped_set}
-use Rattle.te_model.specs.Validity.{pair_below, fault_at, rule_fault, is_sound_pair, has_sound_paths, has_ascending_paths, has_whole_weight, with_first, has_margin_numbers, has_pair_bounds, IsValidHead}
-use Rattle.te_model.proofs.Searches.{all_below_at, first_below_none, rule_fault_none}
+use Rattle.te_model.specs.Validity.{pair_below, fault_at, is_sound_pair, has_sound_paths, has_ascending_paths, has_whole_weight, with_first, has_margin_numbers, has_pair_bounds, IsValidHead}
+use Rattle.te_model.proofs.Searches.{all_below_at, rule_fault_none}
 use Rattle.te_model.proofs.SoundLinks.{sound_links}
 use Rattle.te_model.proofs.Tests.{all_to_tests}
 use Rattle.te_model.proofs.PathRoutings.{path_routing}
