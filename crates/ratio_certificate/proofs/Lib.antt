@@ -36,3 +36,5 @@ pub mod PolishExists
 pub mod OffersExist
 pub mod CertificatesExist
 pub mod OffersOfAll
+pub mod BetterBlocks
+pub mod BetterExists

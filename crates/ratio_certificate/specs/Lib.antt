@@ -1,3 +1,5 @@
+pub mod Better
+pub mod BlockChanges
 pub mod Changing
 pub mod Critical
 pub mod Form

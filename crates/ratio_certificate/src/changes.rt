@@ -15,13 +15,13 @@ use std::alloc::Global;
 use te_model::{Memory, Network};
 
 /// The greatest weight that is doubled.
-const MAX_DOUBLED: u64 = 1 << 27;
+pub const MAX_DOUBLED: u64 = 1 << 27;
 
 /// The least weight that is halved.
-const MIN_HALVED: u64 = 2;
+pub const MIN_HALVED: u64 = 2;
 
 /// Whether `y` is below `x` by a 64th of `x` at least.
-fn improves(x: u128, y: u128) -> bool
+pub fn improves(x: u128, y: u128) -> bool
     ensures better { result ≡ true → ImprovesBy64th x y }
     ensures not { result ≡ false → ImprovesBy64th x y → ⊥ }
 {

@@ -4,8 +4,10 @@
 //! - `scale`: the best block of a link for given weights.
 //! - `make`: a certificate of a routing, of the best of sixteen rounds for each link, searched where it needs most, and polished.
 //!   `improve`: the same from weights that are offered for its blocks. `refine`: by a shorter search, where these are near the best.
+//! - `better_block`: the best block of a given block's weights with one of them changed, where it needs less by a 64th.
 #![tactic(auto)]
 
+mod better;
 mod changes;
 mod critical;
 mod form;
@@ -23,6 +25,7 @@ mod seek;
 mod weighting;
 
 pub use best_blocks::{need, scale};
+pub use better::better_block;
 pub use law::{bounded_blocks_need_little_more, made_certificates_exist};
 pub use making::{improve, make, refine};
 pub use offers::Offer;
