@@ -10,6 +10,7 @@
 mod better;
 mod changes;
 mod critical;
+mod effort;
 mod form;
 mod law;
 mod making;

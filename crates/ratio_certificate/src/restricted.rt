@@ -8,6 +8,7 @@ ghost use Rattle.ratio_certificate.specs.Restricted.{AreWaysOf, IsRestrictedSear
 ghost use Rattle.ratio_certificate.specs.Searching.{IsSearchOf};
 ghost use Rattle.ratio_certificate.specs.Weighting.{AreWeights};
 
+use crate::effort::effort_of;
 use crate::problem::Problem;
 use crate::response::{NO_NODE, Ways, no_ways, turn};
 use crate::seek::{Search, halves_of, move_to, start, start_from};
@@ -16,10 +17,7 @@ use best_blocks::{Scale, SharedLink};
 use centred_steps::{has_load, step_weights};
 use kept_ways::{KeptWays, nearness};
 use std::alloc::Global;
-use te_model::Memory;
-
-/// The sweeps without a search after one that showed a new way.
-const FEWEST_BETWEEN: usize = 5;
+use te_model::{Memory, Network};
 
 /// The most sweeps without a search.
 const MOST_BETWEEN: usize = 23;
@@ -46,11 +44,15 @@ const FIRST: Course = Course {
 };
 
 /// The course of a link that is searched once more, from its best weights on.
-const SECOND: Course = Course {
-    stages: 6,
-    sweeps: 240,
-    parts: 4,
-};
+fn second_course(net: &Network) -> Course
+    ensures { result.parts ≡ 4 }
+{
+    Course {
+        stages: 6,
+        sweeps: effort_of(net).second_sweeps,
+        parts: 4,
+    }
+}
 
 /// So many sweeps, whose steps have so many parts.
 #[derive(Clone, Copy)]
@@ -181,12 +183,12 @@ fn keep_ways(
 }
 
 /// The sweeps without a search after one with so many before it: more of them where the search showed no new way.
-fn between_after(between: usize, is_new: bool) -> usize
+fn between_after(net: &Network, between: usize, is_new: bool) -> usize
     requires { between ≤ 23 }
     ensures { result ≤ 23 }
 {
     if is_new {
-        FEWEST_BETWEEN
+        effort_of(net).between
     } else {
         (2 * between + 1).min(MOST_BETWEEN)
     }
@@ -221,7 +223,7 @@ fn search_rows(
         ways,
         &mut at.kept,
     )?;
-    at.between = between_after(at.between, is_new);
+    at.between = between_after(problem.net, at.between, is_new);
     at.left = at.between;
     Ok(())
 }
@@ -363,12 +365,13 @@ fn first_ways(
     let mut kept = KeptWays::new(alloc, shared.list.as_slice().len());
     keep_ways(alloc, problem, shared, &search, parts, ways, &mut kept)?;
     let weights = Vec::from_slice(alloc, search.metric.weights.as_slice())?;
+    let between = effort_of(problem.net).between;
     Ok(RestrictedSearch {
         search,
         weights,
         kept,
-        left: FEWEST_BETWEEN,
-        between: FEWEST_BETWEEN,
+        left: between,
+        between,
     })
 }
 
@@ -432,5 +435,12 @@ pub fn seek_further(
 {
     let halves = halves_of(alloc, weights)?;
     let search = start_from(alloc, problem, shared, halves)?;
-    finish(alloc, problem, shared, search, SECOND, goal)
+    finish(
+        alloc,
+        problem,
+        shared,
+        search,
+        second_course(problem.net),
+        goal,
+    )
 }

@@ -5,6 +5,7 @@ ghost use Rattle.ratio_certificate.specs.Places.{weighting_at};
 ghost use Rattle.ratio_certificate.specs.Problems.{AreLinksOf, AreWeightingsOf, IsLinkOf, IsMetricOfEach, IsProblem, IsWeightingOf};
 ghost use Rattle.ratio_certificate.specs.Weighting.{AreWeights};
 
+use crate::effort::effort_of;
 use crate::polish::{metric_by, worst};
 use crate::problem::Problem;
 use crate::restricted::{seek_by_ways, seek_further};
@@ -16,12 +17,6 @@ use te_model::{DemandSet, Memory};
 
 /// Weights are close to the floor that need at most one of so many parts of it more.
 const CLOSENESS: u128 = 64;
-
-/// A need is good enough for a search of all matrices that is at most one of so many parts above the floor.
-const SLACK: u128 = 500;
-
-/// A need is good enough without a second search that is at most one of so many parts above the floor.
-const LAST_SLACK: u128 = 200;
 
 /// Puts the weights in place of those at the place, if they need less.
 fn take_lesser(list: &mut [Weighting], place: usize, found: Weighting)
@@ -139,19 +134,25 @@ fn floors_after(floors: Floors, searches: u32, need: u128, goal: u128) -> Floors
     after
 }
 
-/// The need at which a search may end where others need so much: where links are searched twice, a little more.
-fn goal_of(problem: &Problem, floor: u128) -> u128 {
-    if most_searches(problem) == 2 {
-        floor.saturating_add(floor / SLACK)
-    } else {
+/// The need at which a search of a link that was searched so often may end: the floor, or a little more where links are searched
+/// twice.
+fn goal_of(problem: &Problem, floors: Floors, searches: u32) -> u128 {
+    let floor = floor_of(floors, searches);
+    let effort = effort_of(problem.net);
+    if most_searches(problem) < 2 {
         floor
+    } else if searches == 0 {
+        floor.saturating_add(floor / effort.first_slack)
+    } else {
+        floor.saturating_add(floor / effort.second_slack)
     }
 }
 
 /// Whether a link that was searched so often is searched no more.
 fn is_left(problem: &Problem, searches: u32, need: u128, floors: Floors) -> bool {
+    let most = floors.second / effort_of(problem.net).last_slack;
     searches >= most_searches(problem)
-        || searches == 1 && need.saturating_sub(floors.second) <= floors.second / LAST_SLACK
+        || searches == 1 && need.saturating_sub(floors.second) <= most
 }
 
 /// Weights that are sought for the link of which no weights near the best ones are known, after so many searches of it.
@@ -255,7 +256,7 @@ pub fn search(
                 if is_left(problem, before, list[k].need, floors) {
                     return Ok(());
                 }
-                let goal = goal_of(problem, floor_of(floors, before));
+                let goal = goal_of(problem, floors, before);
                 search_at(alloc, problem, links, list, k, before, goal)?;
                 searches[k] = before.saturating_add(1);
                 floors = floors_after(floors, before, list[k].need, goal);
