@@ -1,9 +1,10 @@
 -- Lengths that grow by one, and those by inverse capacities.
-use Rattle.std.proofs.Common.{◌≡◌, ℕ, ◌+◌, ◌≤◌, ◌^◌, true, All, List, [], ◌∷◌, ◌++◌, length, replicate, arith, ap, refl, sym, subst, ◌∙◌}
+use Rattle.std.proofs.Common.{◌≡◌, ℕ, ◌+◌, ◌≤◌, ◌^◌, true, All, Bool, List, [], ◌∷◌, ◌++◌, length, replicate, arith, ap, refl, sym, subst, ◌∙◌}
 use Rattle.std.proofs.lemmas.List.{length_push, length-replicate}
 use Rattle.std.proofs.lemmas.List.Elements.{All-push, All-replicate}
 use Rattle.te_model.specs.declared.network.Network.{Network}
 use Rattle.te_model.specs.Network.{is_well_formed, link_count}
+use Rattle.shortest_path.specs.Links.{every_link}
 use Rattle.multiplicative_lengths.specs.Growth.{length_of, lengths_of}
 use Rattle.multiplicative_lengths.proofs.EachLink.{count_each}
 use Rattle.multiplicative_lengths.proofs.LengthLimits.{lengths_limit, lengths_some}
@@ -28,3 +29,10 @@ lengths_by_ones net {ones} {lengths} formed is made =
     let some : All (λ (m : ℕ). 1 ≤ m) ones = subst (All (λ (m : ℕ). 1 ≤ m)) (sym is) (All-replicate (λ (m : ℕ). 1 ≤ m) n 1 (omega arith)) in
     subst (AreLengths n) (sym made)
     (record { count = count_each net (length_of net ones); positive = lengths_some net ones formed count some; small = lengths_limit net ones })
+
+-- lengths of as many links as there are marks
+pub lengths_by_marks : (net : Network) (marks : List Bool) (own lengths : List ℕ) → marks ≡ every_link net → own ≡ lengths →
+    AreLengths (length marks) lengths → AreLengths (link_count net) own
+lengths_by_marks net marks own lengths every is are =
+    let count : length marks ≡ link_count net = ap (λ (l : List Bool). length l) every ∙ length-replicate (link_count net) true in
+    subst (AreLengths (link_count net)) (sym is) (subst (λ n. AreLengths n lengths) count are)

@@ -5,3 +5,10 @@ pub mod Existence
 pub mod LeastPaths
 pub mod Lengthening
 pub mod Joining
+pub mod Sweeping
+pub mod Places
+pub mod Lowered
+pub mod Shifts
+pub mod Pricing
+pub mod Cheaper
+pub mod NearLoads

@@ -1,5 +1,5 @@
 -- Paths of pairs that sweeps add and put in place of others.
-use Rattle.std.proofs.Common.{inl, inr, ◌≡◌, ℕ, ◌<◌, ◌≤◌, true, List, [], ◌∷◌, ◌++◌, length, set, get_or, arith, sym, ◌∙◌, subst}
+use Rattle.std.proofs.Common.{inl, inr, ◌≡◌, ℕ, ◌<◌, ◌≤◌, true, List, [], ◌∷◌, ◌++◌, length, set, arith, sym, ◌∙◌, subst}
 use Rattle.std.specs.Prelude.{IsTrue}
 use Rattle.std.proofs.lemmas.Bool.{cases_eq}
 use Rattle.std.proofs.lemmas.List.{length_push, length-set, get_or-set_same, get_or-set_other}
@@ -10,6 +10,7 @@ use Rattle.te_model.specs.declared.route.Path.{Path}
 use Rattle.te_model.specs.Path.{is_path}
 use Rattle.scheme.specs.Reach.{pair_at}
 use Rattle.robust_routing.specs.Joint.{ArePathsOfPairs, ArePathsWithin}
+use Rattle.robust_routing.specs.Rates.{PathsWithRates, rates_at}
 use Rattle.robust_routing.specs.Weights.{AreLinkWeights, AreWeightsOfLinks}
 
 pub path_added : (net : Network) (limit : ℕ) (pair : Pair) (paths : List Path) (p : Path) → ArePathsWithin net limit pair paths →
@@ -36,23 +37,26 @@ path_alone net pair p is = record {
   sound = All-push (λ (q : Path). IsTrue (is_path net pair.src pair.dst q.links)) [] p (λ k d below. absurd (omega arith)) is;
 }
 
--- the paths of one pair anew
-pub pair_set : (net : Network) (limit : ℕ) (pairs : List Pair) (list : List (List Path)) (p : ℕ) (new : List Path) →
-    ArePathsOfPairs net limit pairs list → ArePathsWithin net limit (pair_at pairs p) new → ArePathsOfPairs net limit pairs (set list p new)
+-- the paths and rates of one pair anew
+pub pair_set : (net : Network) (limit : ℕ) (pairs : List Pair) (list : List PathsWithRates) (p : ℕ) (new : PathsWithRates) →
+    ArePathsOfPairs net limit pairs list → ArePathsWithin net limit (pair_at pairs p) new.paths → ArePathsOfPairs net limit pairs (set list p new)
 pair_set net limit pairs list p new are is = record {
   count = length-set list p new ∙ are.count;
   each = λ q below. each q (omega (arith, below, length-set list p new));
 }
   where
-    each : (q : ℕ) → q < length list → ArePathsWithin net limit (pair_at pairs q) (get_or (set list p new) q [])
+    none : PathsWithRates
+    none = record { paths = []; rates = [] }
+
+    each : (q : ℕ) → q < length list → ArePathsWithin net limit (pair_at pairs q) (rates_at (set list p new) q).paths
     each q below = elim (cases_eq q p) [
-      | inl e ↦ subst (λ (k : ℕ). ArePathsWithin net limit (pair_at pairs k) (get_or (set list p new) k [])) (sym e)
-          (subst (ArePathsWithin net limit (pair_at pairs p)) (sym (get_or-set_same list p new [] (omega (arith, below, e)))) is)
-      | inr ne ↦ rw get_or-set_other (are.each q below)
+      | inl e ↦ subst (λ (k : ℕ). ArePathsWithin net limit (pair_at pairs k) (rates_at (set list p new) k).paths) (sym e)
+          (subst (λ (r : PathsWithRates). ArePathsWithin net limit (pair_at pairs p) r.paths) (sym (get_or-set_same list p new none (omega (arith, below, e)))) is)
+      | inr ne ↦ subst (λ (r : PathsWithRates). ArePathsWithin net limit (pair_at pairs q) r.paths) (sym (get_or-set_other list p q new none ne)) (are.each q below)
     ]
 
 -- a higher limit is kept too
-pub paths_of_more : (net : Network) (few many : ℕ) (pairs : List Pair) (list : List (List Path)) → few ≤ many → ArePathsOfPairs net few pairs list →
+pub paths_of_more : (net : Network) (few many : ℕ) (pairs : List Pair) (list : List PathsWithRates) → few ≤ many → ArePathsOfPairs net few pairs list →
     ArePathsOfPairs net many pairs list
 paths_of_more net few many pairs list le are = record {
   count = are.count;

@@ -1,5 +1,5 @@
 -- Where the sweeps stand.
-use Rattle.std.specs.Prelude.{◌≡◌, ℕ, ◌<◌, ◌≤◌, All, IsTrue, List, [], length, slice_index_or}
+use Rattle.std.specs.Prelude.{◌≡◌, ℕ, ◌<◌, ◌≤◌, All, IsTrue, List, length}
 use Rattle.te_model.specs.declared.network.Network.{Network}
 use Rattle.te_model.specs.declared.route.Pair.{Pair}
 use Rattle.te_model.specs.declared.route.Path.{Path}
@@ -12,6 +12,7 @@ use Rattle.routing.specs.Routes.{IsRoutingOf, HasFewPaths}
 use Rattle.scheme.specs.Reach.{IsPairOf, pair_at}
 use Rattle.robust_routing.specs.declared.joint.Joint.{Joint}
 use Rattle.robust_routing.specs.declared.round.Round.{Round}
+use Rattle.robust_routing.specs.Rates.{PathsWithRates, rates_at}
 use Rattle.robust_routing.specs.Sweep.{IsSweep}
 use Rattle.robust_routing.specs.Weights.{AreWeightsOfLinks}
 
@@ -22,9 +23,9 @@ pub record ArePathsWithin (net : Network) (limit : ℕ) (pair : Pair) (paths : L
   pub sound : All (λ p. IsTrue (is_path net pair.src pair.dst p.links)) paths
 
 -- such paths for each pair
-pub record ArePathsOfPairs (net : Network) (limit : ℕ) (pairs : List Pair) (list : List (List Path)) : Type 0 where
+pub record ArePathsOfPairs (net : Network) (limit : ℕ) (pairs : List Pair) (list : List PathsWithRates) : Type 0 where
   pub count : length list ≡ length pairs
-  pub each : (p : ℕ) → p < length list → ArePathsWithin net limit (pair_at pairs p) (slice_index_or list p [])
+  pub each : (p : ℕ) → p < length list → ArePathsWithin net limit (pair_at pairs p) (rates_at list p).paths
 
 -- a well-formed network, pairs of its nodes, and a sweep
 pub record IsRound (r : Round) : Type 0 where

@@ -1,8 +1,14 @@
 pub mod Robust
 pub mod Laws
 pub mod Sweep
+pub mod Tables
+pub mod Rates
+pub mod Offers
+pub mod Lowering
+pub mod Prices
 pub mod Weights
 pub mod Lengths
 pub mod Rows
+pub mod Near
 pub mod Joint
 pub mod Split

@@ -1,6 +1,7 @@
 //! The lengths of the links for a pair: one more than what they cost it.
-ghost use Rattle.std.specs.Prelude.{◌^◌, ◌<◌, IfOk};
+ghost use Rattle.std.specs.Prelude.{◌≡◌, ◌^◌, ◌<◌, IfOk, OnOk};
 ghost use Rattle.robust_routing.specs.Lengths.{AreLengths};
+ghost use Rattle.robust_routing.specs.Prices.{AreByPrices, ArePricesMoved, greatest_quotient, next_price};
 ghost use Rattle.robust_routing.specs.Sweep.{IsSweep};
 
 use crate::sweep::Sweep;
@@ -10,7 +11,9 @@ use std::alloc::Global;
 use te_model::Memory;
 
 /// The greatest quotient of the pair on a link.
-fn greatest_quotient(quotients: &Table, links: usize, pair: usize) -> u64 {
+fn greatest_quotient(quotients: &Table, links: usize, pair: usize) -> u64
+    ensures { result ≡ greatest_quotient quotients.now links pair }
+{
     let mut greatest = 0;
     for link in 0..links {
         greatest = greatest.max(quotients.number(link, pair));
@@ -21,7 +24,8 @@ fn greatest_quotient(quotients: &Table, links: usize, pair: usize) -> u64 {
 /// The price of the link for the pair after the sweep, where this is the greatest quotient of the pair.
 fn next_price(sweep: Sweep, tables: &Tables, link: usize, pair: usize, greatest: u64) -> u64
     requires { IsSweep sweep }
-    ensures { result < 2 ^ 28 }
+    ensures exact { result ≡ next_price sweep tables.now link pair greatest }
+    ensures limit { result < 2 ^ 28 }
 {
     let quotient = tables.quotients.number(link, pair);
     let nearness = sweep.nearness(greatest, quotient);
@@ -38,7 +42,9 @@ pub fn next_lengths(
     pair: usize,
 ) -> Result<Vec<u64>, Memory>
     requires { IsSweep sweep }
-    ensures { IfOk result (λ l. AreLengths links l.items) }
+    ensures lengths { IfOk result (λ l. AreLengths links l.items) }
+    ensures exact { IfOk result (λ l. AreByPrices sweep tables.old links pair links l.items) }
+    ensures prices { OnOk result (ArePricesMoved sweep links pair links tables.old tables.new) }
 {
     let greatest = greatest_quotient(&tables.quotients, links, pair);
     let mut lengths = Vec::with_capacity(alloc, links)?;

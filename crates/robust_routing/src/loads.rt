@@ -1,9 +1,10 @@
 //! What the pairs that are dearest to a link put on the links, where each takes a least way by the link's weights.
-ghost use Rattle.std.specs.Prelude.{◌≡◌, ◌<◌, IfOk, IsTrue, length};
-ghost use Rattle.te_model.specs.Network.{is_well_formed, node_count};
+ghost use Rattle.std.specs.Prelude.{◌≡◌, ◌<◌, IfOk, IsTrue, length, replicate};
+ghost use Rattle.te_model.specs.Network.{is_well_formed, link_count, node_count};
 ghost use Rattle.centred_steps.specs.Loads.{AreLoadsWithin};
 ghost use Rattle.centred_steps.specs.Ways.{AreLastLinks};
 ghost use Rattle.robust_routing.specs.Joint.{IsRound};
+ghost use Rattle.robust_routing.specs.Near.{AreLoadsNear};
 ghost use Rattle.robust_routing.specs.Rows.{AreRows};
 ghost use Rattle.robust_routing.specs.Weights.{AreLinkWeights};
 
@@ -61,6 +62,7 @@ fn add_near(
     requires lasts { AreLastLinks round.now.net.now lasts.old }
     requires loads { AreLoadsWithin round.now.net.now loads.old }
     ensures loads { AreLoadsWithin round.now.net.now loads.new }
+    ensures near { AreLoadsNear round.now shares.now quotients.now link greatest loads.old (length round.now.pairs.now) loads.new }
 {
     let net = round.net;
     let mut from = NO_NODE;
@@ -97,6 +99,8 @@ pub fn loads_near(
     requires rows { AreRows round.now.net.now rows.now }
     requires weights { AreLinkWeights round.now.net.now weights.now }
     ensures loads { IfOk result (λ l. AreLoadsWithin round.now.net.now l.items) }
+    ensures near { IfOk result (λ l. AreLoadsNear round.now shares.now quotients.now link greatest
+        (replicate (link_count round.now.net.now) 0) (length round.now.pairs.now) l.items) }
 {
     let mut loads = vec![in alloc; 0; round.net.links.as_slice().len()]?;
     let mut lasts = no_lasts(alloc, round.net)?;

@@ -1,5 +1,6 @@
 //! Rates lowered to what the weights of the links allow.
-ghost use Rattle.std.specs.Prelude.{◌≡◌, OnOk};
+ghost use Rattle.std.specs.Prelude.{◌≡◌, IfOk, OnOk, length};
+ghost use Rattle.robust_routing.specs.Lowering.{AreLowerings, AreLowered, lowered_rate, rate_below};
 ghost use Rattle.robust_routing.specs.Sweep.{IsSweep};
 
 use crate::rates::PathRates;
@@ -12,18 +13,21 @@ use te_model::{Memory, number_at};
 const PARTS_ABOVE: u64 = 32;
 
 /// The rate in the proportion of the greatest share that may stay and the share, where the share is greater, and at least 1.
-fn lowered_rate(rate: u64, allowed: u64, share: u64) -> u64 {
+fn lowered_rate(rate: u64, allowed: u64, share: u64) -> u64
+    ensures { result ≡ lowered_rate rate allowed share }
+{
     let most = allowed.saturating_add(allowed / PARTS_ABOVE);
     if most >= share {
         return rate;
     }
-    let part = u128::from(rate).saturating_mul(u128::from(most)) / u128::from(share.max(1));
+    let part = u128::from(rate).saturating_mul(u128::from(most)) / u128::from(share);
     (part.min(u128::from(rate)) as u64).max(1)
 }
 
 /// The rate of a path of the pair, lowered so far that no link of the path has much more of the pair than its weights allow.
 fn rate_on(sweep: Sweep, tables: &Tables, pair: usize, links: &[u32], rate: u64) -> u64
     requires { IsSweep sweep }
+    ensures { result ≡ rate_below sweep tables.now pair links.now rate (length links.now) }
 {
     let mut least = rate;
     for link in links {
@@ -44,6 +48,7 @@ fn lowered_rates(
     rates: &PathRates,
 ) -> Result<Vec<u64>, Memory>
     requires { IsSweep sweep }
+    ensures { IfOk result (λ l. AreLowered sweep tables.now pair rates.now l.items) }
 {
     let paths = rates.paths();
     let mut lowered = Vec::with_capacity(alloc, paths.len())?;
@@ -65,7 +70,7 @@ pub fn lower_rates(
     list: &mut [PathRates],
 ) -> Result<(), Memory>
     requires { IsSweep sweep }
-    ensures { OnOk result (list.new ≡ list.old) }
+    ensures { OnOk result (AreLowerings sweep tables.now list.old list.new) }
 {
     for p in 0..list.len() {
         let rates = lowered_rates(alloc, sweep, tables, p, &list[p])?;

@@ -1,14 +1,17 @@
 //! The least path of a pair by its lengths, which it takes up where it costs less than its paths do.
-ghost use Rattle.std.specs.Prelude.{◌≡◌, ◌≤◌, IfOk, IfSome, OnOk, IsTrue, List, Bool, All, length};
+ghost use Rattle.std.specs.Prelude.{◌≡◌, ℕ, ◌≤◌, IfOk, IfSome, OnOk, IsTrue, List, Option};
 ghost use Rattle.te_model.specs.Network.{is_well_formed, link_count};
 ghost use Rattle.te_model.specs.Path.{is_path};
 ghost use Rattle.shortest_path.specs.declared.rows.Direction.TheVariants.{Backward};
+ghost use Rattle.shortest_path.specs.Least.{IsLeastWalk, links_of};
 ghost use Rattle.shortest_path.specs.Links.{every_link};
+ghost use Rattle.shortest_path.specs.Paths.{sum_along};
 ghost use Rattle.shortest_path.specs.Rows.{IsSearchGraph};
 ghost use Rattle.scheme.specs.Reach.{IsPairOf};
 ghost use Rattle.robust_routing.specs.Joint.{ArePathsWithin};
 ghost use Rattle.robust_routing.specs.Lengths.{AreLengths};
-ghost use Rattle.robust_routing.specs.Sweep.{IsSweep};
+ghost use Rattle.robust_routing.specs.Offers.{IsOffer, IsPlaceOf, IsTakenUp, cheaper_of, costs_of, is_cheaper};
+ghost use Rattle.robust_routing.specs.Sweep.{IsSweep, capped};
 
 use crate::moving::mean_cost;
 use crate::rates::PathRates;
@@ -18,7 +21,9 @@ use std::alloc::Global;
 use te_model::{Memory, Network, Pair, Path, number_at};
 
 /// The sum of the lengths of the links.
-fn cost_of(lengths: &[u64], links: &[u32]) -> u64 {
+fn cost_of(lengths: &[u64], links: &[u32]) -> u64
+    ensures { result ≡ capped (sum_along lengths.now links.now) }
+{
     let mut total: u64 = 0;
     for link in links {
         total = total.saturating_add(number_at(lengths, *link as usize));
@@ -27,7 +32,9 @@ fn cost_of(lengths: &[u64], links: &[u32]) -> u64 {
 }
 
 /// The cost of each path by the lengths. `Memory` comes where memory is wanting.
-pub fn costs_of(alloc: Global, lengths: &[u64], paths: &[Path]) -> Result<Vec<u64>, Memory> {
+pub fn costs_of(alloc: Global, lengths: &[u64], paths: &[Path]) -> Result<Vec<u64>, Memory>
+    ensures { IfOk result (λ c. c.items ≡ costs_of lengths.now paths.now) }
+{
     let mut costs = Vec::with_capacity(alloc, paths.len())?;
     for path in paths {
         costs.push(cost_of(lengths, path.links.as_slice()))?;
@@ -36,7 +43,9 @@ pub fn costs_of(alloc: Global, lengths: &[u64], paths: &[Path]) -> Result<Vec<u6
 }
 
 /// The place of the path with these links, or how many paths there are.
-fn place_of(paths: &[Path], links: &[u32]) -> usize {
+fn place_of(paths: &[Path], links: &[u32]) -> usize
+    ensures { IsPlaceOf paths.now links.now result }
+{
     for i in 0..paths.len() {
         if paths[i].links.as_slice() == links {
             return i;
@@ -46,7 +55,9 @@ fn place_of(paths: &[Path], links: &[u32]) -> usize {
 }
 
 /// Whether a path of this cost, if there is one, is cheaper than the mean by more than a thousandth.
-fn is_cheaper(cost: Option<u64>, mean: u64) -> bool {
+fn is_cheaper(cost: Option<u64>, mean: u64) -> bool
+    ensures { result ≡ is_cheaper cost mean }
+{
     match cost {
         Some(sum) => u128::from(sum) * 1000 < u128::from(mean) * 999,
         None => false,
@@ -70,6 +81,8 @@ fn cheaper_path(
     requires pair { IsPairOf net.now pair }
     ensures same { searches.new ≡ searches.old }
     ensures path { IfOk result (λ o. IfSome o (λ p. IsTrue (is_path net.now pair.src pair.dst p.links))) }
+    ensures least { IfOk result (λ o. (walk : Option (List ℕ)) × IsLeastWalk net.now lengths.now «open».now pair.src pair.dst walk
+        × (links_of o ≡ cheaper_of lengths.now mean walk)) }
 {
     let mut sums = vec![in alloc; None; net.names.as_slice().len()]?;
     searches.toward(net, lengths, open, pair.dst, &mut sums);
@@ -90,8 +103,9 @@ fn take_up(
 ) -> Result<(), Memory>
     requires limit { 1 ≤ limit }
     requires path { IsTrue (is_path net.now pair.src pair.dst path.links) }
-    requires rates { ArePathsWithin net.now limit pair rates.old }
-    ensures { OnOk result (ArePathsWithin net.now limit pair rates.new) }
+    requires rates { ArePathsWithin net.now limit pair rates.old.paths }
+    ensures rates { OnOk result (ArePathsWithin net.now limit pair rates.new.paths) }
+    ensures taken { OnOk result (IsTakenUp limit path rate rates.old rates.new) }
 {
     let place = place_of(rates.paths(), path.links.as_slice());
     if place < rates.paths().len() {
@@ -126,9 +140,10 @@ pub fn offer_least(
     requires pair { IsPairOf net.now pair }
     requires sweep { IsSweep sweep }
     requires limit { 1 ≤ limit }
-    requires rates { ArePathsWithin net.now limit pair rates.old }
+    requires rates { ArePathsWithin net.now limit pair rates.old.paths }
     ensures same { searches.new ≡ searches.old }
-    ensures rates { OnOk result (ArePathsWithin net.now limit pair rates.new) }
+    ensures rates { OnOk result (ArePathsWithin net.now limit pair rates.new.paths) }
+    ensures offer { OnOk result (IsOffer net.now sweep lengths.now pair limit rates.old rates.new) }
 {
     let costs = costs_of(alloc, lengths, rates.paths())?;
     let mean = mean_cost(&costs, rates.rates());

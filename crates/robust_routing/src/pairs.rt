@@ -6,6 +6,8 @@ ghost use Rattle.shortest_path.specs.Links.{every_link};
 ghost use Rattle.shortest_path.specs.Rows.{IsSearchGraph};
 ghost use Rattle.robust_routing.specs.Joint.{ArePathsOfPairs, ArePathsWithin, IsRound};
 ghost use Rattle.robust_routing.specs.Lengths.{AreLengths};
+ghost use Rattle.robust_routing.specs.Offers.{AreShifts, IsShift};
+ghost use Rattle.robust_routing.specs.Sweep.{looks};
 ghost use Rattle.scheme.specs.Reach.{IsPairOf};
 
 use crate::lengths::next_lengths;
@@ -37,9 +39,10 @@ pub fn shift_pair(
     requires lengths { AreLengths (link_count round.now.net.now) lengths.now }
     requires pair { IsPairOf round.now.net.now pair }
     requires limit { 1 ≤ limit }
-    requires rates { ArePathsWithin round.now.net.now limit pair rates.old }
+    requires rates { ArePathsWithin round.now.net.now limit pair rates.old.paths }
     ensures same { searches.new ≡ searches.old }
-    ensures rates { OnOk result (ArePathsWithin round.now.net.now limit pair rates.new) }
+    ensures rates { OnOk result (ArePathsWithin round.now.net.now limit pair rates.new.paths) }
+    ensures shift { OnOk result (IsShift round.now.net.now round.now.sweep lengths.now pair looks limit rates.old rates.new) }
 {
     let (net, sweep) = (round.net, round.sweep);
     if looks {
@@ -71,6 +74,8 @@ pub fn sweep_pairs(
     requires list { ArePathsOfPairs round.now.net.now limit round.now.pairs.now list.old }
     ensures same { searches.new ≡ searches.old }
     ensures list { OnOk result (ArePathsOfPairs round.now.net.now limit round.now.pairs.now list.new) }
+    ensures shifts { OnOk result (AreShifts round.now.net.now round.now.sweep (AreLengths (link_count round.now.net.now))
+        round.now.pairs.now (looks round.now.sweep) limit list.old list.new) }
 {
     for p in 0..list.len() {
         let lengths = next_lengths(alloc, round.sweep, tables, open.len(), p)?;

@@ -3,7 +3,7 @@ ghost use Rattle.std.specs.Prelude.{◌≡◌, ◌<◌, IfOk, IsTrue, OnOk};
 ghost use Rattle.te_model.specs.Network.{is_well_formed, node_count};
 ghost use Rattle.shortest_path.specs.declared.rows.Direction.TheVariants.{Forward};
 ghost use Rattle.shortest_path.specs.Rows.{IsSearchGraph};
-ghost use Rattle.robust_routing.specs.Rows.{AreRows};
+ghost use Rattle.robust_routing.specs.Rows.{AreRows, IsRowWritten};
 ghost use Rattle.robust_routing.specs.Weights.{AreLinkWeights};
 
 use shortest_path::Searches;
@@ -38,6 +38,7 @@ pub fn write_row(
     requires from { from < node_count net.now }
     requires rows { AreRows net.now rows.old }
     ensures rows { OnOk result (AreRows net.now rows.new) }
+    ensures row { OnOk result (IsRowWritten net.now weights.now from rows.old rows.new) }
     ensures same { searches.new ≡ searches.old }
 {
     let mut row = vec![in alloc; None; rows.len()]?;

@@ -59,7 +59,7 @@ fn split_of(
     rates: &PathRates,
 ) -> Result<Vec<PathShare>, Memory>
     requires few { limit ≤ 32 }
-    requires paths { ArePathsWithin net.now limit pair rates.now }
+    requires paths { ArePathsWithin net.now limit pair rates.now.paths }
     ensures split { IfOk result (λ s. IsPathSplit net.now (record { pair = pair; paths = s.items })) }
     ensures few { IfOk result (λ s. length s.items ≤ limit) }
 {

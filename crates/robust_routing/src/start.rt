@@ -1,5 +1,5 @@
 //! Where the rates begin: one path for each pair, that of a routing or its least one by inverse capacities.
-ghost use Rattle.std.specs.Prelude.{◌≡◌, ◌≤◌, IfOk, IsTrue, OnOk, length};
+ghost use Rattle.std.specs.Prelude.{◌≡◌, ◌≤◌, IfOk, IsTrue, OnOk, length, true};
 ghost use Rattle.te_model.specs.Network.{is_well_formed, link_count};
 ghost use Rattle.te_model.specs.PathRouting.{IsPathSplit};
 ghost use Rattle.shortest_path.specs.declared.rows.Direction.TheVariants.{Backward};
@@ -7,6 +7,7 @@ ghost use Rattle.shortest_path.specs.Links.{every_link};
 ghost use Rattle.shortest_path.specs.Rows.{IsSearchGraph};
 ghost use Rattle.robust_routing.specs.Joint.{ArePathsOfPairs, ArePathsWithin, IsRound};
 ghost use Rattle.robust_routing.specs.Lengths.{AreLengths};
+ghost use Rattle.robust_routing.specs.Offers.{AreShifts};
 ghost use Rattle.routing.specs.Routes.{HasFewPaths, IsRoutingOf};
 
 use crate::pairs::shift_pair;
@@ -21,7 +22,7 @@ use te_model::{Items, Memory, Network, Pair, PairRoutes, Path};
 /// The whole demand of a pair over its first path.
 fn first_rates(alloc: Global, net: &Network, route: &PairRoutes) -> Result<PathRates, Memory>
     requires { IsPathSplit net.now route.now }
-    ensures { IfOk result (ArePathsWithin net.now 1 route.now.pair) }
+    ensures { IfOk result (λ r. ArePathsWithin net.now 1 route.now.pair r.paths) }
 {
     let path = &route.paths.as_slice()[0];
     let links = Vec::from_slice(alloc, path.links.as_slice())?;
@@ -75,6 +76,8 @@ pub fn move_to_least(
     requires list { ArePathsOfPairs round.now.net.now 1 round.now.pairs.now list.old }
     ensures same { searches.new ≡ searches.old }
     ensures list { OnOk result (ArePathsOfPairs round.now.net.now 1 round.now.pairs.now list.new) }
+    ensures shifts { OnOk result (AreShifts round.now.net.now round.now.sweep (λ l. l ≡ lengths.now)
+        round.now.pairs.now (λ _. true) 1 list.old list.new) }
 {
     for p in 0..list.len() {
         let pair = round.pairs[p];

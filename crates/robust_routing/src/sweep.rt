@@ -1,6 +1,6 @@
 //! What one sweep goes by: the size of its steps, the ratio that it seeks, and the numbers that follow from them.
-ghost use Rattle.std.specs.Prelude.{◌^◌, ◌<◌, ◌≤◌};
-ghost use Rattle.robust_routing.specs.Sweep.{IsSweep};
+ghost use Rattle.std.specs.Prelude.{◌≡◌, ◌*◌, ◌/◌, ◌^◌, ◌<◌, ◌≤◌};
+ghost use Rattle.robust_routing.specs.Sweep.{IsSweep, IsSweepAt, allowance, allowed_by, amount, even_share, goal_of, halved, looks, nearness, phase_of, price_after, price_alone, quotient_of, ratio_of};
 
 use te_model::RATIO_UNIT;
 
@@ -46,68 +46,60 @@ pub struct Sweep {
     pub turn: usize,
 }
 
-/// In how many parts the sweep of this number takes its steps: the more, the later it comes.
-fn parts_of(number: usize) -> u64
-    ensures { (1 ≤ result) × (result ≤ 128) }
+/// The phase of the sweep of this number: steps are half as great in each as in the one before.
+fn phase_of(number: usize) -> u64
+    ensures exact { result ≡ phase_of number }
+    ensures limits { (1 ≤ result) × (result ≤ 7) }
 {
     if number < 40 {
-        2
+        1
     } else if number < 100 {
-        4
+        2
     } else if number < 180 {
-        8
+        3
     } else if number < 280 {
-        16
+        4
     } else if number < 430 {
-        32
+        5
     } else if number < 630 {
-        64
+        6
     } else {
-        128
+        7
     }
 }
 
-/// How often the step of a price is halved where steps are taken in so many parts.
-fn halvings_of(parts: u64) -> u64
-    ensures { result ≤ 5 }
+/// The ratio that is sought, where steps have so many parts: less than the least so far by a tenth of a step.
+fn goal_of(parts: u64, least: Option<u64>) -> u64
+    requires { (1 ≤ parts) × (parts ≤ 128) }
+    ensures { result ≡ goal_of parts least }
 {
-    if parts < 8 {
-        0
-    } else if parts < 16 {
-        1
-    } else if parts < 32 {
-        2
-    } else if parts < 64 {
-        3
-    } else if parts < 128 {
-        4
-    } else {
-        5
+    match least {
+        Some(ratio) => ratio.saturating_sub(ratio / (10 * parts)),
+        None => FIRST_GOAL,
     }
 }
 
 /// The sweep of this number, where `least` is the least ratio that a sweep before it has proved, if there is one.
+#[tactic(auto, using(crate::proofs::Sweeping::phase_parts, crate::proofs::Sweeping::slack_limits))]
 pub fn sweep_of(number: usize, least: Option<u64>) -> Sweep
-    ensures { IsSweep result }
+    ensures limits { IsSweep result }
+    ensures exact { IsSweepAt number least result }
 {
-    let parts = parts_of(number);
-    let goal = match least {
-        Some(ratio) => ratio.saturating_sub(ratio / (10 * parts)),
-        None => FIRST_GOAL,
-    };
-    let slack = (WHOLE / (10 + parts)).max(1).min(WHOLE);
+    let phase = phase_of(number);
+    let parts = 1 << phase;
     Sweep {
         parts,
-        goal,
-        slack,
-        halvings: halvings_of(parts),
+        goal: goal_of(parts, least),
+        slack: WHOLE / (10 + parts),
+        halvings: phase.saturating_sub(2),
         turn: number % PAIRS_IN_TURN,
     }
 }
 
 /// The unit of rates, halved as often as the quotient says.
 fn halved(quotient: u64) -> u64
-    ensures { result ≤ 2 ^ 30 }
+    ensures exact { result ≡ halved quotient }
+    ensures limit { result ≤ 2 ^ 30 }
 {
     let times = quotient / QUOTIENT_UNIT;
     if times > 29 {
@@ -119,7 +111,8 @@ fn halved(quotient: u64) -> u64
 
 /// The share of a pair on a link with which the link's weights prove a ratio of one, by the distance of the pair.
 pub fn even_share(factor: u128, distance: u64) -> u64
-    ensures { result < 2 ^ 32 }
+    ensures exact { result ≡ even_share factor distance }
+    ensures limit { result < 2 ^ 32 }
 {
     let share = factor.saturating_mul(u128::from(distance)) / (1 << 50);
     share.min(u128::from(MAX_SHARE)) as u64
@@ -128,6 +121,7 @@ pub fn even_share(factor: u128, distance: u64) -> u64
 /// The ratio that a share proves, in millionths.
 pub fn ratio_of(share: u64, even: u64) -> u64
     requires { share < 2 ^ 32 }
+    ensures { result ≡ ratio_of share even }
 {
     share * RATIO_UNIT / even.max(1)
 }
@@ -135,7 +129,8 @@ pub fn ratio_of(share: u64, even: u64) -> u64
 impl Sweep {
     /// The share of a pair on a link with which the link's weights prove the ratio that is sought.
     pub fn allowance(self, even: u64) -> u64
-        ensures { result < 2 ^ 32 }
+        ensures exact { result ≡ allowance self even }
+        ensures limit { result < 2 ^ 32 }
     {
         (even.saturating_mul(self.goal) / RATIO_UNIT).min(MAX_SHARE)
     }
@@ -145,6 +140,7 @@ impl Sweep {
         requires sweep { IsSweep self }
         requires share { share < 2 ^ 32 }
         requires allowance { allowance < 2 ^ 32 }
+        ensures { result ≡ quotient_of self share allowance }
     {
         (share + self.slack) * QUOTIENT_UNIT / (allowance + self.slack)
     }
@@ -153,6 +149,7 @@ impl Sweep {
     pub fn allowed(self, share: u64, quotient: u64) -> u64
         requires sweep { IsSweep self }
         requires share { share < 2 ^ 32 }
+        ensures { result ≡ allowed_by self share quotient }
     {
         ((share + self.slack) * QUOTIENT_UNIT / quotient.max(1)).saturating_sub(self.slack)
     }
@@ -160,7 +157,8 @@ impl Sweep {
     /// How much a pair or link of this quotient counts beside one of the greatest: that counts `WHOLE`.
     pub fn nearness(self, greatest: u64, quotient: u64) -> u64
         requires { IsSweep self }
-        ensures { result ≤ 2 ^ 30 }
+        ensures exact { result ≡ nearness self greatest quotient }
+        ensures limit { result ≤ 2 ^ 30 }
     {
         let below = greatest.saturating_sub(quotient);
         halved(below.saturating_mul(SHARPNESS * self.parts))
@@ -170,6 +168,7 @@ impl Sweep {
     pub fn amount(self, nearness: u64, quotient: u64, share: u64) -> u128
         requires sweep { IsSweep self }
         requires share { share < 2 ^ 32 }
+        ensures { result ≡ amount self nearness quotient share }
     {
         let square = u128::from(quotient).saturating_mul(u128::from(quotient));
         u128::from(nearness).saturating_mul(square) / u128::from(share + self.slack)
@@ -180,10 +179,8 @@ impl Sweep {
         requires sweep { IsSweep self }
         requires nearness { nearness ≤ 2 ^ 30 }
         requires share { share < 2 ^ 32 }
+        ensures { result ≡ price_alone self nearness quotient share }
     {
-        if nearness == 0 {
-            return 0;
-        }
         let product = (16 * nearness).saturating_mul(quotient);
         (product / (share + self.slack)).min(MAX_PRICE)
     }
@@ -193,7 +190,8 @@ impl Sweep {
         requires sweep { IsSweep self }
         requires nearness { nearness ≤ 2 ^ 30 }
         requires share { share < 2 ^ 32 }
-        ensures { result < 2 ^ 28 }
+        ensures exact { result ≡ price_after self old nearness quotient share }
+        ensures limit { result < 2 ^ 28 }
     {
         let alone = self.price_alone(nearness, quotient, share);
         let kept = old.saturating_sub(old >> self.halvings);
@@ -201,13 +199,16 @@ impl Sweep {
     }
 
     /// Whether the pair looks for a path in this sweep: in each where steps are great, and else in one of four.
-    pub fn looks(self, pair: usize) -> bool {
+    pub fn looks(self, pair: usize) -> bool
+        ensures { result ≡ looks self pair }
+    {
         self.parts <= GREAT_STEPS || pair % PAIRS_IN_TURN == self.turn
     }
 
     /// The rate with which a new path begins.
     pub fn first_rate(self) -> u64
         requires { IsSweep self }
+        ensures { result ≡ 2 ^ 30 / (50 * self.parts) }
     {
         WHOLE / (50 * self.parts)
     }

@@ -9,13 +9,15 @@ use Rattle.routing.proofs.Splits.{splits_of}
 use Rattle.scheme.specs.Reach.{pair_at}
 use Rattle.scheme.proofs.Plans.{RoutesSoFar, routes_done, routes_more, routes_none}
 use Rattle.robust_routing.specs.Joint.{ArePathsWithin}
+use Rattle.robust_routing.specs.Rates.{PathsWithRates}
 use Rattle.robust_routing.proofs.split.routing_of.Goals as goal
 
 pub split_of-requires-clause-paths : goal.split_of-requires-clause-paths
 split_of-requires-clause-paths c =
     let list = c.args.list.now in
     let p = c.loop-p.p in
-    subst (ArePathsWithin c.args.net.now c.args.limit (pair_at c.args.pairs.now p)) (sym (get_or_read list p c.index-list-p.result c.loop-p-test.true c.index-list-p.is []))
+    subst (λ (r : PathsWithRates). ArePathsWithin c.args.net.now c.args.limit (pair_at c.args.pairs.now p) r.paths)
+    (sym (get_or_read list p c.index-list-p.result c.loop-p-test.true c.index-list-p.is (record { paths = []; rates = [] })))
     (c.requires.list.each p c.loop-p-test.true)
 
 pub loop-p-init : goal.loop-p-init

@@ -1,12 +1,9 @@
-use Rattle.std.proofs.Common.{◌<◌, ◌∙◌, [], List, length, arith, sym, subst}
-use Rattle.std.proofs.lemmas.List.{get_or_default}
+use Rattle.std.proofs.Common.{◌∙◌, ℕ, ◌≡◌, List, true, arith, refl, sym, subst}
 use Rattle.std.proofs.lemmas.List.Elements.{All-get_or}
-use Rattle.te_model.specs.declared.route.Path.{Path}
 use Rattle.shortest_path.specs.declared.rows.Direction.TheVariants.{Backward}
 use Rattle.shortest_path.specs.Rows.{IsSearchGraph}
-use Rattle.scheme.specs.Reach.{IsPairOf, no_pair, pair_at}
-use Rattle.robust_routing.specs.Joint.{ArePathsWithin}
-use Rattle.robust_routing.proofs.Paths.{pair_set}
+use Rattle.scheme.specs.Reach.{IsPairOf, no_pair}
+use Rattle.robust_routing.proofs.Shifts.{own_paths, shifts_all, shifts_more, shifts_none}
 use Rattle.robust_routing.proofs.start.move_to_least.Goals as goal
 
 pub bounds-round-p : goal.bounds-round-p
@@ -22,15 +19,25 @@ shift_pair-requires-clause-pair c =
 
 pub shift_pair-requires-clause-rates : goal.shift_pair-requires-clause-rates
 shift_pair-requires-clause-rates c =
-    let p = c.loop-p.p in
-    let list = c.loop-p.list in
-    let below : p < length list = omega (arith, c.loop-p-test.true, c.loop-p.auto.list) in
-    subst (λ (x : List Path). ArePathsWithin c.args.round.now.net.now 1 (pair_at c.args.round.now.pairs.now p) x) (get_or_default list p [] c.index-list-p.result below)
-    (c.loop-p.invariant.1.each p below)
+    own_paths c.args.round.now.net.now 1 c.args.round.now.pairs.now c.loop-p.list c.loop-p.p c.index-list-p.result c.loop-p.invariant.1.paths
+    (omega (arith, c.loop-p-test.true, c.loop-p.auto.list))
+
+pub loop-p-init : goal.loop-p-init
+loop-p-init c = (
+  refl,
+  shifts_none c.args.round.now.net.now c.args.round.now.sweep (λ (x : List ℕ). x ≡ c.args.lengths.now) c.args.round.now.pairs.now (λ _. true) 1
+      c.args.list.now c.requires.list,
+)
 
 pub loop-p-preserved : goal.loop-p-preserved
 loop-p-preserved c = (
   c.shift_pair.ensures.same ∙ c.loop-p.invariant.0,
-  pair_set c.args.round.now.net.now 1 c.args.round.now.pairs.now c.loop-p.list c.loop-p.p c.shift_pair.new.rates c.loop-p.invariant.1
-      c.in_ok-shift_pair.ensures.rates,
+  shifts_more c.args.round.now.net.now c.args.round.now.sweep (λ (x : List ℕ). x ≡ c.args.lengths.now) c.args.round.now.pairs.now (λ _. true) 1
+      c.loop-p.p c.args.list.now c.loop-p.list c.index-list-p.result c.shift_pair.new.rates c.args.lengths.now true c.loop-p.invariant.1
+      (omega (arith, c.loop-p-test.true, c.loop-p.auto.list)) refl c.in_ok-shift_pair.ensures.rates refl c.in_ok-shift_pair.ensures.shift,
 )
+
+pub returns-clause-shifts : goal.returns-clause-shifts
+returns-clause-shifts c =
+    shifts_all c.args.round.now.net.now c.args.round.now.sweep (λ (x : List ℕ). x ≡ c.args.lengths.now) c.args.round.now.pairs.now (λ _. true) 1
+    c.loop-p.p c.args.list.now c.loop-p.list c.loop-p.invariant.1 (omega (arith, c.loop-p-test.false, c.loop-p.auto.list))
