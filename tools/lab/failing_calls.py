@@ -10,11 +10,14 @@ import subprocess
 from . import program
 
 SOURCE = os.path.join(os.path.dirname(os.path.abspath(__file__)), "failing_calls.c")
-# The calls that are counted, in the order of the library, and at the end those that failed.
-KINDS = ("memory", "open", "lseek", "read", "out", "err", "failed")
-# Behind the counts stand how many requests for memory came before each of the first files that were opened.
-NUMBERS, OPENS = struct.Struct(f"{len(KINDS) + 8}q"), len(KINDS)
-NEVER, ALWAYS = -1, 2**62
+# The calls that are counted, in the order of the library.
+KINDS = ("memory", "open", "lseek", "read", "out", "err")
+# What the library reports of a child: its failure, the number of the call, its status, and how long its texts are.
+CHILD, NUMBER = struct.Struct("5q"), struct.Struct("q")
+# At the end, behind a number that is no failure, how many calls of each kind were made, and how many requests for memory came before each of the
+# first files that were opened.
+NO_FAILURE, COUNTS = -1, struct.Struct(f"{len(KINDS) + 8}q")
+ALWAYS = 2**62
 # What a call may take before it is ended. How often the program makes a call again that a signal interrupted.
 SECONDS, TRIES = 120, 100
 
@@ -27,8 +30,9 @@ class Failure(collections.namedtuple("Failure", "kind error times judge", defaul
         times = {1: "one", ALWAYS: "all from it on"}.get(self.times, f"{self.times} in a row")
         return f"{self.kind}, {times}, {errno.errorcode.get(self.error, 'no bytes')}"
 
-    def numbers(self, place):
-        return KINDS.index(self.kind), place, place + self.times - 1, self.error, 0
+    @property
+    def numbers(self):
+        return KINDS.index(self.kind), self.times, self.error
 
 
 def is_as_it_was(own, got):
@@ -98,49 +102,90 @@ def build(folder):
 
 
 class Counted(program.Answer):
-    """An answer, how many calls of each kind were made, none where the program did not come to its end, and the requests for memory by which
-    the system's library opened a file.
+    """An answer, how many calls of each kind were made, none where the program did not come to its end, the requests for memory by which the
+    system's library opened a file, and what was found of the calls that failed: the failure, the number of the call, and what was answered.
     """
 
-    def __init__(self, out, err, status, numbers=()):
+    def __init__(self, out, err, status, numbers=(), failed=()):
         super().__init__(out, err, status)
-        self.counts, self.requests_to_open = dict(zip(KINDS, numbers)), set(numbers[OPENS:]) - {0}
+        self.counts, self.requests_to_open, self.failed = dict(zip(KINDS, numbers)), set(numbers[len(KINDS):]) - {0}, failed
 
     @property
     def told(self):
         return self.status, self.out, self.err
 
 
-def answer(library, words, folder, numbers=(NEVER, 0, 0, 0, 0)):
-    """What the program answers over the library, of which these numbers say what fails."""
-    # The program finds the file open, since it is made so that a child keeps it.
-    with contextlib.closing(os.fdopen(os.memfd_create("counts", 0), "r+b")) as counts:
-        given = " ".join(map(str, [*numbers, counts.fileno()]))
-        got = program.answer(words, folder, SECONDS, {**os.environ, "LD_PRELOAD": library, "FAILING_CALLS": given})
-        counts.seek(0)
-        found = counts.read()
-    made = NUMBERS.unpack(found) if got.status is not None and len(found) == NUMBERS.size else ()
-    return Counted(got.out, got.err, got.status, made)
+def memory_file(name, data=b""):
+    """A file in memory, which a child keeps open."""
+    file = os.fdopen(os.memfd_create(name, 0), "r+b")
+    file.write(data)
+    file.flush()
+    return contextlib.closing(file)
+
+
+def order(most, step):
+    """What the library reads: which of the calls of each kind have to fail, and in which ways."""
+    numbers = [most, step, SECONDS, len(FAILURES), *(number for failure in FAILURES for number in failure.numbers)]
+    return struct.pack(f"{len(numbers)}q", *numbers)
+
+
+def read_report(file):
+    """What the library found of the calls that failed, and its counts, of which there are none where the program did not come to its end."""
+    failed, numbers = [], ()
+    while first := file.read(NUMBER.size):
+        if NUMBER.unpack(first) == (NO_FAILURE,):
+            numbers = COUNTS.unpack(file.read(COUNTS.size))
+            break
+        place, number, status, *lengths = CHILD.unpack(first + file.read(CHILD.size - NUMBER.size))
+        out, err = (file.read(length) for length in lengths)
+        failed.append((FAILURES[place], number, (status, out, err.decode("utf-8", "replace"))))
+    return failed, numbers
+
+
+def answer(library, words, folder, piece=0, asked=b""):
+    """What the program answers over the library, where a read or a write takes so many bytes at most, or any number for 0, and calls fail as is asked."""
+    with memory_file("report") as report, memory_file("asked", asked) as orders:
+        given = f"{piece} {orders.fileno() if asked else -1} {report.fileno()}"
+        seconds = None if asked else SECONDS
+        got = program.answer(words, folder, seconds, {**os.environ, "LD_PRELOAD": library, "FAILING_CALLS": given})
+        report.seek(0)
+        failed, numbers = read_report(report)
+    return Counted(got.out, got.err, got.status, numbers, failed)
 
 
 def places(count, most, step):
-    """Which of so many calls are made to fail: the first, as many as `most`, and then one of every `step`; and the one after the last."""
-    return [*range(1, min(count, most) + 1), *range(most + step, count + 1, step), count + 1]
+    """Which of so many calls are made to fail: the first, as many as `most`, and then one of every `step`."""
+    return [*range(1, min(count, most) + 1), *range(most + step, count + 1, step)]
 
 
-def faults_of_place(library, words, folder, own, failure, place):
-    """What is wrong where this call of the system fails, and those after it that have to."""
-    got = answer(library, words, folder, failure.numbers(place))
-    is_past = place > own.counts[failure.kind]
-    is_to_open = failure.kind == "memory" and place in own.requests_to_open
-    judge = is_as_it_was if is_past else is_unopened if is_to_open else failure.judge
-    faults = [] if judge(own.told, got.told) else [f"status {got.status}, {got.out[:60]!r}, {got.err!r}"]
-    if got.counts and bool(got.counts["failed"]) == is_past:
-        faults.append("a call failed that was not to be made" if is_past else "no call failed")
-    return [f"{failure.name}, call {place}: {fault}" for fault in faults]
+def faults_of_failed(own, got):
+    """What is wrong with each call that failed, one line for each; nothing where it left what it has to."""
+    for failure, place, told in got.failed:
+        is_to_open = failure.kind == "memory" and place in own.requests_to_open
+        judge = is_unopened if is_to_open else failure.judge
+        yield "" if judge(own.told, told) else f"{failure.name}, call {place}: status {told[0]}, {told[1][:60]!r}, {told[2]!r}"
+
+
+def faults_of_whole(own, got, most, step):
+    """What is wrong with the call itself, in which nothing failed, and with the choice of calls that did."""
+    faults = [] if (got.told, got.counts) == (own.told, own.counts) else [f"where children fail: status {got.status}, {got.out[:60]!r}, {got.err!r}"]
+    wanted = {(failure, place) for failure in FAILURES for place in places(own.counts.get(failure.kind, 0), most, step)}
+    found = [(failure, place) for failure, place, _ in got.failed]
+    return faults + ([] if len(found) == len(wanted) and set(found) == wanted else [f"{len(found)} calls failed in place of {len(wanted)}"])
 
 
 def faults_of_piece(library, words, folder, own, piece):
     """What is wrong where a read or a write takes so many bytes at most."""
-    got = answer(library, words, folder, (NEVER, 0, 0, 0, piece))
+    got = answer(library, words, folder, piece)
     return [] if got.told == own.told else [f"pieces of {piece}: status {got.status}, {got.out[:60]!r}, {got.err!r}"]
+
+
+def tried(library, words, folder, most, step):
+    """The call's own answer, how many runs of the program were tried, and what is wrong with those of which something is."""
+    own = answer(library, words, folder)
+    if not own.counts:
+        return own, 1, ["the library said nothing of the calls that were made"]
+    got = answer(library, words, folder, asked=order(most, step))
+    faults = [*faults_of_whole(own, got, most, step), *faults_of_failed(own, got)]
+    faults += [fault for piece in PIECES for fault in faults_of_piece(library, words, folder, own, piece)]
+    return own, 1 + len(got.failed) + len(PIECES), [fault for fault in faults if fault]

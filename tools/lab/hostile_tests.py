@@ -47,6 +47,27 @@ def faults_of_judges():
     return [f"{judge.__name__} of {got!r}" for judge, got, may_be in JUDGED if judge(OWN, got) is not may_be]
 
 
+def faults_of_report():
+    """A report of the calls that failed is read, and a call that leaves something else, or did not fail, is found."""
+    counts = (2, 1, 0, 0, 0, 0, 1, *[0] * 7)
+    own = failing_calls.Counted(OWN[1], OWN[2], OWN[0], counts)
+    # The first request for memory is the one to open a file.
+    left = {("memory", 1): (4, b"", b"fault: read\n"), ("memory", 2): (6, b"", b"fault: memory\n"), ("open", 1): (4, b"", b"fault: read\n")}
+    answers_of = [(place, failure, number, left[failure.kind, number]) for place, failure in enumerate(failing_calls.FAILURES) for number in (1, 2) if (failure.kind, number) in left]
+    answers_of = [(place, number, (0, b"text\n", b"") if failure.judge is failing_calls.is_as_it_was else told) for place, failure, number, told in answers_of]
+
+    def found(told_of):
+        data = b"".join(failing_calls.CHILD.pack(place, number, told[0], len(told[1]), len(told[2])) + told[1] + told[2] for place, number, told in told_of)
+        data += failing_calls.NUMBER.pack(failing_calls.NO_FAILURE) + failing_calls.COUNTS.pack(*counts)
+        failed, numbers = failing_calls.read_report(io.BytesIO(data))
+        got = failing_calls.Counted(OWN[1], OWN[2], OWN[0], numbers, failed)
+        return [*failing_calls.faults_of_whole(own, got, 3000, 97), *filter(None, failing_calls.faults_of_failed(own, got))]
+
+    place, number, _ = answers_of[-1]
+    tries = [(answers_of, 0), (answers_of[:-1], 1), ([*answers_of[:-1], (place, number, (6, b"t", b""))], 1)]
+    return [f"{len(found(told_of))} faults in place of {count}" for told_of, count in tries if len(found(told_of)) != count]
+
+
 def reason_of_bounds(data):
     try:
         reference_hose.bounds_of("b", data, reference_check.certificate_of("c", limits.GOOD["c"].encode()))
@@ -187,6 +208,7 @@ def faults_with_program(load):
 def cases(load, has_program):
     """Each case by its name, with what is wrong; `load` gives a tool by its name."""
     yield "failing_calls: what may be left of a call", faults_of_judges()
+    yield "failing_calls: what is found of the calls that fail", faults_of_report()
     yield "limits: the reasons of the second readers", faults_of_limits()
     yield "campaign: a file made smaller", faults_of_smaller()
     yield "campaign: what is drawn", faults_of_drawn()
