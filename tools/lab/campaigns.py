@@ -13,8 +13,10 @@ import signal
 import sys
 import time
 
+from . import program
 from .changes import smaller
 from .folders import write_files
+from .fork_server import ForkServer
 
 # How many cases one process takes at a time where its kind does not draw them together, how often a case is tried to make it smaller, and the bytes that are tried so at most.
 TOGETHER, TRIES, TRIED_BYTES = 16, 400, 2_000_000_000
@@ -55,12 +57,12 @@ class Record:
 
 
 class Campaign:
-    """A kind by the name of its module, which another process can be sent, the seed, the folder in which what differs is kept, and one in which
-    each process writes its files.
+    """A kind by the name of its module, which another process can be sent, the seed, the folder in which what differs is kept, one in which
+    each process writes its files, and the library of `fork_server.c`, where the program answers over it.
     """
 
-    def __init__(self, kind, seed, folder, work):
-        self.name, self.seed, self.folder, self.work = kind.__name__, seed, folder, work
+    def __init__(self, kind, seed, folder, work, library=None):
+        self.name, self.seed, self.folder, self.work, self.library = kind.__name__, seed, folder, work, library
 
     @property
     def kind(self):
@@ -123,9 +125,10 @@ def ranges(first, last, together):
     return [(start, min(last, start + together)) for start in range(first, last, together)]
 
 
-def leave_interruption():
-    """Only the first process ends by an interruption, and the others with it."""
+def begin(library):
+    """Only the first process ends by an interruption, and the others with it. Each of them has a server of its own, where there is a library."""
     signal.signal(signal.SIGINT, signal.SIG_IGN)
+    program.SERVER = ForkServer(library, SECONDS) if library else None
 
 
 def run(campaign, cases, jobs, minutes, tell):
@@ -133,7 +136,7 @@ def run(campaign, cases, jobs, minutes, tell):
     os.makedirs(campaign.folder, exist_ok=True)
     record, start = Record(campaign.folder), time.monotonic()
     before = record.seconds
-    with multiprocessing.Pool(jobs, leave_interruption) as pool:
+    with multiprocessing.Pool(jobs, begin, (campaign.library,)) as pool:
         together = getattr(campaign.kind, "OF_ONE", TOGETHER)
         for last, words, different in pool.imap(campaign.of_range, ranges(record.next, cases, together)):
             record.next, record.seconds = last, before + time.monotonic() - start

@@ -3,14 +3,12 @@ import collections
 import contextlib
 import errno
 import os
-import shutil
 import struct
-import subprocess
 
 from . import program
 
-SOURCE = os.path.join(os.path.dirname(os.path.abspath(__file__)), "failing_calls.c")
-# The calls that are counted, in the order of the library.
+# The library, and the calls that it counts, in its order.
+LIBRARY = "failing_calls"
 KINDS = ("memory", "open", "lseek", "read", "out", "err")
 # What the library reports of a child: its failure, the number of the call, its status, and how long its texts are.
 CHILD, NUMBER = struct.Struct("5q"), struct.Struct("q")
@@ -75,30 +73,6 @@ FAILURES = [
 ]
 # The most bytes of a read or a write.
 PIECES = (1, 7, 4095)
-
-
-class Unbuilt(Exception):
-    """Why there is no library."""
-
-
-def compiler():
-    """The kit's clang, or one on the path."""
-    kit = os.path.dirname(os.path.dirname(os.path.realpath(shutil.which("rt") or "/opt/rattle/bin/rt")))
-    own = os.path.join(kit, "toolchain", "bin", "clang")
-    found = own if os.access(own, os.X_OK) else shutil.which("clang")
-    if found is None:
-        raise Unbuilt("there is no clang, neither the kit's nor on the path")
-    return found
-
-
-def build(folder):
-    """Builds the library in this folder, and returns its name."""
-    name = os.path.join(folder, "failing_calls.so")
-    words = [compiler(), "-shared", "-fPIC", "-O1", "-Wall", "-fno-builtin", "-o", name, SOURCE]
-    ran = subprocess.run(words, stdout=subprocess.PIPE, stderr=subprocess.STDOUT, universal_newlines=True, check=False)
-    if ran.returncode:
-        raise Unbuilt(ran.stdout)
-    return name
 
 
 class Counted(program.Answer):

@@ -48,11 +48,11 @@ class Made:
         paths = self.paths
         return [(sum(weight for weight, path in routes if link in path), *paths[src][dst]) for src, dst, routes in self.pairs]
 
-    def keeps_bounds(self, shares, b):
-        """Whether inequality I3 holds with this b."""
+    def keeps_bounds(self, rows, b):
+        """Whether inequality I3 holds with this b, by rows of a pair's share, its distance, and its least and greatest demand."""
         added = 0
-        for (share, distance, _), least, most in zip(shares, *self.bounds):
-            rise = up(b * share, reference_check.SHARE_UNIT) - distance
+        for share, distance, least, most in rows:
+            rise = -(-b * share // reference_check.SHARE_UNIT) - distance
             added += rise * (most if rise > 0 else least)
         return added <= 0
 
@@ -62,12 +62,13 @@ class Made:
         if self.bounds is None:
             share, distance = dearest(shares)[:2]
             return (share, distance) if distance else None
-        if not self.keeps_bounds(shares, 1):
+        rows = [(*share[:2], least, most) for share, least, most in zip(shares, *self.bounds)]
+        if not self.keeps_bounds(rows, 1):
             return None
         low, high = 1, MAX_B + 1
         while high - low > 1:
             middle = (low + high) // 2
-            low, high = (middle, high) if self.keeps_bounds(shares, middle) else (low, middle)
+            low, high = (middle, high) if self.keeps_bounds(rows, middle) else (low, middle)
         return reference_check.SHARE_UNIT, low
 
     def need(self, link, weights):
