@@ -193,22 +193,32 @@ def head_rules(cert):
             yield 7, 1 + p, low <= high <= 2**52
 
 
+def is_named_right(cert, before, block):
+    """Rule V8 at a block, behind one of the link `before`, if there is one."""
+    above = before is None or before < block["link"]
+    return block["link"] < len(cert["links"]) and above and block["a"] <= 2**36 and 1 <= block["b"] <= 2**36
+
+
+def has_small_numbers(cert, block):
+    """Rule V9 at a block."""
+    n, sources = len(cert["names"]), [source for source, _ in block["rows"]]
+    return (
+        all(w <= 2**28 for w in block["weights"])
+        and all(source < n for source in sources)
+        and all(x < y for x, y in zip(sources, sources[1:]))
+        and all(d <= 2**36 for _, row in block["rows"] for d in row)
+        and all(x <= 2**36 for x in block["plus"] + block["minus"])
+    )
+
+
 def block_rules(cert):
     """Rules V8 and V9, in the same way."""
-    n, m, blocks = len(cert["names"]), len(cert["links"]), cert["blocks"]
+    blocks = cert["blocks"]
     yield 8, 0, cert["ratio"] < 10**19
     for k, b in enumerate(blocks):
-        above = k == 0 or blocks[k - 1]["link"] < b["link"]
-        yield 8, 1 + k, b["link"] < m and above and b["a"] <= 2**36 and 1 <= b["b"] <= 2**36
+        yield 8, 1 + k, is_named_right(cert, blocks[k - 1]["link"] if k else None, b)
     for k, b in enumerate(blocks):
-        sources = [source for source, _ in b["rows"]]
-        yield 9, k, (
-            all(w <= 2**28 for w in b["weights"])
-            and all(source < n for source in sources)
-            and all(x < y for x, y in zip(sources, sources[1:]))
-            and all(d <= 2**36 for _, row in b["rows"] for d in row)
-            and all(x <= 2**36 for x in b["plus"] + b["minus"])
-        )
+        yield 9, k, has_small_numbers(cert, b)
 
 
 def first_fault(rules):
@@ -239,39 +249,50 @@ def shares_of(cert):
     return shares
 
 
-def first_failure(cert, last=4):
-    """The first inequality that fails, of those up to the last one that is asked, in order of link, rule and place."""
+def absent_block(cert):
+    """What stands for the block of a link that has none."""
+    return {"a": 0, "b": 1, "weights": [0] * len(cert["links"]), "rows": [], "plus": [], "minus": []}
+
+
+def link_failure(cert, e, block, share, last=4):
+    """The rule and the place of the first inequality that fails for a link with this block and these shares, of those up to the last one that is asked."""
     n, m = len(cert["names"]), len(cert["links"])
-    by_link, shares = {b["link"]: b for b in cert["blocks"]}, shares_of(cert)
-    absent = {"a": 0, "b": 1, "weights": [0] * m, "rows": [], "plus": [], "minus": []}
-    for e in range(m):
-        block = by_link.get(e, absent)
-        rows = dict(block["rows"])
-        weights, a, b = block["weights"], block["a"], block["b"]
-        for i in range(n):
-            row = rows.get(i)
-            if row is None:
-                continue
-            if row[i] != 0:
-                return e, 1, i * (m + 1)
-            for h, (tail, head, _, _) in enumerate(cert["links"]):
-                if row[head] > row[tail] + weights[h]:
-                    return e, 1, i * (m + 1) + 1 + h
-        for p, (src, dst, _) in enumerate(cert["pairs"]):
-            plus = block["plus"][p] if block["plus"] else 0
-            minus = block["minus"][p] if block["minus"] else 0
-            distance = rows[src][dst] if src in rows else 0
-            if shares[e].get(p, 0) * b + a * minus > a * (distance + plus):
-                return e, 2, p
-        if cert["set"] and block["plus"]:
-            lower, upper = bounds(cert)
-            added = sum(d * x for d, x in zip(upper, block["plus"]))
-            taken = sum(d * x for d, x in zip(lower, block["minus"]))
-            if added > taken:
-                return e, 3, 0
-        weighted = sum(link[2] * w for link, w in zip(cert["links"], weights))
-        if last == 4 and a * RATIO_UNIT * weighted > b * SHARE_UNIT * cert["links"][e][2] * cert["ratio"]:
-            return e, 4, 0
+    rows = dict(block["rows"])
+    weights, a, b = block["weights"], block["a"], block["b"]
+    for i in range(n):
+        row = rows.get(i)
+        if row is None:
+            continue
+        if row[i] != 0:
+            return 1, i * (m + 1)
+        for h, (tail, head, _, _) in enumerate(cert["links"]):
+            if row[head] > row[tail] + weights[h]:
+                return 1, i * (m + 1) + 1 + h
+    for p, (src, dst, _) in enumerate(cert["pairs"]):
+        plus = block["plus"][p] if block["plus"] else 0
+        minus = block["minus"][p] if block["minus"] else 0
+        distance = rows[src][dst] if src in rows else 0
+        if share.get(p, 0) * b + a * minus > a * (distance + plus):
+            return 2, p
+    if cert["set"] and block["plus"]:
+        lower, upper = bounds(cert)
+        added = sum(d * x for d, x in zip(upper, block["plus"]))
+        taken = sum(d * x for d, x in zip(lower, block["minus"]))
+        if added > taken:
+            return 3, 0
+    weighted = sum(link[2] * w for link, w in zip(cert["links"], weights))
+    if last == 4 and a * RATIO_UNIT * weighted > b * SHARE_UNIT * cert["links"][e][2] * cert["ratio"]:
+        return 4, 0
+    return None
+
+
+def first_failure(cert, last=4):
+    """The link, rule and place of the first inequality that fails, of those up to the last one that is asked, in this order."""
+    by_link, shares, absent = {b["link"]: b for b in cert["blocks"]}, shares_of(cert), absent_block(cert)
+    for e, share in enumerate(shares):
+        failed = link_failure(cert, e, by_link.get(e, absent), share, last)
+        if failed:
+            return (e, *failed)
     return None
 
 
@@ -289,11 +310,13 @@ def limit(data):
 def judged(cert):
     """The yes or no line of a certificate that is not refused, and the status."""
     failed = first_failure(cert)
-    if failed:
-        return no_line(failed), 1
+    return (no_line(failed), 1) if failed else (yes_line(cert), 0)
+
+
+def yes_line(cert):
     kinds = {"margin": lambda num, den, _: f"margin {num} {den}", "box": lambda *_: "box"}
     kind = kinds[cert["set"][0]](*cert["set"][1:]) if cert["set"] else "all"
-    return f"yes ratio {cert['ratio']} set {kind}\n", 0
+    return f"yes ratio {cert['ratio']} set {kind}\n"
 
 
 def no_line(failed):

@@ -11,8 +11,8 @@ import reference_rates
 import reference_witness
 
 from . import (
-    answers, campaigns, changes, drawn_certificates, drawn_folders, drawn_hoses, drawn_rates, drawn_simulations, drawn_updates, failing_calls, large_certificates,
-    limits, program,
+    answers, block_by_block, campaigns, changes, drawn_certificates, drawn_folders, drawn_hoses, drawn_rates, drawn_simulations, drawn_updates, failing_calls,
+    large_certificates, limits, program,
 )
 from .inputs import read_failures, read_matrices, read_topology
 from .plans import read_plan
@@ -177,6 +177,18 @@ def faults_of_record():
     return faults + [f"sizes {sizes}"] * (not 0 <= sizes[1] < sizes[0])
 
 
+def faults_of_block_by_block():
+    """Over files in a row that differ in few lines the checker of large files says what the second checker does."""
+    faults = []
+    for network in range(4):
+        checker = block_by_block.Checker("c")
+        for number in range(network * drawn_certificates.OF_ONE, (network + 1) * drawn_certificates.OF_ONE):
+            data = drawn_certificates.case(7, number)["c"]
+            told, want = checker.answer(data), reference_check.check_bytes("c", data)
+            faults += [f"case {number}: want {want}, got {told}"] * (told != want)
+    return faults
+
+
 def said_by(module, words):
     """What a tool writes on these words, and its status."""
     said = io.StringIO()
@@ -214,6 +226,7 @@ def cases(load, has_program):
     yield "campaign: what is drawn", faults_of_drawn()
     yield "campaign: a program that answers nothing", faults_of_silence()
     yield "campaign: what is kept", faults_of_record()
+    yield "campaign: large files, block by block", faults_of_block_by_block()
     yield "limits, failing_calls, campaign: words", faults_of_words(load)
     if has_program:
         yield "limits, failing_calls, campaign: with the program", faults_with_program(load)

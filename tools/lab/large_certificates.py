@@ -7,9 +7,8 @@ import io
 import os
 import random
 
-import reference_check
-
 from . import program
+from .block_by_block import Checker
 from .campaigns import SECONDS, faults_of_time
 from .changes import CERTIFICATE, with_change, with_number
 from .drawn_certificates import NAME
@@ -45,9 +44,15 @@ def case(seed, number, most=None):
     return {NAME: data if how == 0 else with_number(draw, data, CERTIFICATE) if how < 4 else with_change(draw, data, CERTIFICATE)}
 
 
-def judge(files, folder, _):
+@functools.lru_cache(maxsize=1)
+def checker_of(_):
+    """The second checker for the cases of one network, by the number of that network: most of their lines are the same."""
+    return Checker(NAME)
+
+
+def judge(files, folder, number):
     words = ["check", NAME]
     got = program.answer(words, folder, SECONDS)
-    said, want = (got.out.decode("utf-8", "replace"), got.err, got.status), reference_check.check_bytes(NAME, files[NAME])
+    said, want = (got.out.decode("utf-8", "replace"), got.err, got.status), checker_of(number // OF_ONE).answer(files[NAME])
     label = {0: "yes", 1: "no"}.get(want[2], "rule" if "rule" in want[1] else "shape")
     return label, ([] if said == want else [f"check: want {want}, got {said}"]) + faults_of_time(words, got)
