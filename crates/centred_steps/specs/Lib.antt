@@ -1,4 +1,4 @@
-pub mod Centre
+pub mod UsageSpread
 pub mod Loads
 pub mod Ways
 pub mod Weights

@@ -3,7 +3,7 @@ use Rattle.std.specs.Prelude.{◌≡◌, ℕ, ◌^◌, ◌≤◌, List, length, 
 use Rattle.std.specs.List.{count_by}
 use Rattle.te_model.specs.declared.network.Network.{Network}
 use Rattle.te_model.specs.Network.{link_count}
-use Rattle.centred_steps.specs.declared.centre.Centre.{Centre}
+use Rattle.centred_steps.specs.declared.usage_spread.UsageSpread.{UsageSpread}
 
 -- no load is above 2^66
 abbrev pub AreSmall : List ℕ → Type 0
@@ -19,7 +19,7 @@ abbrev pub times_on : List ℕ → ℕ → ℕ
 times_on links e = count_by (λ h. h == e) links
 
 -- numbers by which weights move
-pub record IsCentre (c : Centre) : Type 0 where
+pub record IsUsageSpread (c : UsageSpread) : Type 0 where
   pub mean : c.mean ≤ 2 ^ 86
   pub some : 1 ≤ c.deviation
   pub deviation : c.deviation ≤ 2 ^ 86

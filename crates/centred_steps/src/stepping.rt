@@ -4,7 +4,7 @@ ghost use Rattle.te_model.specs.Network.{is_well_formed, link_count};
 ghost use Rattle.centred_steps.specs.Loads.{AreLoadsWithin};
 ghost use Rattle.centred_steps.specs.Weights.{AreWeightsUpTo};
 
-use crate::centre::{centre_of, usage_of};
+use crate::usage_spread::{spread_of, usage_of};
 use te_model::{Network, ceil_div};
 
 /// The weight of every link from which steps start.
@@ -56,20 +56,20 @@ fn moved_weight(weight: u64, usage: u128, mean: u128, unit: u128) -> u64
 }
 
 /// Moves each weight by the usage of its link.
-fn move_each(net: &Network, weights: &mut [u64], loads: &[u128], parts: u64)
+fn move_each(net: &Network, weights: &mut [u64], loads: &[u128], divisor: u64)
     requires network { IsTrue (is_well_formed net.now) }
     requires count { length weights.old ≡ link_count net.now }
     requires weights { AreWeightsUpTo (2 ^ 27) weights.old }
     requires loads { AreLoadsWithin net.now loads.now }
-    requires parts { (1 ≤ parts) × (parts ≤ 128) }
+    requires divisor { (1 ≤ divisor) × (divisor ≤ 128) }
     ensures { AreWeightsUpTo (2 ^ 28) weights.new }
 {
-    let centre = centre_of(net, weights, loads);
-    let unit = u128::from(parts) * centre.deviation;
+    let spread = spread_of(net, weights, loads);
+    let unit = u128::from(divisor) * spread.deviation;
     let links = net.links.as_slice();
     for h in 0..links.len() {
         let usage = usage_of(loads[h], links[h].capacity);
-        weights[h] = moved_weight(weights[h], usage, centre.mean, unit);
+        weights[h] = moved_weight(weights[h], usage, spread.mean, unit);
     }
 }
 
@@ -122,18 +122,18 @@ fn level(weights: &mut [u64])
 }
 
 /// Moves each weight by how far the usage of its link lies from the mean of all: a weight grows above it, at most to its double,
-/// and falls below it, at most to its half. That of the most used link grows by one of so many `parts` of itself.
+/// and falls below it, at most to its half. That of the most used link grows by itself over the divisor.
 ///
 /// `weights` and `loads` have one number for each link. The weights stay from 1 to 2^27. Takes no memory.
-pub fn step_weights(net: &Network, weights: &mut [u64], loads: &[u128], parts: u64)
+pub fn step_weights(net: &Network, weights: &mut [u64], loads: &[u128], divisor: u64)
     requires network { IsTrue (is_well_formed net.now) }
     requires count { length weights.old ≡ link_count net.now }
     requires weights { AreWeightsUpTo (2 ^ 27) weights.old }
     requires loads { AreLoadsWithin net.now loads.now }
-    requires parts { (1 ≤ parts) × (parts ≤ 128) }
+    requires divisor { (1 ≤ divisor) × (divisor ≤ 128) }
     ensures count { length weights.new ≡ length weights.old }
     ensures weights { AreWeightsUpTo (2 ^ 27) weights.new }
 {
-    move_each(net, weights, loads, parts);
+    move_each(net, weights, loads, divisor);
     level(weights);
 }

@@ -115,7 +115,7 @@ fn make_moves(
 /// no other paths than it had and the candidates, and its greatest utilisation is no greater.
 ///
 /// `Memory` comes where memory is wanting.
-pub fn settle(
+pub fn local_optimum(
     alloc: Global,
     net: &Network,
     matrix: &Matrix,

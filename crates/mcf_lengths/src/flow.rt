@@ -12,7 +12,7 @@ use crate::rounds::rounds_routing;
 use crate::sweeps::sweep;
 use dual_bounds::bracket;
 use k_paths::Ksp;
-use local_search::settle;
+use local_search::local_optimum;
 use routing::Routing;
 use scheme::{Scheme, SchemeFault};
 use std::alloc::Global;
@@ -23,7 +23,7 @@ const CANDIDATES: u32 = 4;
 
 /// Multicommodity flow: the routing of a matrix starts from the even mix of the least paths by lengths that grow with the loads
 /// (Garg and Könemann, 1998), or from a better mix of sweeps, and weight is then moved to the four least paths by cost until no
-/// single move helps by a stated share (`local_search::settle`).
+/// single move helps by a stated share (`local_search::local_optimum`).
 #[derive(Clone, Copy)]
 pub struct Mcf;
 
@@ -101,7 +101,7 @@ impl Scheme for Mcf {
         matrix: &Matrix,
     ) -> Result<(Routing, Bracket), Memory> {
         let (start, lengths) = starting_routing(alloc, net, plan, matrix)?;
-        let routing = settle(alloc, net, matrix, start, &plan.candidates)?;
+        let routing = local_optimum(alloc, net, matrix, start, &plan.candidates)?;
         let note = bracket(alloc, net, &routing, matrix, &lengths)?;
         Ok((routing, note))
     }

@@ -3,7 +3,7 @@ use Rattle.std.specs.Prelude.{ℕ, ◌*◌, ◌/◌, ◌^◌, List, [], length, 
 use Rattle.te_model.specs.declared.network.Network.{Network}
 use Rattle.te_model.specs.Counting.{sum_below}
 use Rattle.multiplicative_lengths.specs.Growth.{for_each_link}
-use Rattle.centred_steps.specs.declared.centre.Centre.{Centre}
+use Rattle.centred_steps.specs.declared.usage_spread.UsageSpread.{UsageSpread}
 use Rattle.centred_steps.specs.Loads.{times_on}
 
 -- the demand of pair p as often as its path takes link e
@@ -15,5 +15,5 @@ abbrev pub sweep_loads : Network → List ℕ → List (List ℕ) → List ℕ
 sweep_loads net demand paths = for_each_link net (λ e. min (2 ^ 66) (sum_below (length paths) (load_of_pair demand paths e)))
 
 -- what a sweep counts: the more, the nearer the greatest usage is to the middle
-abbrev pub weight_by : Centre → ℕ
-weight_by centre = min 30000 (max 1 (centre.mean * 100 / centre.deviation))
+abbrev pub weight_by : UsageSpread → ℕ
+weight_by spread = min 30000 (max 1 (spread.mean * 100 / spread.deviation))

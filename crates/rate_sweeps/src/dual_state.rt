@@ -2,13 +2,13 @@
 ghost use Rattle.std.specs.Prelude.{◌≡◌, ◌+◌, ◌*◌, ◌^◌, ◌<◌, ◌≤◌, ℕ, All, IfOk, IsTrue, OnOk, length, map, max, min, slice_index};
 ghost use Rattle.te_model.specs.Network.{is_well_formed, link_count};
 ghost use Rattle.routing.specs.Routes.{AreDemands};
-ghost use Rattle.centred_steps.specs.Centre.{centre_by};
-ghost use Rattle.centred_steps.specs.Loads.{AreLoadsWithin, AreSmall, IsCentre, times_on};
+ghost use Rattle.centred_steps.specs.UsageSpread.{spread_by};
+ghost use Rattle.centred_steps.specs.Loads.{AreLoadsWithin, AreSmall, IsUsageSpread, times_on};
 ghost use Rattle.centred_steps.specs.Weights.{AreWeightsUpTo};
 ghost use Rattle.rate_sweeps.specs.Bounds.{sweep_loads, weight_by};
 ghost use Rattle.rate_sweeps.specs.Sweeps.{AreOnLinks, IsDualState, IsWeight, KeepsBetter, links_in};
 
-use centred_steps::{Centre, FIRST_WEIGHT, add_load, centre_of, clear_loads, step_weights};
+use centred_steps::{FIRST_WEIGHT, UsageSpread, add_load, clear_loads, spread_of, step_weights};
 use std::alloc::Global;
 use te_model::{Matrix, Memory, Network, Path};
 
@@ -70,37 +70,37 @@ fn write_loads(net: &Network, matrix: &Matrix, paths: &[Path], loads: &mut [u128
 
 /// What a sweep counts: the more, the nearer the most used link is to the middle. For a step is no longer where the loads differ
 /// more.
-fn weight_of(centre: Centre) -> u64
-    requires { IsCentre centre }
+fn weight_of(spread: UsageSpread) -> u64
+    requires { IsUsageSpread spread }
     ensures limits { IsWeight result }
-    ensures weight { result ≡ weight_by centre }
+    ensures weight { result ≡ weight_by spread }
 {
-    let weight = centre.mean * 100 / centre.deviation;
+    let weight = spread.mean * 100 / spread.deviation;
     weight.max(1).min(MAX_WEIGHT) as u64
 }
 
 /// The usage in the middle where the pairs take these paths, by the lengths. Where each takes its cheapest path by the lengths,
 /// the mean bounds from below (Garg and Könemann, 2007).
-fn centre_under(
+fn spread_under(
     net: &Network,
     matrix: &Matrix,
     paths: &[Path],
     lengths: &[u64],
     loads: &mut [u128],
-) -> Centre
+) -> UsageSpread
     requires network { IsTrue (is_well_formed net.now) }
     requires demands { AreDemands (length paths.now) matrix.now.demand }
     requires paths { AreOnLinks net.now (map links_in paths.now) }
     requires count { length lengths.now ≡ link_count net.now }
     requires lengths { AreWeightsUpTo (2 ^ 27) lengths.now }
     requires loads { length loads.old ≡ link_count net.now }
-    ensures centre { IsCentre result }
-    ensures exact { result ≡ centre_by net.now lengths.now loads.new }
+    ensures spread { IsUsageSpread result }
+    ensures exact { result ≡ spread_by net.now lengths.now loads.new }
     ensures within { AreLoadsWithin net.now loads.new }
     ensures loads { loads.new ≡ sweep_loads net.now matrix.now.demand (map links_in paths.now) }
 {
     write_loads(net, matrix, paths, loads);
-    centre_of(net, lengths, loads)
+    spread_of(net, lengths, loads)
 }
 
 /// Keeps the lengths, by which the pairs take these paths, where they bound better than those before.
@@ -123,13 +123,13 @@ pub fn offer(
     ensures state { IsDualState net.now state.new }
     ensures better { KeepsBetter lengths.now state.old state.new }
     ensures loads { state.new.loads.items ≡ sweep_loads net.now matrix.now.demand (map links_in paths.now) }
-    ensures bound { OnOk result (state.new.best_bound ≡ max state.old.best_bound (centre_by net.now lengths.now state.new.loads.items).mean) }
+    ensures bound { OnOk result (state.new.best_bound ≡ max state.old.best_bound (spread_by net.now lengths.now state.new.loads.items).mean) }
     ensures lengths { state.new.lengths ≡ state.old.lengths }
 {
-    let centre = centre_under(net, matrix, paths, lengths, &mut state.loads);
-    if centre.mean > state.best_bound {
+    let spread = spread_under(net, matrix, paths, lengths, &mut state.loads);
+    if spread.mean > state.best_bound {
         state.best_lengths = Vec::from_slice(alloc, lengths)?;
-        state.best_bound = centre.mean;
+        state.best_bound = spread.mean;
     }
     Ok(())
 }
@@ -151,16 +151,16 @@ pub fn end_sweep(
     ensures state { IsDualState net.now state.new }
     ensures better { KeepsBetter state.old.lengths.items state.old state.new }
     ensures loads { state.new.loads.items ≡ state.old.loads.items }
-    ensures bound { OnOk result (state.new.best_bound ≡ max state.old.best_bound (centre_by net.now state.old.lengths.items state.new.loads.items).mean) }
-    ensures counted { IfOk result (λ w. w ≡ weight_by (centre_by net.now state.old.lengths.items state.new.loads.items)) }
+    ensures bound { OnOk result (state.new.best_bound ≡ max state.old.best_bound (spread_by net.now state.old.lengths.items state.new.loads.items).mean) }
+    ensures counted { IfOk result (λ w. w ≡ weight_by (spread_by net.now state.old.lengths.items state.new.loads.items)) }
 {
-    let centre = centre_of(net, &state.lengths, &state.loads);
-    if centre.mean > state.best_bound {
+    let spread = spread_of(net, &state.lengths, &state.loads);
+    if spread.mean > state.best_bound {
         state.best_lengths = Vec::from_slice(alloc, &state.lengths)?;
-        state.best_bound = centre.mean;
+        state.best_bound = spread.mean;
     }
     step_weights(net, &mut state.lengths, &state.loads, step_divisor);
-    Ok(weight_of(centre))
+    Ok(weight_of(spread))
 }
 
 /// Takes a sweep, in which the pairs take these paths: keeps its lengths where they bound better than those before, and moves the
@@ -184,8 +184,8 @@ pub fn take_sweep(
     ensures state { IsDualState net.now state.new }
     ensures better { KeepsBetter state.old.lengths.items state.old state.new }
     ensures loads { state.new.loads.items ≡ sweep_loads net.now matrix.now.demand (map links_in paths.now) }
-    ensures bound { OnOk result (state.new.best_bound ≡ max state.old.best_bound (centre_by net.now state.old.lengths.items state.new.loads.items).mean) }
-    ensures counted { IfOk result (λ w. w ≡ weight_by (centre_by net.now state.old.lengths.items state.new.loads.items)) }
+    ensures bound { OnOk result (state.new.best_bound ≡ max state.old.best_bound (spread_by net.now state.old.lengths.items state.new.loads.items).mean) }
+    ensures counted { IfOk result (λ w. w ≡ weight_by (spread_by net.now state.old.lengths.items state.new.loads.items)) }
 {
     write_loads(net, matrix, paths, &mut state.loads);
     end_sweep(alloc, net, state, step_divisor)

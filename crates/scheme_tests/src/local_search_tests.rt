@@ -57,7 +57,7 @@ fn settled(
     requires candidates { IsRoutingOf parallel_links (pair_of (0, 1) ∷ []) candidates.now.routes }
     ensures { IfOk result (λ r. IsRoutingOf parallel_links (pair_of (0, 1) ∷ []) r.routes) }
 {
-    settle(
+    local_optimum(
         alloc,
         &commodities.net,
         &commodities.matrix,

@@ -14,7 +14,7 @@ ghost use Rattle.semi_oblivious.specs.Semi.{IsAdapted, KeepsTo};
 use crate::sweeps::sweep;
 use crate::usage::usage_lengths;
 use dual_bounds::bracket_on_paths;
-use local_search::settle;
+use local_search::local_optimum;
 use path_budget::trim;
 use routing::Routing;
 use scheme::{Adaptive, LowNote, Oblivious, Scheme, SchemeFault};
@@ -22,7 +22,7 @@ use std::alloc::Global;
 use te_model::{Bracket, Items, Matrix, Memory, Network, Pairs};
 
 /// Semi-oblivious routing: of each pair the `budget` heaviest paths of the base's routing are fixed, and for each matrix weight is
-/// moved between them until no single move helps by a stated share (`local_search::settle`).
+/// moved between them until no single move helps by a stated share (`local_search::local_optimum`).
 #[derive(Drop)]
 pub struct Semi<S: Oblivious + Drop> {
     pub base: S,
@@ -60,7 +60,7 @@ fn adapt(
     ensures small { IfOk result (λ r. All (λ x. x ≤ 2 ^ 28) r.1) }
 {
     let (start, swept) = sweep(alloc, net, fixed, matrix)?;
-    let routing = settle(alloc, net, matrix, start, fixed)?;
+    let routing = local_optimum(alloc, net, matrix, start, fixed)?;
     Ok((routing, swept))
 }
 

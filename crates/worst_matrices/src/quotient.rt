@@ -5,7 +5,7 @@ ghost use Rattle.worst_matrices.specs.Usage.{HasSmallBounds};
 use te_model::DemandSet;
 
 /// How often the greatest quotient between bounds is sought anew. The quotients rise, and few of them are needed.
-const TURNS: usize = 8;
+const ROUNDS: usize = 8;
 
 /// A share and a distance, of a pair or summed by the demands of a matrix.
 #[derive(Clone, Copy)]
@@ -88,7 +88,7 @@ pub fn greatest_between(set: &DemandSet, shares: &[u64], distances: &[u64]) -> Q
         share: 0,
         distance: 1,
     };
-    for _ in 0..TURNS {
+    for _ in 0..ROUNDS {
         top = gained(set, shares, distances, top);
     }
     top

@@ -59,8 +59,8 @@ fn write_lasts(net: &Network, weights: &[u64], distances: &[Option<u64>], lasts:
     }
 }
 
-/// Turns the ways to those from the node, where the metric has a row of it.
-fn turn(net: &Network, metric: &Metric, ways: &mut Ways, from: u32)
+/// Writes the ways from the node, where the metric has a row of it.
+fn write_ways_from(net: &Network, metric: &Metric, ways: &mut Ways, from: u32)
     requires network { IsTrue (is_well_formed net.now) }
     requires weights { length metric.now.weights ≡ link_count net.now }
     requires ways { AreLastLinks net.now ways.old.lasts.items }
@@ -147,7 +147,7 @@ fn put_on_ways(
     for p in 0..routes.len() {
         if demand[p] > 0 {
             let pair = routes[p].pair;
-            turn(usage.net, metric, ways, pair.src);
+            write_ways_from(usage.net, metric, ways, pair.src);
             let capacity = narrowest_on(usage.net, &ways.lasts, pair.dst);
             let amount = amount_of(usage.set, demand[p], capacity);
             demand[p] = amount;

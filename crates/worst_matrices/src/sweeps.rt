@@ -12,7 +12,7 @@ use crate::means::{Sums, add, no_sums};
 use crate::response::{Response, respond};
 use crate::usage::LinkUsage;
 use best_blocks::{Metric, metric_with};
-use centred_steps::{FIRST_WEIGHT, centre_of, has_load, step_weights};
+use centred_steps::{FIRST_WEIGHT, has_load, spread_of, step_weights};
 use shortest_path::{Direction, Searches};
 use std::alloc::Global;
 use te_model::{Memory, Network};
@@ -62,7 +62,7 @@ fn metric_after_step(
     metric: &Metric,
     searches: &mut Searches,
     loads: &[u128],
-    parts: u64,
+    divisor: u64,
 ) -> Result<Metric, Memory>
     requires usage { IsLinkUsage usage.now }
     requires marks { length marks.now ≡ node_count usage.now.net.now }
@@ -70,13 +70,13 @@ fn metric_after_step(
     requires metric { IsMetricOf usage.now metric.now }
     requires weights { AreWeightsUpTo (2 ^ 27) metric.now.weights }
     requires loads { AreLoadsWithin usage.now.net.now loads.now }
-    requires parts { (1 ≤ parts) × (parts ≤ 128) }
+    requires divisor { (1 ≤ divisor) × (divisor ≤ 128) }
     ensures metric { IfOk result (IsMetricOf usage.now) }
     ensures weights { IfOk result (λ m. AreWeightsUpTo (2 ^ 27) m.weights) }
     ensures same { searches.new ≡ searches.old }
 {
     let mut weights = Vec::from_slice(alloc, metric.weights.as_slice())?;
-    step_weights(usage.net, &mut weights, loads, parts);
+    step_weights(usage.net, &mut weights, loads, divisor);
     metric_with(alloc, usage.net, usage.routing, marks, searches, weights)
 }
 
@@ -87,18 +87,18 @@ fn advance(
     marks: &[bool],
     search: &mut Search,
     loads: &[u128],
-    parts: u64,
+    divisor: u64,
 ) -> Result<(), Memory>
     requires usage { IsLinkUsage usage.now }
     requires marks { length marks.now ≡ node_count usage.now.net.now }
     requires search { IsWeightSearch usage.now search.old }
     requires loads { AreLoadsWithin usage.now.net.now loads.now }
-    requires parts { (1 ≤ parts) × (parts ≤ 128) }
+    requires divisor { (1 ≤ divisor) × (divisor ≤ 128) }
     ensures { OnOk result (IsWeightSearch usage.now search.new) }
 {
     let old = &search.metric;
     let searches = &mut search.searches;
-    let metric = metric_after_step(alloc, usage, marks, old, searches, loads, parts)?;
+    let metric = metric_after_step(alloc, usage, marks, old, searches, loads, divisor)?;
     search.metric = metric;
     Ok(())
 }
@@ -120,8 +120,8 @@ fn count_response(
     ensures { length sums.new.demand.items ≡ length sums.old.demand.items }
 {
     if counts {
-        let centre = centre_of(usage.net, metric.weights.as_slice(), &response.loads);
-        add(sums, &response.demand, centre.deviation);
+        let spread = spread_of(usage.net, metric.weights.as_slice(), &response.loads);
+        add(sums, &response.demand, spread.deviation);
     }
 }
 
@@ -136,25 +136,25 @@ pub fn make_stage(
     usage: &LinkUsage,
     marks: &[bool],
     search: &mut Search,
-    parts: u64,
+    divisor: u64,
 ) -> Result<Sums, Memory>
     requires usage { IsLinkUsage usage.now }
     requires marks { length marks.now ≡ node_count usage.now.net.now }
     requires search { IsWeightSearch usage.now search.old }
-    requires parts { (1 ≤ parts) × (parts ≤ 128) }
+    requires divisor { (1 ≤ divisor) × (divisor ≤ 128) }
     ensures search { OnOk result (IsWeightSearch usage.now search.new) }
     ensures count { IfOk result (λ s. length s.demand.items ≡ length usage.now.shares.now) }
 {
     let sweeps = sweeps_of(usage.net);
     let mut sums = no_sums(alloc, usage.shares.len())?;
     for i in 0..sweeps {
-        let response = respond(alloc, usage, &search.metric, 2 * u128::from(parts))?;
+        let response = respond(alloc, usage, &search.metric, 2 * u128::from(divisor))?;
         if !has_load(&response.loads) {
             return Ok(sums);
         }
         let counts = i >= sweeps / PARTS_OF_STAGE;
         count_response(usage, &search.metric, &response, counts, &mut sums);
-        advance(alloc, usage, marks, search, &response.loads, parts)?;
+        advance(alloc, usage, marks, search, &response.loads, divisor)?;
     }
     Ok(sums)
 }

@@ -20,24 +20,24 @@ use te_model::{Block, DemandSet, Memory, Network};
 /// as great as those of the one before.
 const FIRST_STAGES: usize = 2;
 
-/// The parts of a step in the first of them. Greater steps make some weights so small that the later ones do not bring them back.
-const FIRST_PARTS: u64 = 4;
+/// The step divisor in the first of them. Greater steps make some weights so small that the later ones do not bring them back.
+const FIRST_DIVISOR: u64 = 4;
 
 /// How many stages of ever smaller steps follow whose means are looked at.
 const MIDDLE_STAGES: usize = 4;
 
-/// The parts of a step in the first of these stages.
-const MIDDLE_PARTS: u64 = 16;
+/// The step divisor in the first of these stages.
+const MIDDLE_DIVISOR: u64 = 16;
 
-/// The parts of a step in the last one.
-const MAX_PARTS: u64 = 128;
+/// The step divisor in the last one.
+const MAX_DIVISOR: u64 = 128;
 
 /// How many stages of equal steps follow whose means are looked at. The weights are near by then, yet a scheme's routing of one mean
 /// may be much nearer to the best one than that of another.
 const LAST_STAGES: usize = 4;
 
-/// The parts of a step in these stages.
-const LAST_PARTS: u64 = 32;
+/// The step divisor in these stages.
+const LAST_DIVISOR: u64 = 32;
 
 /// The share of each pair on the link.
 fn shares_on(alloc: Global, routing: &Routing, link: u32) -> Result<Vec<u64>, Memory>
@@ -106,10 +106,10 @@ fn make_first_stages(
     requires search { IsWeightSearch usage.now search.old }
     ensures { OnOk result (IsWeightSearch usage.now search.new) }
 {
-    let mut parts = FIRST_PARTS;
+    let mut divisor = FIRST_DIVISOR;
     for _ in 0..FIRST_STAGES {
-        make_stage(alloc, usage, marks, search, parts)?;
-        parts = (2 * parts).min(MAX_PARTS);
+        make_stage(alloc, usage, marks, search, divisor)?;
+        divisor = (2 * divisor).min(MAX_DIVISOR);
     }
     Ok(())
 }
@@ -120,23 +120,23 @@ fn add_stage(
     usage: &LinkUsage,
     marks: &[bool],
     search: &mut Search,
-    parts: u64,
+    divisor: u64,
     found: &mut Vec<ScaledMatrix>,
 ) -> Result<(), Memory>
     requires usage { IsLinkUsage usage.now }
     requires marks { length marks.now ≡ node_count usage.now.net.now }
     requires search { IsWeightSearch usage.now search.old }
-    requires parts { (1 ≤ parts) × (parts ≤ 128) }
+    requires divisor { (1 ≤ divisor) × (divisor ≤ 128) }
     requires found { All (IsScaledMember usage.now.set.now (length usage.now.shares.now)) found.old.items }
     ensures search { OnOk result (IsWeightSearch usage.now search.new) }
     ensures found { OnOk result (All (IsScaledMember usage.now.set.now (length usage.now.shares.now)) found.new.items) }
 {
-    let sums = make_stage(alloc, usage, marks, search, parts)?;
+    let sums = make_stage(alloc, usage, marks, search, divisor)?;
     add_mean(alloc, usage.set, &sums, found)
 }
 
-/// Goes on with the search by so many stages, and adds their means. A step of the first has `first` parts, and each stage has twice the
-/// parts of the one before, up to `most`.
+/// Goes on with the search by so many stages, and adds their means. The step divisor of the first is `first`, and that of each stage twice that of
+/// the one before, up to `most`.
 fn add_stages(
     alloc: Global,
     usage: &LinkUsage,
@@ -156,10 +156,10 @@ fn add_stages(
     ensures search { OnOk result (IsWeightSearch usage.now search.new) }
     ensures found { OnOk result (All (IsScaledMember usage.now.set.now (length usage.now.shares.now)) found.new.items) }
 {
-    let mut parts = first;
+    let mut divisor = first;
     for _ in 0..count {
-        add_stage(alloc, usage, marks, search, parts, found)?;
-        parts = (2 * parts).min(most);
+        add_stage(alloc, usage, marks, search, divisor, found)?;
+        divisor = (2 * divisor).min(most);
     }
     Ok(())
 }
@@ -180,8 +180,8 @@ fn means_for(alloc: Global, usage: &LinkUsage) -> Result<Vec<ScaledMatrix>, Memo
         &marks,
         &mut search,
         MIDDLE_STAGES,
-        MIDDLE_PARTS,
-        MAX_PARTS,
+        MIDDLE_DIVISOR,
+        MAX_DIVISOR,
         &mut found,
     )?;
     add_stages(
@@ -190,8 +190,8 @@ fn means_for(alloc: Global, usage: &LinkUsage) -> Result<Vec<ScaledMatrix>, Memo
         &marks,
         &mut search,
         LAST_STAGES,
-        LAST_PARTS,
-        LAST_PARTS,
+        LAST_DIVISOR,
+        LAST_DIVISOR,
         &mut found,
     )?;
     Ok(found)

@@ -7,17 +7,17 @@ use Rattle.semi_oblivious.proofs.semi.adapt.Goals as goal
 pub sweep-requires-clause-fixed : goal.sweep-requires-clause-fixed
 sweep-requires-clause-fixed c = c.requires.fixed.1.splits
 
-pub settle-requires-clause-few : goal.settle-requires-clause-few
-settle-requires-clause-few c =
+pub local_optimum-requires-clause-few : goal.local_optimum-requires-clause-few
+local_optimum-requires-clause-few c =
     omega (arith, same_count c.in_ok-start.start.routes c.args.fixed.now.routes c.in_ok-start.ensures.routing.pairs, c.requires.pairs)
 
-pub settle-requires-clause-demands : goal.settle-requires-clause-demands
-settle-requires-clause-demands c =
+pub local_optimum-requires-clause-demands : goal.local_optimum-requires-clause-demands
+local_optimum-requires-clause-demands c =
     let count = same_count c.in_ok-start.start.routes c.args.fixed.now.routes c.in_ok-start.ensures.routing.pairs in
     subst (λ n. AreDemands n c.args.matrix.now.demand) (sym count) c.requires.demands
 
-pub settle-requires-clause-routings : goal.settle-requires-clause-routings
-settle-requires-clause-routings c =
+pub local_optimum-requires-clause-routings : goal.local_optimum-requires-clause-routings
+local_optimum-requires-clause-routings c =
     let (pairs, is) = c.requires.fixed in
     (pairs, over_routing c.args.net.now pairs _ c.args.fixed.now.routes c.in_ok-start.start.routes is c.in_ok-start.ensures.routing, is)
 

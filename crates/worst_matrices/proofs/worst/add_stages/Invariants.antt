@@ -7,4 +7,4 @@ abbrev pub invariant-loop : goal.invariant-loop
 invariant-loop l =
     All (IsScaledMember l.usage.set.now (length l.usage.shares.now)) l.found.items
     × IsWeightSearch l.usage l.search
-    × (1 ≤ l.parts) × (l.parts ≤ 128)
+    × (1 ≤ l.divisor) × (l.divisor ≤ 128)

@@ -13,7 +13,7 @@ use Rattle.local_search.specs.Moves.{IsStable}
 use Rattle.local_search.specs.Pairs.{ArePairsOnLinks}
 use Rattle.local_search.specs.Settling.{SettledSoFar}
 use Rattle.local_search.proofs.Settled.{settled_back, settled_few}
-use Rattle.local_search.proofs.settling.settle.Goals as goal
+use Rattle.local_search.proofs.settling.local_optimum.Goals as goal
 
 -- routings of the same pairs
 same_pairs : (net : Network) (pairs : List Pair) (routes others own theirs : List PairRoutes) → own ≡ routes → theirs ≡ others →

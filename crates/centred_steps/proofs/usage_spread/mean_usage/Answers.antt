@@ -1,7 +1,7 @@
 use Rattle.std.proofs.Common.{◌^◌, arith}
 use Rattle.te_model.proofs.WellFormed.{capacities_small, few_links}
 use Rattle.shortest_path.proofs.Values.{listed_small}
-use Rattle.centred_steps.proofs.centre.mean_usage.Goals as goal
+use Rattle.centred_steps.proofs.usage_spread.mean_usage.Goals as goal
 
 pub capacity_by-requires-clause-links : goal.capacity_by-requires-clause-links
 capacity_by-requires-clause-links c = few_links c.args.net.now c.requires.network

@@ -5,7 +5,7 @@ use Rattle.te_model.specs.Network.{link_count, no_link}
 use Rattle.te_model.proofs.WellFormed.{capacities_positive}
 use Rattle.multiplicative_lengths.specs.Growth.{usage_of}
 use Rattle.centred_steps.proofs.Usages.{usage_at}
-use Rattle.centred_steps.proofs.centre.greatest_usage.Goals as goal
+use Rattle.centred_steps.proofs.usage_spread.greatest_usage.Goals as goal
 
 pub usage_of-requires-clause-capacity : goal.usage_of-requires-clause-capacity
 usage_of-requires-clause-capacity c =

@@ -6,7 +6,7 @@ use Rattle.te_model.specs.Counting.{greatest_below, sum_below}
 use Rattle.te_model.specs.Inequalities.{capacity_by}
 use Rattle.te_model.specs.Network.{link_count}
 use Rattle.multiplicative_lengths.specs.Growth.{usage_of}
-use Rattle.centred_steps.specs.declared.centre.Centre.{Centre}
+use Rattle.centred_steps.specs.declared.usage_spread.UsageSpread.{UsageSpread}
 
 -- the sum of the loads of the first n links by their weights
 abbrev pub weighted_load : ℕ → List ℕ → List ℕ → ℕ
@@ -21,7 +21,7 @@ abbrev pub mean_of : Network → List ℕ → List ℕ → ℕ
 mean_of net weights loads = weighted_load (link_count net) weights loads * RATIO_UNIT / max 1 (capacity_by net weights)
 
 -- that mean, and how far the greatest usage lies above it, at least 1
-abbrev pub centre_by : Network → List ℕ → List ℕ → Centre
-centre_by net weights loads =
+abbrev pub spread_by : Network → List ℕ → List ℕ → UsageSpread
+spread_by net weights loads =
     let mean = min (mean_of net weights loads) (most_used net loads) in
     record { mean = mean; deviation = max 1 (most_used net loads - mean) }

@@ -2,15 +2,15 @@
 ghost use Rattle.std.specs.Prelude.{◌≡◌, ℕ, ◌*◌, ◌/◌, ◌^◌, ◌≤◌, IsTrue, length, slice_index};
 ghost use Rattle.te_model.specs.declared.units.TheConstants.{RATIO_UNIT};
 ghost use Rattle.te_model.specs.Network.{is_well_formed, link_count};
-ghost use Rattle.centred_steps.specs.Centre.{centre_by, mean_of, most_used, weighted_load};
-ghost use Rattle.centred_steps.specs.Loads.{AreLoadsWithin, IsCentre};
+ghost use Rattle.centred_steps.specs.UsageSpread.{spread_by, mean_of, most_used, weighted_load};
+ghost use Rattle.centred_steps.specs.Loads.{AreLoadsWithin, IsUsageSpread};
 ghost use Rattle.centred_steps.specs.Weights.{AreWeightsUpTo};
 
 use te_model::{Network, RATIO_UNIT, capacity_by};
 
 /// The usage in the middle of those of all links, and how far the greatest lies above it.
 #[derive(Clone, Copy, Debug, PartialEq, Eq)]
-pub struct Centre {
+pub struct UsageSpread {
     /// The mean of the usages by weight and capacity, in millionths.
     pub mean: u128,
     /// At least 1.
@@ -74,17 +74,17 @@ fn mean_usage(net: &Network, weights: &[u64], loads: &[u128]) -> u128
 /// The usage in the middle of those of all links.
 ///
 /// `weights` and `loads` have one number for each link. Takes no memory.
-pub fn centre_of(net: &Network, weights: &[u64], loads: &[u128]) -> Centre
+pub fn spread_of(net: &Network, weights: &[u64], loads: &[u128]) -> UsageSpread
     requires network { IsTrue (is_well_formed net.now) }
     requires count { length weights.now ≡ link_count net.now }
     requires weights { AreWeightsUpTo (2 ^ 27) weights.now }
     requires loads { AreLoadsWithin net.now loads.now }
-    ensures centre { IsCentre result }
-    ensures exact { result ≡ centre_by net.now weights.now loads.now }
+    ensures spread { IsUsageSpread result }
+    ensures exact { result ≡ spread_by net.now weights.now loads.now }
 {
     let most = greatest_usage(net, loads);
     let mean = mean_usage(net, weights, loads).min(most);
-    Centre {
+    UsageSpread {
         mean,
         deviation: (most - mean).max(1),
     }
