@@ -36,9 +36,9 @@ pub fn lines_with<S: Adaptive>(
     let mut text = Vec::new(alloc);
     let mut total = Figures::none();
     let mut last = None;
-    let mut kept = None;
+    let mut kept = Vec::new(alloc);
     for step in 0..steps {
-        let (row, made) = row_after(
+        let row = row_after(
             alloc,
             scheme,
             network,
@@ -48,11 +48,10 @@ pub fn lines_with<S: Adaptive>(
             recovery,
             step as u32,
             last.take(),
-            kept.take(),
+            &mut kept,
         )?;
         add_row(&mut text, &mut total, word, &row)?;
         last = Some(row);
-        kept = made;
     }
     print_total(&mut text, word, &total)?;
     Ok(text)

@@ -1,3 +1,4 @@
+pub mod KeptPreparations
 mod Order
 mod Mapping
 mod Surviving

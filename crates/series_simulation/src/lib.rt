@@ -2,8 +2,8 @@
 //!
 //! - `drive`: one row for each step.
 //! - `prepare_connected`, `step_of`: what serves all steps, a `Preparation`, and one of them with the paths that its demands took.
-//! - `row_after`: the row of a step where the row of another is known and a `SurvivorPreparation` is kept, what was prepared for the
-//!   network that some failed links leave.
+//! - `row_after`: the row of a step where the row of another is known and some `SurvivorPreparation`s are kept, each what was prepared for
+//!   the network that some failed links leave.
 //! - `kept_row`: the row of a step by a routing that is kept for every matrix. `kept_rows_exist`, `kept_rows_have_parts`: a series has such
 //!   rows, and the greatest utilisation of each is that of the routing.
 //! - `step_rows_exist`, `steps_exist`, `steps_stand_in_rows`: every series has rows, each of its steps exists, and the row of each step
@@ -16,6 +16,7 @@
 
 mod adapted_rates;
 mod connected_pairs;
+mod kept_preparations;
 mod kept_routing;
 mod law;
 mod original_links;

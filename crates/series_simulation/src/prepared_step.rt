@@ -4,8 +4,9 @@ ghost use Rattle.std.specs.Option.{IfSome};
 ghost use Rattle.te_model.specs.Network.{is_well_formed};
 ghost use Rattle.series_simulation.specs.Rows.{is_rerouted};
 ghost use Rattle.series_simulation.specs.StepInput.{IsStepFor, IsStepInput};
-ghost use Rattle.series_simulation.specs.SurvivorPreparation.{IsKept, IsPreparedWithout};
+ghost use Rattle.series_simulation.specs.SurvivorPreparation.{AreKept, IsPreparedWithout};
 
+use crate::kept_preparations::place_for;
 use crate::peak::peak;
 use crate::recovery::{is_rerouted, mode_of};
 use crate::step_input::StepInput;
@@ -13,10 +14,10 @@ use crate::step_matrices::matrix_of;
 use crate::step_routing::step_routing;
 use crate::step_row::{SimulatedStep, StepRow};
 use crate::step_simulation::simulate;
-use crate::survivor_preparation::{SurvivorPreparation, survivor_for};
+use crate::survivor_preparation::SurvivorPreparation;
 use scheme::Adaptive;
 use std::alloc::Global;
-use te_model::{Memory, Network};
+use te_model::{Items, Memory, Network};
 
 /// The step. Where it is routed anew, `survivor` is what was prepared for the network without its failed links.
 fn step_by<'a, S: Adaptive>(
@@ -60,30 +61,49 @@ fn step_by<'a, S: Adaptive>(
     })
 }
 
-/// The step, and what later steps may take: what was last prepared for a network without its failed links.
+/// The step, which is routed anew by what was prepared for the network without its failed links.
+fn rerouted_step<S: Adaptive>(
+    alloc: Global,
+    scheme: &S,
+    net: &Network,
+    input: &StepInput<S::Plan>,
+    made: &SurvivorPreparation<S::Plan>,
+) -> Result<SimulatedStep, Memory>
+    requires network { IsTrue (is_well_formed net.now) }
+    requires paths { S.Scheme.PATHS ≤ 4096 }
+    requires input { IsStepInput (S.Scheme.is_plan scheme.now) net.now input.now }
+    requires rerouted { IsTrue (is_rerouted input.now.recovery input.now.failed.now) }
+    requires made { IsPreparedWithout (S.Scheme.is_plan scheme.now) net.now input.now.failed.now input.now.traffic.now.sent.pairs.list made.now }
+    ensures { IfOk result (IsStepFor S.Scheme.PATHS (S.Scheme.is_plan scheme.now) (S.Scheme.relates scheme.now) S.Note.low (S.path_set_routes scheme.now) (S.adapts scheme.now) net.now input.now) }
+{
+    step_by(alloc, scheme, net, input, Some(made))
+}
+
+/// The step. Where it is routed anew, it takes what is kept for its own failed links, and what is prepared for them is kept.
 ///
-/// A step that is routed anew takes what is kept, if that was prepared for its own failed links, and the others leave it. `Memory` comes
-/// where memory is wanting.
+/// `later` has for each step that follows one mark for each link, by which what none of them needs is dropped. `Memory` comes where memory
+/// is wanting.
 pub fn step_keeping<S: Adaptive>(
     alloc: Global,
     scheme: &S,
     net: &Network,
     input: &StepInput<S::Plan>,
-    kept: Option<SurvivorPreparation<S::Plan>>,
-) -> Result<(SimulatedStep, Option<SurvivorPreparation<S::Plan>>), Memory>
+    kept: &mut Vec<SurvivorPreparation<S::Plan>>,
+    later: &[Items<bool>],
+) -> Result<SimulatedStep, Memory>
     requires network { IsTrue (is_well_formed net.now) }
     requires paths { S.Scheme.PATHS ≤ 4096 }
     requires input { IsStepInput (S.Scheme.is_plan scheme.now) net.now input.now }
-    requires kept { IfSome kept (IsKept (S.Scheme.is_plan scheme.now) net.now input.now.traffic.now.sent.pairs.list) }
-    ensures step { IfOk result (λ r. IsStepFor S.Scheme.PATHS (S.Scheme.is_plan scheme.now) (S.Scheme.relates scheme.now) S.Note.low (S.path_set_routes scheme.now) (S.adapts scheme.now) net.now input.now r.0) }
-    ensures kept { IfOk result (λ r. IfSome r.1 (IsKept (S.Scheme.is_plan scheme.now) net.now input.now.traffic.now.sent.pairs.list)) }
+    requires kept { AreKept (S.Scheme.is_plan scheme.now) net.now input.now.traffic.now.sent.pairs.list kept.old.items }
+    ensures step { IfOk result (IsStepFor S.Scheme.PATHS (S.Scheme.is_plan scheme.now) (S.Scheme.relates scheme.now) S.Note.low (S.path_set_routes scheme.now) (S.adapts scheme.now) net.now input.now) }
+    ensures kept { IfOk result (λ made. AreKept (S.Scheme.is_plan scheme.now) net.now input.now.traffic.now.sent.pairs.list kept.new.items) }
 {
     if !is_rerouted(input.recovery, input.failed) {
         let simulated = step_by(alloc, scheme, net, input, None)?;
-        return Ok((simulated, kept));
+        return Ok(simulated);
     }
     let pairs = &input.traffic.sent.pairs;
-    let made = survivor_for(alloc, scheme, net, input.failed, pairs, kept)?;
-    let simulated = step_by(alloc, scheme, net, input, Some(&made))?;
-    Ok((simulated, Some(made)))
+    let place = place_for(alloc, scheme, net, input.failed, pairs, kept, later)?;
+    let simulated = rerouted_step(alloc, scheme, net, input, &kept[place])?;
+    Ok(simulated)
 }

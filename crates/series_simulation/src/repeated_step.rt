@@ -6,7 +6,7 @@ ghost use Rattle.te_model.specs.Pairs.{AreDemands};
 ghost use Rattle.traffic_matrix.specs.Traffic.{IsTraffic, demands_in, predicted_in};
 ghost use Rattle.series_simulation.specs.Connected.{TellsPaths, connects};
 ghost use Rattle.series_simulation.specs.Repeated.{AreAlike, IsRowIn};
-ghost use Rattle.series_simulation.specs.SurvivorPreparation.{IsKept};
+ghost use Rattle.series_simulation.specs.SurvivorPreparation.{AreKept};
 
 use crate::preparation::Preparation;
 use crate::prepared_step::step_keeping;
@@ -86,12 +86,13 @@ fn repeated_row(
     }
 }
 
-/// The row of a step, as that of `step_of`, and what later steps may take: what was last prepared for a network without its failed links.
+/// The row of a step, as that of `step_of`.
 ///
 /// Where the last row is of a step that is given the same demands, predictions and failed links, it is this step's row too, but for the
-/// number. Otherwise the step is simulated; where it is routed anew, by what is kept, if that was prepared for its own failed links.
-/// `marks` has for each step of the series one mark for each link, set where the link has failed, and `last` is a row of a step of the
-/// series by the same plan, marks and recovery. `Memory` comes where memory is wanting.
+/// number. Otherwise the step is simulated; where it is routed anew, by what is kept for its own failed links, and what is prepared for
+/// them is kept for later steps: while one of them needs it, and for `KEPT_SETS` sets of failed links at most, of which the one that is
+/// needed last goes. `marks` has for each step of the series one mark for each link, set where the link has failed, and `last` is a row of
+/// a step of the series by the same plan, marks and recovery. `Memory` comes where memory is wanting.
 pub fn row_after<S: Adaptive>(
     alloc: Global,
     scheme: &S,
@@ -102,8 +103,8 @@ pub fn row_after<S: Adaptive>(
     recovery: Recovery,
     step: u32,
     last: Option<StepRow>,
-    kept: Option<SurvivorPreparation<S::Plan>>,
-) -> Result<(StepRow, Option<SurvivorPreparation<S::Plan>>), Memory>
+    kept: &mut Vec<SurvivorPreparation<S::Plan>>,
+) -> Result<StepRow, Memory>
     requires network { IsTrue (is_well_formed net.now) }
     requires traffic { IsTraffic (node_count net.now) traffic.now }
     requires count { length marks.now ≡ length traffic.now.sent.steps }
@@ -114,29 +115,29 @@ pub fn row_after<S: Adaptive>(
     requires step { step < length traffic.now.sent.steps }
     requires last { IfSome last (IsRowIn S.Scheme.PATHS (S.Scheme.is_plan scheme.now) (S.Scheme.relates scheme.now) S.Note.low
         (S.path_set_routes scheme.now) (S.adapts scheme.now) net.now marks.now traffic.now recovery prepared.now.plan) }
-    requires kept { IfSome kept (IsKept (S.Scheme.is_plan scheme.now) net.now traffic.now.sent.pairs.list) }
-    ensures step { IfOk result (λ r. r.0.step ≡ step) }
-    ensures row { IfOk result (λ r. IsRowIn S.Scheme.PATHS (S.Scheme.is_plan scheme.now) (S.Scheme.relates scheme.now) S.Note.low
-        (S.path_set_routes scheme.now) (S.adapts scheme.now) net.now marks.now traffic.now recovery prepared.now.plan r.0) }
-    ensures kept { IfOk result (λ r. IfSome r.1 (IsKept (S.Scheme.is_plan scheme.now) net.now traffic.now.sent.pairs.list)) }
+    requires kept { AreKept (S.Scheme.is_plan scheme.now) net.now traffic.now.sent.pairs.list kept.old.items }
+    ensures step { IfOk result (λ r. r.step ≡ step) }
+    ensures row { IfOk result (IsRowIn S.Scheme.PATHS (S.Scheme.is_plan scheme.now) (S.Scheme.relates scheme.now) S.Note.low
+        (S.path_set_routes scheme.now) (S.adapts scheme.now) net.now marks.now traffic.now recovery prepared.now.plan) }
+    ensures kept { IfOk result (λ r. AreKept (S.Scheme.is_plan scheme.now) net.now traffic.now.sent.pairs.list kept.new.items) }
 {
     let repeated = match last {
         Some(row) => repeated_row(traffic, marks, row, step),
         None => None,
     };
     match repeated {
-        Some(row) => Ok((row, kept)),
+        Some(row) => Ok(row),
         None => {
-            let failed = marks[step as usize].as_slice();
+            let place = step as usize;
             let input = StepInput {
                 prepared,
                 traffic,
-                failed,
+                failed: marks[place].as_slice(),
                 recovery,
                 step,
             };
-            let (simulated, kept) = step_keeping(alloc, scheme, net, &input, kept)?;
-            Ok((simulated.row, kept))
+            let simulated = step_keeping(alloc, scheme, net, &input, kept, &marks[place + 1..])?;
+            Ok(simulated.row)
         }
     }
 }

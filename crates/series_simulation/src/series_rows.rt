@@ -56,7 +56,8 @@ pub fn step_of<S: Adaptive>(
         recovery,
         step,
     };
-    let (simulated, _) = step_keeping(alloc, scheme, net, &input, None)?;
+    let mut kept = Vec::new(alloc);
+    let simulated = step_keeping(alloc, scheme, net, &input, &mut kept, &[])?;
     Ok(simulated)
 }
 

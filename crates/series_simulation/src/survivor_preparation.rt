@@ -1,6 +1,6 @@
 //! What a scheme prepares for the network that is left of failed links, and its routing there.
 ghost use Rattle.std.specs.Prelude.{◌≡◌, ◌<◌, ◌≤◌, All, AllPairs, IfOk, IsTrue, Some, length};
-ghost use Rattle.std.specs.Option.{IfSome, option_map};
+ghost use Rattle.std.specs.Option.{option_map};
 ghost use Rattle.te_model.specs.Network.{is_well_formed, link_count};
 ghost use Rattle.te_model.specs.PathRouting.{IsPathRouting};
 ghost use Rattle.routing.specs.Routes.{AreDemands, HasFewPaths};
@@ -23,7 +23,7 @@ use te_model::{Items, Matrix, Memory, Network, Pairs};
 #[derive(Drop)]
 pub struct SurvivorPreparation<P> {
     /// For each link of the whole network whether it has failed.
-    failed: Items<bool>,
+    pub failed: Items<bool>,
     /// The network that is left.
     survivor: Survivor,
     /// What was prepared for it.
@@ -33,7 +33,7 @@ pub struct SurvivorPreparation<P> {
 /// Prepares the scheme for the network without its failed links.
 ///
 /// `failed` has one mark for each link. `Memory` comes where memory is wanting.
-fn prepare_survivor<S: Scheme>(
+pub fn prepare_survivor<S: Scheme>(
     alloc: Global,
     scheme: &S,
     net: &Network,
@@ -52,48 +52,6 @@ fn prepare_survivor<S: Scheme>(
         survivor,
         prepared,
     })
-}
-
-/// What was prepared for these failed links, if that is what is kept.
-fn kept_for<P: Drop>(
-    kept: Option<SurvivorPreparation<P>>,
-    failed: &[bool],
-) -> Option<SurvivorPreparation<P>>
-    ensures { IfSome result (λ made. (kept ≡ Some made) × (made.failed ≡ failed.now)) }
-{
-    match kept {
-        Some(made) => {
-            if made.failed.as_slice() == failed {
-                Some(made)
-            } else {
-                None
-            }
-        }
-        None => None,
-    }
-}
-
-/// What the scheme prepares for the network without its failed links: what is kept, if it was prepared for these, and anew otherwise.
-///
-/// `failed` has one mark for each link. `Memory` comes where memory is wanting.
-pub fn survivor_for<S: Scheme>(
-    alloc: Global,
-    scheme: &S,
-    net: &Network,
-    failed: &[bool],
-    pairs: &Pairs,
-    kept: Option<SurvivorPreparation<S::Plan>>,
-) -> Result<SurvivorPreparation<S::Plan>, Memory>
-    requires network { IsTrue (is_well_formed net.now) }
-    requires marks { length failed.now ≡ link_count net.now }
-    requires pairs { ArePairsOf net.now pairs.now.list }
-    requires kept { IfSome kept (IsKept (S.is_plan scheme.now) net.now pairs.now.list) }
-    ensures prepared { IfOk result (IsPreparedWithout (S.is_plan scheme.now) net.now failed.now pairs.now.list) }
-{
-    match kept_for(kept, failed) {
-        Some(made) => Ok(made),
-        None => prepare_survivor(alloc, scheme, net, failed, pairs),
-    }
 }
 
 /// The same routing by the numbers that the links have in the whole network.

@@ -4,7 +4,8 @@ use Rattle.te_model.specs.Network.{link_count}
 use Rattle.failure.specs.Series.{marks_of_steps}
 use Rattle.series_simulation.specs.declared.step_row.StepRow.{StepRow}
 use Rattle.series_simulation.specs.Repeated.{IsRowIn}
-use Rattle.series_simulation.specs.SurvivorPreparation.{IsKept}
+use Rattle.series_simulation.specs.SurvivorPreparation.{AreKept}
+use Rattle.series_simulation.proofs.KeptPreparations.{none_kept}
 use Rattle.series_simulation.proofs.Marking.{marks_sized, series_count}
 use Rattle.series_simulation.proofs.Repeating.{row_at}
 use Rattle.series_simulation.proofs.Rowing.{rows_begin, rows_next, rows_end}
@@ -25,7 +26,8 @@ loop-step-init g c = record {
   small = subst (AmountsAtMost 0) (sym c.none-total.ensures)
       (record { offered = omega arith; delivered = omega arith; lost_full = omega arith; lost_failed = omega arith; lost_no_path = omega arith });
   last = tt;
-  kept = tt;
+  kept = subst (AreKept (g.S.Scheme.is_plan c.args.scheme.now) c.args.input.now.network.now c.args.input.now.traffic.now.sent.pairs.list) (sym c.new-kept.ensures.items)
+      (none_kept (g.S.Scheme.is_plan c.args.scheme.now) c.args.input.now.network.now c.args.input.now.traffic.now.sent.pairs.list);
 }
 
 pub row_after-requires-clause-count : goal.row_after-requires-clause-count
@@ -53,10 +55,7 @@ row_after-requires-clause-last g c =
     (subst (λ o. IfSome o (is c.in_ok-marks.marks.items)) (sym c.take.ensures.value) c.loop-step.invariant.last)
 
 pub row_after-requires-clause-kept : goal.row_after-requires-clause-kept
-row_after-requires-clause-kept g c =
-    let input = c.args.input.now in
-    subst (λ o. IfSome o (IsKept (g.S.Scheme.is_plan c.args.scheme.now) input.network.now input.traffic.now.sent.pairs.list))
-    (sym c.take-in-loop-step.ensures.value) c.loop-step.invariant.kept
+row_after-requires-clause-kept g c = c.loop-step.invariant.kept
 
 pub row_after-requires-clause-network : goal.row_after-requires-clause-network
 row_after-requires-clause-network g c = c.requires.input.network
