@@ -3,5 +3,11 @@ pub mod SameSets
 pub mod LesserBlocks
 pub mod MadeOnHead
 pub mod Given
+pub mod FinerNumbers
+pub mod FinerFeasible
+pub mod FinerExist
+pub mod Steps
+pub mod PolishedBlocks
+pub mod Reached
+pub mod LesserNeeds
 pub mod Tighter
-pub mod Worst

@@ -1,3 +1,5 @@
+pub mod Finer
+pub mod Polishing
 pub mod Tightened
 pub mod Offering
 pub mod Laws

@@ -7,10 +7,12 @@ ghost use Rattle.best_blocks.specs.Need.{HasNumbers};
 ghost use Rattle.te_model.specs.Feasible.{AreFeasible};
 ghost use Rattle.ratio_certificate.specs.Form.{made_set};
 ghost use Rattle.ratio_certificate.specs.Made.{IsMade};
-ghost use Rattle.ratio_tightening.specs.Tightened.{AreWithinGiven, IsTightened, IsTighter};
+ghost use Rattle.ratio_tightening.specs.Polishing.{AreReached, CanPolish, IsDone};
+ghost use Rattle.ratio_tightening.specs.Tightened.{lesser_blocks, AreWithinGiven, IsTightened, IsTighter};
 
 use crate::lesser::lesser_blocks;
 use crate::offering::{offer_blocks, offer_for_bounds};
+use crate::polishing::polish_blocks;
 use link_bounds::reprice;
 use ratio_certificate::improve;
 use routing::Routing;
@@ -39,9 +41,32 @@ fn made_certificate(
     improve(alloc, net, routing, set, &offers)
 }
 
+// The made blocks, or the given ones where these need less, polished.
+fn polished_lesser(
+    alloc: Global,
+    net: &Network,
+    routing: &Routing,
+    set: &DemandSet,
+    given: &[Block],
+    made: Vec<Block>,
+) -> Result<Vec<Block>, Memory>
+    requires network { IsTrue (is_well_formed net.now) }
+    requires routing { IsRoutingWithin net.now routing.now.routes }
+    requires set { IsSetWithin (length routing.now.routes) set.now }
+    requires given { All (HasNumbers net.now) given.now }
+    requires made { All (HasNumbers net.now) made.items }
+    requires can { All (CanPolish net.now routing.now.routes) (lesser_blocks net.now given.now made.items) }
+    ensures reached { IfOk result (λ b. AreReached net.now routing.now.routes set.now (lesser_blocks net.now given.now made.items) b.items) }
+    ensures done { IfOk result (λ b. IsDone net.now routing.now.routes set.now b.items) }
+{
+    let mut blocks = lesser_blocks(alloc, net, given, made)?;
+    polish_blocks(alloc, net, routing, set, &mut blocks)?;
+    Ok(blocks)
+}
+
 /// A certificate of the same format, network, routing and set whose ratio is no greater, and no greater than any need of the given
-/// blocks asks for: for each link with a share a polished best block, or the given one where it needs less. The ratio is the greatest
-/// of their needs, so that a wrong ratio of sound blocks is mended.
+/// blocks asks for: for each link with a share a best block, or the given one where it needs less, and those that need most polished.
+/// The ratio is the greatest of their needs, so that a wrong ratio of sound blocks is mended.
 ///
 /// `Memory` comes where memory is wanting.
 pub fn tighten(alloc: Global, certificate: Certificate) -> Result<Certificate, Memory>
@@ -64,8 +89,15 @@ pub fn tighten(alloc: Global, certificate: Certificate) -> Result<Certificate, M
         head: made_head,
         blocks: made_blocks,
     } = made;
-    let lesser = lesser_blocks(alloc, &network, blocks.as_slice(), made_blocks.into_vec())?;
-    let with_lesser = Certificate {
+    let polished = polished_lesser(
+        alloc,
+        &network,
+        &routing,
+        &made_head.set,
+        blocks.as_slice(),
+        made_blocks.into_vec(),
+    )?;
+    let with_polished = Certificate {
         head: Head {
             format,
             network,
@@ -73,7 +105,7 @@ pub fn tighten(alloc: Global, certificate: Certificate) -> Result<Certificate, M
             set: made_head.set,
             ratio,
         },
-        blocks: Items::new(lesser),
+        blocks: Items::new(polished),
     };
-    Ok(reprice(with_lesser, made_head.network))
+    Ok(reprice(with_polished, made_head.network))
 }

@@ -1,5 +1,4 @@
-use Rattle.ratio_tightening.proofs.Tighter.{best_is_polished, tightened_exist, tightened_is_tighter, tightened_lowers}
-use Rattle.ratio_tightening.proofs.Worst.{tightened_stays_polished}
+use Rattle.ratio_tightening.proofs.Tighter.{tightened_exist, tightened_is_tighter, tightened_lowers}
 use Rattle.ratio_tightening.proofs.laws.tightened_certificates_are_tighter.Goals as goal
 
 pub returns-clause-exist : goal.returns-clause-exist
@@ -10,9 +9,3 @@ returns-clause-tighter c = tightened_is_tighter
 
 pub returns-clause-lowers : goal.returns-clause-lowers
 returns-clause-lowers c = tightened_lowers
-
-pub returns-clause-best : goal.returns-clause-best
-returns-clause-best c = best_is_polished
-
-pub returns-clause-polished : goal.returns-clause-polished
-returns-clause-polished c = tightened_stays_polished
