@@ -67,11 +67,11 @@ def faults_of_needs(old, new):
     return faults + ([] if new["ratio"] == max(needs.values(), default=0) else ["the ratio is not what the blocks need"])
 
 
-def faults_of_polish(old, made):
-    """What of the new blocks is not polished: the rounds of each link, and where no given block stands among them the changes too."""
-    new, needs = made.cert, [reference_check.need(made.cert, block) for block in made.blocks]
+def faults_of_polish(made):
+    """What of the new blocks is not polished: the rounds of each link, and the changes of the one that needs most."""
+    needs = [reference_check.need(made.cert, block) for block in made.blocks]
     faults = [fault for block, need in zip(made.blocks, needs) for fault in polish.faults_of_rounds(made, block, need)]
-    if needs and not any(block in old["blocks"] for block in new["blocks"]):
+    if needs:
         most = needs.index(max(needs))
         faults += polish.faults_of_changes(made, made.blocks[most], needs[most])
     return faults
@@ -85,4 +85,4 @@ def faults_of(old_data, new_data):
     if answer[2] != 0:
         return [f"its check answers {answer}"]
     old, made = reference_check.read(old_data), polish.Made(new_data)
-    return faults_of_needs(old, made.cert) + faults_of_polish(old, made)
+    return faults_of_needs(old, made.cert) + faults_of_polish(made)
