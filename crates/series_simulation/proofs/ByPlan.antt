@@ -1,5 +1,5 @@
 -- What is known of a routing by a plan, whether its rates are the scheme's for the whole network or chosen anew.
-use Rattle.std.proofs.Common.{◌≡◌, ℕ, Bool, true, false, Option, None, Some, List, filter, refl, subst, if◌then◌else◌}
+use Rattle.std.proofs.Common.{◌≡◌, ℕ, Bool, true, false, Option, None, Some, List, filter, refl, if◌then◌else◌}
 use Rattle.std.specs.Prelude.{MatchOption}
 use Rattle.std.specs.List.{list_any}
 use Rattle.std.proofs.lemmas.Option.{none-some}
@@ -9,7 +9,7 @@ use Rattle.te_model.specs.declared.route.PairRoutes.{PairRoutes}
 use Rattle.plan.specs.declared.recovery.Recovery.{Recovery}
 use Rattle.plan.specs.declared.recovery.Recovery.TheVariants.{Keep, Scale, Bypass, Reroute, Adapt}
 use Rattle.series_simulation.specs.Connected.{TellsPaths}
-use Rattle.series_simulation.specs.Rows.{IsAdaptedOn, IsRouted, IsRoutedByPlan, paths_to_adapt}
+use Rattle.series_simulation.specs.Rows.{IsAdaptedOn, IsRouted, paths_to_adapt}
 
 set_if_some : (b : Bool) (o : Option (List PairRoutes)) (paths : List PairRoutes) → (if b then o else None) ≡ Some paths → o ≡ Some paths
 set_if_some true o paths is = is
@@ -47,13 +47,3 @@ module _ {Plan Note : Type 0} (limit : ℕ) (is_plan : Network → List Pair →
       (has_path : Pair → Bool) × TellsPaths net has_path × is_plan net (filter has_path pairs) plan
   planned_by net failed pairs predicted demand plan routes most bound None is = (is.has_path, is.tells, is.planned)
   planned_by net failed pairs predicted demand plan routes most bound (Some paths) is = (is.has_path, is.tells, is.planned)
-
-  -- the routing over the paths that are lent is one by the plan that lends them
-  pub routed_by_plan : (net : Network) (failed : List Bool) (pairs : List Pair) (predicted : Option (List ℕ)) (demand : List ℕ) (recovery : Recovery) (plan : Plan)
-      (routes : List PairRoutes) (most : ℕ) (bound : Option ℕ) (o : Option (List PairRoutes)) → o ≡ paths_to_adapt recovery failed (path_set plan) →
-      MatchOption o (IsRouted limit is_plan relates low net pairs predicted demand plan routes most bound)
-      (λ paths. IsAdaptedOn limit is_plan relates low path_set adapts net failed pairs predicted demand plan paths routes most bound) →
-      IsRoutedByPlan limit is_plan relates low path_set adapts net failed pairs predicted demand recovery plan routes most bound
-  routed_by_plan net failed pairs predicted demand recovery plan routes most bound o same is =
-      subst (λ p. MatchOption p (IsRouted limit is_plan relates low net pairs predicted demand plan routes most bound)
-      (λ paths. IsAdaptedOn limit is_plan relates low path_set adapts net failed pairs predicted demand plan paths routes most bound)) same is
