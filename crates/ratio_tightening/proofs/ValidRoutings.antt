@@ -1,22 +1,19 @@
 -- The routing and the set of a valid certificate are within the limits of those for which certificates are made.
-use Rattle.std.proofs.Common.{◌≡◌, ◌∙◌, ℕ, suc, ◌^◌, ◌<◌, ◌≤◌, Bool, true, false, cond, not, ◌&&◌, None, List, length, get_or, arith, ap, nat_le, slice_index, sym, ◌==◌}
-use Rattle.std.specs.List.{list_all}
-use Rattle.std.proofs.lemmas.Bool.{and_parts, eq-eqb, eqb-true, false≢true, leb-true}
+use Rattle.std.proofs.Common.{◌≡◌, ◌∙◌, ℕ, suc, ◌^◌, ◌<◌, ◌≤◌, true, not, ◌&&◌, None, length, get_or, arith, ap, nat_le, slice_index, sym, ◌==◌}
+use Rattle.std.proofs.lemmas.Bool.{and_parts, eq-eqb, false≢true, leb-true}
 use Rattle.std.proofs.lemmas.Bool.Decides.{nat_tests}
 use Rattle.std.proofs.lemmas.List.Elements.{All-from_get_or}
 use Rattle.te_model.specs.declared.certificate.Certificate.{Certificate}
-use Rattle.te_model.specs.declared.certificate.Head.{Head}
 use Rattle.te_model.specs.declared.demand.DemandSet.{DemandSet}
 use Rattle.te_model.specs.declared.demand.DemandSet.TheVariants.{All as AllMatrices, Margin, Box}
 use Rattle.te_model.specs.declared.limits.Limits.{Limits}
-use Rattle.te_model.specs.declared.limits.TheConstants.{FORMAT_1, FORMAT_2}
 use Rattle.te_model.specs.declared.route.PairRoutes.{PairRoutes}
 use Rattle.te_model.specs.Formats.{limits_of}
 use Rattle.te_model.specs.Network.{link_count, node_count}
 use Rattle.te_model.specs.Pairs.{AreDemands}
 use Rattle.te_model.specs.declared.demand.Matrix.{Matrix}
 use Rattle.te_model.specs.Path.{destination_of, source_of}
-use Rattle.te_model.specs.Shape.{is_count, is_row_of, is_shaped_head, is_shaped_network, is_shaped_pair, is_shaped_set, is_word}
+use Rattle.te_model.specs.Shape.{is_row_of, is_shaped_network, is_shaped_pair, is_shaped_set, is_word}
 use Rattle.te_model.specs.Validity.{IsValid, fault_at, faults_from, has_ascending_paths, has_margin_numbers, has_pair_bounds, has_sound_paths, has_whole_weight, is_sound_pair, rules}
 use Rattle.te_model.proofs.PathRoutings.{path_routing}
 use Rattle.te_model.proofs.Tests.{all_from_tests, first_failing_none_at, first_some_none_at}
