@@ -71,7 +71,7 @@ fn read_head<D: Depot>(alloc: Global, depot: &mut D, file: &str) -> Result<Head,
         (shown_by D.content D.gave D.faults depot.new) result }
 {
     let (mut reader, head) = BlockReader::open(alloc, depot, file)?;
-    'blocks: while reader.next(depot)? {}
+    'rest: while reader.next(depot)? {}
     Ok(head)
 }
 

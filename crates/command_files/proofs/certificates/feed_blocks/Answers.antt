@@ -10,7 +10,7 @@ block-requires-in-rest-clause-block g c =
 
 pub block-requires-in-rest-clause-above : goal.block-requires-in-rest-clause-above
 block-requires-in-rest-clause-above g c =
-    may_follow _ _ _ c.rest.reader c.next.new.self c.rest.feed _ c.rest.invariant.next c.block.ensures (c.in_ok-next.ensures.ascends (ap Ok c.if-branch.true)).0
+    may_follow g.F.BlockFeed.stands_for g.F.BlockFeed.given_head g.F.BlockFeed.least_link c.rest.reader c.next.new.self c.rest.feed _ c.rest.invariant.next c.block.ensures (c.in_ok-next.ensures.ascends (ap Ok c.if-branch.true)).0
 
 pub rest-preserved : goal.rest-preserved
 rest-preserved g c =
