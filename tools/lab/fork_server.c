@@ -1,14 +1,15 @@
-/* Loaded before the C library: the program stops before its `main`, and divides for each call that is asked for.
+/* Loaded before the C library: the program stops before anything of it runs, and divides for each call that is asked for.
  *
  * FORK_SERVER in the environment has three numbers: the descriptor of a pipe with the calls, that of a pipe for their answers, and the seconds of a
- * call. A call is how many bytes follow, and these: the folder and the words, each with a byte of 0 behind it. In a child of the program `main` runs on
- * these words. What is answered is its status, its processor time in microseconds, and how many bytes it wrote to each of the two streams, which
+ * call. A call is how many bytes follow, and these: the folder and the words, each with a byte of 0 behind it. A child begins the program on these
+ * words. What is answered is its status, its processor time in microseconds, and how many bytes it wrote to each of the two streams, which
  * are files and are empty at each call's begin.
  */
 typedef unsigned long size;
 typedef long ssize;
 typedef int entry(int, char **, char **);
-typedef int start(entry *, int, char **, void (*)(void), void (*)(void), void (*)(void), void *);
+typedef void hook(void);
+typedef int start(entry *, int, char **, hook *, hook *, hook *, void *);
 
 struct time { long seconds, microseconds; };
 struct usage { struct time user, system; long others[14]; };
@@ -29,7 +30,6 @@ extern void _exit(int);
 
 enum { WORDS = 510, BYTES = 1 << 16, UNSERVED = 99 };
 
-static entry *main_of_program;
 static long calls = -1, answers = -1, seconds;
 static char call[BYTES];
 static char *words[WORDS + 2];
@@ -45,13 +45,14 @@ static int is_read(void *bytes, size count) {
     return 1;
 }
 
-/* How many words the call has, behind its folder; -1 where it has too many. */
-static int words_of(long bytes) {
+/* How many words the call has, with the name of the program and without the folder; -1 where it has too many. */
+static int words_of(char *name, long bytes) {
     int count = 0;
+    words[count++] = name;
     for (long place = 0, first = 0; place < bytes; place++) {
         if (call[place])
             continue;
-        if (first && count == WORDS)
+        if (first && count > WORDS)
             return -1;
         if (first)
             words[count++] = call + first;
@@ -61,17 +62,13 @@ static int words_of(long bytes) {
     return count;
 }
 
-/* Begins the call in the child. */
-static int run(char *name, int count, char **environment) {
+/* Prepares the child for a call of so many words. */
+static void begin(int count) {
     close((int)calls);
     close((int)answers);
     alarm((unsigned)seconds);
     if (count < 0 || chdir(call))
         _exit(UNSERVED);
-    for (int place = count; place >= 0; place--)
-        words[place + 1] = words[place];
-    words[0] = name;
-    return main_of_program(count + 1, words, environment);
 }
 
 static void answer(int child) {
@@ -83,8 +80,8 @@ static void answer(int child) {
     write((int)answers, numbers, sizeof numbers);
 }
 
-/* In the place of `main`. */
-static int serve(int count, char **names, char **environment) {
+/* Divides for each call until there are no more. Returns in each child alone, with the count of its words. */
+static int serve(char *name) {
     long bytes;
     while (is_read(&bytes, sizeof bytes) && bytes <= BYTES && is_read(call, (size)bytes)) {
         for (int stream = 1; stream <= 2; stream++) {
@@ -92,20 +89,24 @@ static int serve(int count, char **names, char **environment) {
             lseek(stream, 0, 0);
         }
         int child = fork();
-        if (!child)
-            return run(names[0], words_of(bytes), environment);
-        answer(child);
+        if (child) {
+            answer(child);
+            continue;
+        }
+        int count = words_of(name, bytes);
+        begin(count);
+        return count;
     }
-    _exit(count ? 0 : 1);
+    _exit(0);
     return 0;
 }
 
-int __libc_start_main(entry *main, int count, char **names, void (*init)(void), void (*fini)(void), void (*last)(void), void *stack) {
+/* What the program calls first: it runs what has to run before `main`, which keeps the words, and `main`. */
+int __libc_start_main(entry *main, int count, char **names, hook *init, hook *fini, hook *last, void *stack) {
     char *text = getenv("FORK_SERVER");
     long *numbers[] = {&calls, &answers, &seconds};
     for (int i = 0; text && i < 3; i++)
         *numbers[i] = strtol(text, &text, 10);
-    main_of_program = main;
     start *real = (start *)dlsym((void *)-1L, "__libc_start_main");
-    return real(calls >= 0 ? serve : main, count, names, init, fini, last, stack);
+    return calls < 0 ? real(main, count, names, init, fini, last, stack) : real(main, serve(names[0]), words, init, fini, last, stack);
 }

@@ -12,7 +12,7 @@ MOST_BYTES, MOST_WORDS = 1 << 16, 510
 
 
 class ForkServer:
-    """The program over the library, stopped before its `main`. A call has this many seconds. Its streams are two files in memory."""
+    """The program over the library, stopped before anything of it runs. A call has this many seconds. Its streams are two files in memory."""
 
     def __init__(self, library, seconds):
         self.streams = [os.memfd_create(name) for name in ("out", "err")]
