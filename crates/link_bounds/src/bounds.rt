@@ -95,7 +95,7 @@ impl BlockFeed for BoundsFeed {
 
     ghost least_link = { next_link };
 
-    /// The memory is 4 bytes for each pair on each link, and 16 for each link.
+    /// The memory is 6 bytes for each pair on each link on which it has a share, and 16 for each link.
     fn new(alloc: Global, head: Head) -> Result<BoundsFeed, Memory> {
         let shares = ShareTable::new(alloc, &head)?;
         let needs = vec![in alloc; 0u128; head.network.links.as_slice().len()]?;

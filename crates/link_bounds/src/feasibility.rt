@@ -7,14 +7,15 @@ ghost use Rattle.te_model.specs.Validity.{IsValid};
 ghost use Rattle.ratio_checker.specs.Ascending.{AscendsFrom};
 ghost use Rattle.ratio_checker.specs.Checked.{CanCheckBlock, CanCheckHead};
 ghost use Rattle.ratio_checker.specs.Finding.{finding_of};
-ghost use Rattle.ratio_checker.specs.Shares.{AreShareNumbers, HasShares};
+ghost use Rattle.ratio_checker.specs.Shares.{AreSharesOn, HasShares};
 ghost use Rattle.te_model.specs.Feasible.{first_infeasibility, infeasibility};
 ghost use Rattle.link_bounds.specs.Feeds.{infeasibility_from};
 
 use ratio_checker::Finding;
 use ratio_checker::blocks::blocks_after;
 use ratio_checker::finding::{block_failure, finding_on};
-use ratio_checker::share_rows::{first_share, shares_failure};
+use ratio_checker::link_pairs::LinkPairs;
+use ratio_checker::share_rows::shares_failure;
 use ratio_checker::share_table::ShareTable;
 use std::alloc::Global;
 use te_model::{Block, Certificate, Head, InequalityFault, Memory};
@@ -43,19 +44,19 @@ fn link_infeasibility(
     head: &Head,
     blocks: &[Block],
     link: u32,
-    shares: &[u32],
+    shares: &LinkPairs,
 ) -> Option<InequalityFault>
     requires head { CanCheckHead head.now }
     requires blocks { All (CanCheckBlock head.now) blocks.now }
     requires ascend { AscendsFrom (λ b. b.link) link blocks.now }
-    requires shares { AreShareNumbers head.now.routes link shares.now }
+    requires shares { AreSharesOn head.now.routes link shares.now }
     ensures { result ≡ infeasibility head.now (block_of blocks.now link) }
 {
     match blocks.first() {
         Some(block) if block.link == link => {
             infeasibility(head, block, shares_failure(head, block, shares))
         }
-        _ => first_share(shares),
+        _ => shares.first_share(),
     }
 }
 
@@ -88,7 +89,7 @@ pub fn infeasibility_from(
 
 /// Which of the first three inequalities fails first, in order of link, inequality and place, or yes where they hold of every link.
 ///
-/// `Memory` comes where memory is wanting: 4 bytes for each pair on each link.
+/// `Memory` comes where memory is wanting: 6 bytes for each pair on each link on which it has a share.
 pub fn find_infeasibility(alloc: Global, certificate: &Certificate) -> Result<Finding, Memory>
     requires { IsValid certificate.now }
     ensures { IfOk result (λ finding. finding ≡ finding_of (first_infeasibility certificate.now)) }

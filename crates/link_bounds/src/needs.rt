@@ -1,10 +1,10 @@
 //! A link and its need, and whether a link has a share.
 ghost use Rattle.std.specs.Prelude.{◌≡◌, ℕ, List};
 ghost use Rattle.te_model.specs.declared.route.PairRoutes.{PairRoutes};
-ghost use Rattle.ratio_checker.specs.Shares.{AreShareNumbers};
+ghost use Rattle.ratio_checker.specs.Shares.{AreSharesOn};
 ghost use Rattle.link_bounds.specs.Needs.{has_share};
 
-use ratio_checker::share_rows::first_share;
+use ratio_checker::link_pairs::LinkPairs;
 
 /// A link, and its need: the least ratio that its block allows.
 #[derive(Clone, Copy)]
@@ -16,8 +16,8 @@ pub struct LinkNeed {
 }
 
 // Whether some pair sends over the link on which these are the shares.
-pub fn has_share(shares: &[u32]) -> bool
-    ensures { (routes : List PairRoutes) (e : ℕ) → AreShareNumbers routes e shares.now → result ≡ has_share routes e }
+pub fn has_share(shares: &LinkPairs) -> bool
+    ensures { (routes : List PairRoutes) (e : ℕ) → AreSharesOn routes e shares.now → result ≡ has_share routes e }
 {
-    first_share(shares).is_some()
+    shares.first_share().is_some()
 }

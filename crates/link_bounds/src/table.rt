@@ -5,12 +5,13 @@ ghost use Rattle.te_model.specs.declared.route.PairRoutes.{PairRoutes};
 ghost use Rattle.te_model.specs.Laws.{LinksJoinNodes};
 ghost use Rattle.te_model.specs.Network.{link_count};
 ghost use Rattle.ratio_checker.specs.Checked.{CanCheckHead};
-ghost use Rattle.ratio_checker.specs.Shares.{AreShareNumbers, HasShares};
+ghost use Rattle.ratio_checker.specs.Shares.{AreSharesOn, HasShares};
 ghost use Rattle.link_bounds.specs.Feeds.{HasNeeds};
 ghost use Rattle.link_bounds.specs.Needs.{has_share};
 ghost use Rattle.link_bounds.specs.Table.{bounds_text, need_row, row_of, row_where};
 
 use crate::needs::{LinkNeed, has_share};
+use ratio_checker::link_pairs::LinkPairs;
 use ratio_checker::share_table::ShareTable;
 use std::alloc::Global;
 use te_model::{Head, Memory, Network};
@@ -66,12 +67,12 @@ fn print_need(text: &mut Vec<u8>, network: &Network, row: LinkNeed) -> Result<()
 fn print_shared(
     text: &mut Vec<u8>,
     network: &Network,
-    shares: &[u32],
+    shares: &LinkPairs,
     row: LinkNeed,
 ) -> Result<(), Memory>
     requires link { row.link < link_count network.now }
     requires ends { LinksJoinNodes network.now }
-    ensures { (routes : List PairRoutes) → AreShareNumbers routes row.link shares.now →
+    ensures { (routes : List PairRoutes) → AreSharesOn routes row.link shares.now →
         OnOk result (text.new.items ≡ text.old.items ++ row_where (has_share routes row.link) network.now row) }
 {
     if has_share(shares) {

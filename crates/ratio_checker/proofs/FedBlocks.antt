@@ -1,5 +1,5 @@
 -- The first failure, one block after another.
-use Rattle.std.proofs.Common.{◌≡◌, ℕ, zero, suc, ◌+◌, ◌-◌, ◌<◌, ◌≤◌, Option, Some, None, List, [], ◌∷◌, ◌++◌, ◌==◌, length, slice_index, arith, refl, ap, sym, ◌∙◌, inl, inr}
+use Rattle.std.proofs.Common.{◌≡◌, ℕ, zero, suc, ◌+◌, ◌-◌, ◌<◌, ◌≤◌, Option, Some, None, List, [], ◌∷◌, ◌++◌, ◌==◌, length, arith, refl, ap, sym, ◌∙◌, inl, inr}
 use Rattle.std.specs.Prelude.{All, unwrap_or}
 use Rattle.std.proofs.Math.Nat.{add-sub_of_le}
 use Rattle.std.proofs.lemmas.Bool.{cases_eq}
@@ -11,10 +11,10 @@ use Rattle.te_model.specs.declared.route.PairRoutes.{PairRoutes}
 use Rattle.te_model.specs.Counting.{or_else, first_below, unless}
 use Rattle.te_model.specs.Certificate.{empty_block, block_of}
 use Rattle.te_model.specs.Inequalities.{LinkFailure, block_failure, covers_share, failure_at, of_link, shares_failure}
+use Rattle.te_model.specs.Path.{share}
 use Rattle.te_model.proofs.Searches.{first_below-same, first_below_found, first_below_more, or_else-assoc, or_else-none}
 use Rattle.ratio_checker.specs.Feeds.{failure_below, failure_without}
 use Rattle.ratio_checker.specs.Finding.{finding_of}
-use Rattle.ratio_checker.specs.Shares.{AreShareNumbers}
 use Rattle.ratio_checker.specs.declared.finding.Finding.{Finding}
 use Rattle.ratio_checker.specs.declared.finding.Finding.TheVariants.{Yes}
 use Rattle.ratio_checker.proofs.Absent.{empty_failure_is, share_alone}
@@ -107,13 +107,12 @@ found_first (Some f) rest before after was judged kept = kept (λ yes. clash (sy
     clash e = cc
 
 -- the shares on a link without a block, as I2 reads them
-pub shares_alone : (routes : List PairRoutes) (e : ℕ) (shares : List ℕ) → AreShareNumbers routes e shares →
-    first_below (length shares) (λ p. unless (slice_index shares p == 0) (failure_at 2 p)) ≡ shares_failure routes (empty_block e)
-shares_alone routes e shares are =
-    ap (λ n. first_below n (λ p. unless (slice_index shares p == 0) (failure_at 2 p))) are.count
-    ∙ first_below-same (length routes) (λ p. unless (slice_index shares p == 0) (failure_at 2 p))
+pub shares_alone : (routes : List PairRoutes) (e : ℕ) →
+    first_below (length routes) (λ p. unless (share routes p e == 0) (failure_at 2 p)) ≡ shares_failure routes (empty_block e)
+shares_alone routes e =
+    first_below-same (length routes) (λ p. unless (share routes p e == 0) (failure_at 2 p))
     (λ p. unless (covers_share routes (empty_block e) p) (failure_at 2 p))
-    (λ p below. ap (λ b. unless b (failure_at 2 p)) (ap (λ s. s == 0) (are.each p below) ∙ share_alone routes [] e p refl))
+    (λ p below. ap (λ b. unless b (failure_at 2 p)) (share_alone routes [] e p refl))
 
 module _ (routes : List PairRoutes) (next link : ℕ) (above : next ≤ link)
     (none : (count : ℕ) → next + count ≡ link → failure_without routes next count ≡ None) where

@@ -5,7 +5,7 @@ pub mod RowFailures
 pub mod NoWeights
 pub mod SourceRows
 pub mod UncoveredLinks
-pub mod ShareTables
+pub mod LinkPairLists
 pub mod SimplePaths
 pub mod Sizes
 pub mod Absent

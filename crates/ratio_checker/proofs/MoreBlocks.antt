@@ -12,7 +12,7 @@ use Rattle.te_model.specs.Certificate.{empty_block}
 use Rattle.te_model.specs.Formats.{limits_of}
 use Rattle.te_model.specs.Network.{link_count}
 use Rattle.te_model.specs.Shape.{is_shaped_head}
-use Rattle.te_model.specs.Validity.{AscendByLink, IsValid, IsValidBlock, IsValidHead, block_at}
+use Rattle.te_model.specs.Validity.{AscendByLink, IsValid, IsValidBlock, block_at}
 use Rattle.te_model.proofs.ValidParts.{valid_parts}
 
 ascend_more : (blocks : List Block) (b : Block) (next : ℕ) → AscendByLink blocks → All (λ x. x.link < next) blocks → next ≤ b.link →

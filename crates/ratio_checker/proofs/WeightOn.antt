@@ -1,7 +1,7 @@
 -- The weights of paths that hold a link, one path after another.
 use Rattle.std.proofs.Common.{◌≡◌, ℕ, ◌+◌, ◌<◌, ◌≤◌, List, length, get_or, take, subst, sym}
 use Rattle.std.specs.Prelude.{sum_by, if◌then◌else◌}
-use Rattle.std.proofs.lemmas.List.Sums.{sum_by_more, sum_by_more_le_part, sum_by-le-sum_by}
+use Rattle.std.proofs.lemmas.List.Sums.{sum_by_more_le_part, sum_by-le-sum_by}
 use Rattle.te_model.specs.declared.route.PathShare.{PathShare}
 use Rattle.te_model.specs.Path.{has_number, weight_on}
 use Rattle.te_model.proofs.Conditionals.{if_le-self}

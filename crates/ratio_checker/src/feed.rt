@@ -12,7 +12,7 @@ ghost use Rattle.ratio_checker.specs.Finding.{finding_of};
 
 use crate::block_feed::BlockFeed;
 use crate::finding::{Finding, block_failure, finding_on};
-use crate::share_rows::{first_share, shares_failure};
+use crate::share_rows::shares_failure;
 use crate::share_table::ShareTable;
 use std::alloc::Global;
 use te_model::{Block, Head, Memory};
@@ -44,7 +44,7 @@ impl Feed {
         ensures { result ≡ finding_of (failure_without self.now.head.routes self.now.next (end - self.now.next)) }
     {
         for link in self.next..end {
-            if let Some(failure) = first_share(self.shares.on(link)) {
+            if let Some(failure) = self.shares.on(link).first_share() {
                 return finding_on(link, failure);
             }
         }
@@ -129,7 +129,7 @@ impl BlockFeed for Feed {
 
     ghost least_link = { next_link };
 
-    /// The memory is 4 bytes for each pair on each link.
+    /// The memory is 6 bytes for each pair on each link on which it has a share.
     fn new(alloc: Global, head: Head) -> Result<Feed, Memory> {
         let shares = ShareTable::new(alloc, &head)?;
         Ok(Feed {

@@ -7,6 +7,7 @@ mod bounds;
 mod capacity;
 pub mod feed;
 pub mod finding;
+pub mod link_pairs;
 pub mod link_shares;
 mod potentials;
 mod rows;

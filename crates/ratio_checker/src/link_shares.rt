@@ -7,7 +7,7 @@ ghost use Rattle.ratio_checker.specs.Checked.{IsSimplePath};
 use te_model::{FORMAT_2, PathShare};
 
 /// How many links a network has at most.
-const MOST: usize = FORMAT_2.links as usize;
+pub const MOST: usize = FORMAT_2.links as usize;
 
 // Adds the weight of a path to the share on each of its links.
 fn add_weight(shares: &mut [u64], links: &[u32], weight: u64)

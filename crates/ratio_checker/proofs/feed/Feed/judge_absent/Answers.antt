@@ -12,8 +12,8 @@ returns-in-Some c =
     let routes = feed.head.routes in
     let link = c.loop-link.link in
     let within : link < link_count feed.head.network = omega (arith, c.loop-link-test.true, c.requires.within) in
-    let row = shares_alone routes link c.on.result.now (c.on.ensures routes (link_count feed.head.network) c.requires.feed.shares within) in
-    let fails : shares_failure routes (empty_block link) ≡ Some c.in-Some.failure = sym row ∙ sym c.in-Some.ensures in
+    let row = c.first_share.ensures routes link (c.on.ensures routes (link_count feed.head.network) c.requires.feed.shares within) ∙ shares_alone routes link in
+    let fails : shares_failure routes (empty_block link) ≡ Some c.in-Some.failure = sym row ∙ c.in-Some.is in
     c.finding_on.ensures
     ∙ sym (ap finding_of (absent_found routes feed.next link c.loop-link.auto.link c.loop-link.invariant c.args.end c.in-Some.failure c.loop-link-test.true fails))
 
@@ -23,6 +23,6 @@ loop-link-preserved c =
     let routes = feed.head.routes in
     let link = c.loop-link.link in
     let within : link < link_count feed.head.network = omega (arith, c.loop-link-test.true, c.requires.within) in
-    let row = shares_alone routes link c.on.result.now (c.on.ensures routes (link_count feed.head.network) c.requires.feed.shares within) in
-    let holds : shares_failure routes (empty_block link) ≡ None = sym row ∙ sym c.in_default.ensures in
+    let row = c.first_share.ensures routes link (c.on.ensures routes (link_count feed.head.network) c.requires.feed.shares within) ∙ shares_alone routes link in
+    let holds : shares_failure routes (empty_block link) ≡ None = sym row ∙ c.in_default.is in
     absent_next routes feed.next link c.loop-link.auto.link c.loop-link.invariant holds

@@ -1,4 +1,4 @@
-use Rattle.std.proofs.Common.{[], refl, arith}
+use Rattle.std.proofs.Common.{refl, arith}
 use Rattle.std.proofs.lemmas.List.Elements.{All-nil}
 use Rattle.te_model.proofs.ValidHeads.{valid_without_blocks}
 use Rattle.ratio_checker.proofs.Validity.{head_of_valid}
