@@ -16,4 +16,4 @@ pub use fault::TableFault;
 pub use line::NumLine;
 pub use lines::{TableLines, pass_over_table};
 pub use reader::table;
-pub use writer::print_table;
+pub use writer::{print_line, print_table};

@@ -62,7 +62,10 @@ fn tokens(out: &mut Vec<u8>, line: &NumLine) -> Result<(), AllocError>
     }
 }
 
-fn line(out: &mut Vec<u8>, line: &NumLine) -> Result<(), AllocError>
+/// Puts the line at the end of the text, with its line feed.
+///
+/// Answers an error only where memory runs out.
+pub fn print_line(out: &mut Vec<u8>, line: &NumLine) -> Result<(), AllocError>
     ensures { OnOk result (out.new.items ≡ out.old.items ++ (line_text line.now ++ 10 ∷ [])) }
 {
     tokens(out, line)?;
@@ -74,7 +77,7 @@ fn lines(out: &mut Vec<u8>, list: &[NumLine]) -> Result<(), AllocError>
     ensures { OnOk result (out.new.items ≡ out.old.items ++ flat_map (λ l. line_text l ++ 10 ∷ []) list.now) }
 {
     for next in list {
-        line(out, next)?;
+        print_line(out, next)?;
     }
     Ok(())
 }

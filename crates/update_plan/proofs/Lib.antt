@@ -11,3 +11,4 @@ pub mod SomeAnswer
 pub mod StepCounts
 pub mod ValidHeads
 pub mod PlanSizes
+pub mod PlanText

@@ -1,9 +1,11 @@
 //! The text of a plan.
 ghost use Rattle.std.specs.Prelude.{◌≡◌, ◌++◌, ◌∷◌, [], IfOk, OnOk, codes, map};
-ghost use Rattle.update_plan.specs.Text.{path_line, plan_lines, plan_text};
+ghost use Rattle.std.specs.List.{flat_map};
+ghost use Rattle.number_tables.specs.Table.{line_text, table_text};
+ghost use Rattle.update_plan.specs.Text.{path_line, plan_text};
 
 use crate::path::{UpdatePath, UpdatePlan};
-use number_tables::{NumLine, print_table};
+use number_tables::{NumLine, print_line};
 use std::alloc::Global;
 use te_model::{Items, Memory, Name};
 
@@ -45,28 +47,32 @@ fn path_line(alloc: Global, path: &UpdatePath) -> Result<NumLine, Memory>
     })
 }
 
-fn add_path_lines(
-    alloc: Global,
-    lines: &mut Vec<NumLine>,
-    paths: &[UpdatePath],
-) -> Result<(), Memory>
-    ensures { OnOk result (lines.new.items ≡ lines.old.items ++ map path_line paths.now) }
+/// Puts the lines of the paths at the end of the text, one path after another.
+fn print_paths(alloc: Global, out: &mut Vec<u8>, paths: &[UpdatePath]) -> Result<(), Memory>
+    ensures { OnOk result (out.new.items ≡ out.old.items ++ flat_map (λ u. line_text (path_line u) ++ 10 ∷ []) paths.now) }
 {
     for path in paths {
-        lines.push(path_line(alloc, path)?)?;
+        print_line(out, &path_line(alloc, path)?)?;
     }
     Ok(())
 }
 
-fn plan_lines(alloc: Global, plan: &UpdatePlan) -> Result<Vec<NumLine>, Memory>
-    ensures { IfOk result (λ lines. lines.items ≡ plan_lines plan.now) }
+/// Puts the table of the two counts and the paths at the end of the text.
+fn print_lines(
+    alloc: Global,
+    out: &mut Vec<u8>,
+    steps: &NumLine,
+    count: &NumLine,
+    paths: &[UpdatePath],
+) -> Result<(), Memory>
+    ensures { OnOk result (out.new.items ≡ out.old.items ++ table_text (codes "yates-update 1") (steps.now ∷ count.now ∷ map path_line paths.now)) }
 {
-    let paths = plan.paths.as_slice();
-    let mut lines = Vec::new(alloc);
-    lines.push(word_line(alloc, "steps", u64::from(plan.steps))?)?;
-    lines.push(word_line(alloc, "paths", paths.len() as u64)?)?;
-    add_path_lines(alloc, &mut lines, paths)?;
-    Ok(lines)
+    out.extend_from_slice(b"yates-update 1\n")?;
+    print_line(out, steps)?;
+    print_line(out, count)?;
+    print_paths(alloc, out, paths)?;
+    out.extend_from_slice(b"end\n")?;
+    Ok(())
 }
 
 /// The text of the plan, a table with the first line `yates-update 1`: `steps K`, `paths C`, and for each path its pair, its
@@ -76,6 +82,10 @@ fn plan_lines(alloc: Global, plan: &UpdatePlan) -> Result<Vec<NumLine>, Memory>
 pub fn print(alloc: Global, plan: &UpdatePlan) -> Result<Vec<u8>, Memory>
     ensures { IfOk result (λ text. text.items ≡ plan_text plan.now) }
 {
-    let lines = plan_lines(alloc, plan)?;
-    print_table(alloc, b"yates-update 1", lines.as_slice())
+    let paths = plan.paths.as_slice();
+    let steps = word_line(alloc, "steps", u64::from(plan.steps))?;
+    let count = word_line(alloc, "paths", paths.len() as u64)?;
+    let mut out = Vec::new(alloc);
+    print_lines(alloc, &mut out, &steps, &count, paths)?;
+    Ok(out)
 }

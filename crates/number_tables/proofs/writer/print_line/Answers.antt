@@ -1,6 +1,6 @@
 use Rattle.std.proofs.Common.{ℕ, List, [], ◌∷◌, ◌++◌, ap, ◌∙◌, append_assoc}
 use Rattle.number_tables.specs.Table.{line_text}
-use Rattle.number_tables.proofs.writer.line.Goals as goal
+use Rattle.number_tables.proofs.writer.print_line.Goals as goal
 
 pub returns : goal.returns
 returns c =
