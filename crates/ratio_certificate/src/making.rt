@@ -283,8 +283,12 @@ fn certify(
     })
 }
 
-/// A certificate in the format that `make` gives. Where offers may be near the best weights, the search may go on from them.
-fn certify_in_form(
+/// What `make` gives, where weights are offered for the blocks of links: no block needs more than the best block of each of
+/// the weights that are offered for its link. Where they may be near the best ones (`near_offers`) the search is shorter: it goes
+/// on by small steps from weights that need little more than those of the links before.
+///
+/// Each offer has a weight from 1 to 2^28 for each link of the network. `Memory` comes where memory is wanting.
+pub fn improve(
     alloc: Global,
     net: &Network,
     routing: &Routing,
@@ -305,30 +309,7 @@ fn certify_in_form(
     certify(alloc, net, routing, written, format, offers, near_offers)
 }
 
-/// What `make` gives, where weights are offered for the blocks of links: no block needs more than the best block of each of
-/// the weights that are offered for its link.
-///
-/// Each offer has a weight from 1 to 2^28 for each link of the network. `Memory` comes where memory is wanting.
-pub fn improve(
-    alloc: Global,
-    net: &Network,
-    routing: &Routing,
-    set: DemandSet,
-    offers: &[Offer],
-) -> Result<Certificate, Memory>
-    requires network { IsTrue (is_well_formed net.now) }
-    requires links { 1 ≤ link_count net.now }
-    requires routing { IsRoutingWithin net.now routing.now.routes }
-    requires set { IsSetWithin (length routing.now.routes) set }
-    requires offers { AreOffers net.now offers.now }
-    ensures made { IfOk result (IsMade net.now routing.now.routes set) }
-    ensures within { IfOk result (λ c. AreWithinOffers net.now routing.now.routes (made_set net.now set) offers.now c.blocks) }
-{
-    certify_in_form(alloc, net, routing, set, offers, false)
-}
-
-/// What `improve` gives, by a shorter search where the weights that are offered for links are near their best ones: the search goes
-/// on by small steps from weights that need little more than those of the links before.
+/// What `improve` gives of weights that may be near the best ones.
 ///
 /// Each offer has a weight from 1 to 2^28 for each link of the network. `Memory` comes where memory is wanting.
 pub fn refine(
@@ -346,7 +327,7 @@ pub fn refine(
     ensures made { IfOk result (IsMade net.now routing.now.routes set) }
     ensures within { IfOk result (λ c. AreWithinOffers net.now routing.now.routes (made_set net.now set) offers.now c.blocks) }
 {
-    certify_in_form(alloc, net, routing, set, offers, true)
+    improve(alloc, net, routing, set, offers, true)
 }
 
 /// The weights that are found for all matrices, as offers for their links.
@@ -411,5 +392,5 @@ pub fn make(
     ensures all_matrices { IfOk result (λ c. HasBounds set → AreWithinAllMatrices net.now routing.now.routes (made_set net.now set) c.blocks) }
 {
     let offers = offers_for(alloc, net, routing, &set)?;
-    improve(alloc, net, routing, set, &offers)
+    improve(alloc, net, routing, set, &offers, false)
 }

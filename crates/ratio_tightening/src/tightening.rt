@@ -38,7 +38,7 @@ fn made_certificate(
     let mut offers = Vec::new(alloc);
     offer_blocks(alloc, &mut offers, net, blocks)?;
     offer_for_bounds(alloc, &mut offers, net, routing, &set)?;
-    improve(alloc, net, routing, set, &offers)
+    improve(alloc, net, routing, set, &offers, false)
 }
 
 // The made blocks, or the given ones where these need less, polished.

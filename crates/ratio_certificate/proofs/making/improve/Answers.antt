@@ -7,7 +7,7 @@ use Rattle.ratio_certificate.specs.Form.{set_in, IsFormatFor}
 use Rattle.ratio_certificate.specs.Made.{IsMadeIn}
 use Rattle.ratio_certificate.specs.Offers.{AreWithinOffers}
 use Rattle.ratio_certificate.proofs.MadeForms.{format_for, set_within, small_margin}
-use Rattle.ratio_certificate.proofs.making.certify_in_form.Goals as goal
+use Rattle.ratio_certificate.proofs.making.improve.Goals as goal
 
 pub set_in-requires : goal.set_in-requires
 set_in-requires c = small_margin (length c.args.routing.now.routes) c.args.set c.requires.set
