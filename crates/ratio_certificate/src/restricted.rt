@@ -194,41 +194,8 @@ fn between_after(net: &Network, between: usize, is_new: bool) -> usize
     }
 }
 
-/// Searches rows by the weights of the next sweep, and keeps the least ways of the dear pairs that they show.
-fn search_rows(
-    alloc: Global,
-    problem: &Problem,
-    shared: &SharedLink,
-    parts: u64,
-    ways: &mut Ways,
-    at: &mut RestrictedSearch,
-) -> Result<(), Memory>
-    requires problem { IsProblem problem.now }
-    requires shared { IsLinkOf problem.now shared.now }
-    requires parts { (1 ≤ parts) × (parts ≤ 128) }
-    requires ways { AreLastLinks problem.now.net.now ways.old.lasts.items }
-    requires at { IsRestrictedSearchOf problem.now shared.now at.old }
-    ensures ways { OnOk result (AreLastLinks problem.now.net.now ways.new.lasts.items) }
-    ensures at { OnOk result (IsRestrictedSearchOf problem.now shared.now at.new) }
-{
-    let weights = Vec::from_slice(alloc, &at.weights)?;
-    move_to(alloc, problem, shared, &mut at.search, weights)?;
-    at.kept.measure(&at.weights);
-    let is_new = keep_ways(
-        alloc,
-        problem,
-        shared,
-        &at.search,
-        parts,
-        ways,
-        &mut at.kept,
-    )?;
-    at.between = between_after(problem.net, at.between, is_new);
-    at.left = at.between;
-    Ok(())
-}
-
-/// Goes on to the next sweep, before which rows are searched if it is time.
+/// Goes on to the next sweep. If it is time, rows are searched before it by its weights, and the least ways of the dear pairs that
+/// they show are kept.
 fn go_on(
     alloc: Global,
     problem: &Problem,
@@ -247,10 +214,23 @@ fn go_on(
 {
     if at.left > 0 {
         at.left -= 1;
-        Ok(())
-    } else {
-        search_rows(alloc, problem, shared, parts, ways, at)
+        return Ok(());
     }
+    let weights = Vec::from_slice(alloc, &at.weights)?;
+    move_to(alloc, problem, shared, &mut at.search, weights)?;
+    at.kept.measure(&at.weights);
+    let is_new = keep_ways(
+        alloc,
+        problem,
+        shared,
+        &at.search,
+        parts,
+        ways,
+        &mut at.kept,
+    )?;
+    at.between = between_after(problem.net, at.between, is_new);
+    at.left = at.between;
+    Ok(())
 }
 
 /// Writes the loads of the worst of all matrices over the kept ways for the weights of the next sweep.
