@@ -36,6 +36,10 @@ HasNoBetterChange net routes set block =
 abbrev pub IsFine : List ℕ → ℕ → Type 0
 IsFine weights b = ((h : ℕ) × (h < length weights) × (2 ^ 20 ≤ slice_index weights h)) ⊎ (2 ^ 35 ≤ b)
 
+-- they are not: all are below 2^20, and b has room to double
+abbrev pub IsCoarse : List ℕ → ℕ → Type 0
+IsCoarse weights b = ((h : ℕ) → h < length weights → slice_index weights h < 2 ^ 20) × (b < 2 ^ 35)
+
 -- k is the first of the n places with the greatest need
 pub record IsWorst (n : ℕ) (need : ℕ → ℕ) (k : ℕ) : Type 0 where
   pub within : k < n

@@ -4,6 +4,7 @@
 //! - `scale`: the best block of a link for given weights.
 //! - `make`: a certificate of a routing, of the best of sixteen rounds for each link, searched where it needs most, and polished.
 //!   `improve`: the same from weights that are offered for its blocks. `refine`: by a shorter search, where these are near the best.
+//! - `is_fine`: whether the weights of a block are fine, so that they are not doubled.
 //! - `better_block`: the best block of a given block's weights with one of them changed, where it needs less by a 64th.
 #![tactic(auto)]
 
@@ -11,6 +12,7 @@ mod better;
 mod changes;
 mod critical;
 mod effort;
+mod fine;
 mod form;
 mod law;
 mod making;
@@ -27,6 +29,7 @@ mod weighting;
 
 pub use best_blocks::{need, scale};
 pub use better::better_block;
+pub use fine::is_fine;
 pub use law::{bounded_blocks_need_little_more, made_certificates_exist};
 pub use making::{improve, make, refine};
 pub use offers::Offer;

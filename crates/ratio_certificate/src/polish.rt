@@ -1,5 +1,5 @@
 //! The polish: the first weights of the greatest need are doubled until they are fine, and then changed one by one while that improves their need.
-ghost use Rattle.std.specs.Prelude.{◌≡◌, ◌^◌, ◌<◌, ◌≤◌, ℕ, IfOk, IfSome, IfNone, OnOk, true, false, length, slice_index};
+ghost use Rattle.std.specs.Prelude.{◌≡◌, ◌^◌, ◌<◌, ◌≤◌, ℕ, IfOk, IfSome, IfNone, OnOk, length, slice_index};
 ghost use Rattle.te_model.specs.Network.{link_count};
 ghost use Rattle.ratio_certificate.specs.Places.{weighting_at};
 ghost use Rattle.ratio_certificate.specs.Polished.{IsFine, IsWorst};
@@ -9,17 +9,12 @@ ghost use Rattle.ratio_certificate.specs.Weighting.{AreDoubled, AreWeights};
 
 use crate::changes::{Change, Changes};
 use crate::critical::critical_sources;
+use crate::fine::is_fine;
 use crate::problem::Problem;
 use crate::weighting::{Weighting, weighting_of};
 use best_blocks::{Metric, Scale, SharedLink, metric_of};
 use std::alloc::Global;
 use te_model::Memory;
-
-/// Weights are fine where one is no less than this.
-const FINE_WEIGHT: u64 = 1 << 20;
-
-/// Weights are fine where `b` is no less than this.
-const FINE_B: u64 = 1 << 35;
 
 /// The first place of the greatest need, or `None` where there is none.
 pub fn worst(list: &[Weighting]) -> Option<usize>
@@ -36,28 +31,6 @@ pub fn worst(list: &[Weighting]) -> Option<usize>
         }
     }
     Some(place)
-}
-
-/// Whether one of the weights is at least 2^20.
-fn has_fine_weight(weights: &[u64]) -> bool
-    ensures some { result ≡ true → (h : ℕ) × (h < length weights.now) × (2 ^ 20 ≤ slice_index weights.now h) }
-    ensures none { result ≡ false → (h : ℕ) → h < length weights.now → slice_index weights.now h < 2 ^ 20 }
-{
-    for h in 0..weights.len() {
-        if weights[h] >= FINE_WEIGHT {
-            return true;
-        }
-    }
-    false
-}
-
-/// Whether the weights are fine.
-fn is_fine(weighting: &Weighting) -> bool
-    ensures fine { result ≡ true → IsFine weighting.now.weights weighting.now.b }
-    ensures small { result ≡ false → (h : ℕ) → h < length weighting.now.weights → slice_index weighting.now.weights h < 2 ^ 20 }
-    ensures room { result ≡ false → weighting.now.b < 2 ^ 35 }
-{
-    weighting.b >= FINE_B || has_fine_weight(weighting.weights.as_slice())
 }
 
 /// Twice each of the weights.
@@ -183,7 +156,7 @@ fn step_at(
     ensures fine { IfOk result (λ o. IfNone o (IsFine weighting.now.weights weighting.now.b)) }
     ensures none { IfOk result (λ o. IfNone o (IsSettledOf problem.now weighting.now)) }
 {
-    if !is_fine(weighting) {
+    if !is_fine(weighting.weights.as_slice(), weighting.b) {
         let weighting = double(alloc, problem, shared, weighting)?;
         return Ok(Some(Step {
             place,

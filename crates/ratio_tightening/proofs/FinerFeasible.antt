@@ -21,13 +21,15 @@ use Rattle.te_model.specs.Inequalities.{capacity_by, covers_share, keeps_bounds,
 use Rattle.te_model.specs.Network.{capacity_of, head_of, is_well_formed, link_count, node_count, tail_of}
 use Rattle.te_model.specs.Path.{chains, destination_of, is_distinct, no_routes, nodes_visited, routes_at, share, source_of}
 use Rattle.te_model.proofs.Quotients.{quotient_up-enough, quotient_up-least}
+use Rattle.te_model.proofs.Sizes.{unit_positive}
 use Rattle.te_model.proofs.Sums.{sum_below-add, sum_below-le, sum_below-mul, sum_below-same}
 use Rattle.te_model.proofs.WellFormed.{few_nodes, links_join}
 use Rattle.routing.proofs.Splits.{share-le, splits_of}
 use Rattle.shortest_path.proofs.PathLengths.{path_short}
 use Rattle.best_blocks.specs.Conditions.{IsRoutingWithin, IsSetWithin}
 use Rattle.best_blocks.specs.Need.{need_of}
-use Rattle.ratio_tightening.specs.Finer.{has_small_a, twice_row, twice_within, with_twice_scale, IsCoarse, IsDoubled, IsFinerForm, IsTwiceExcess}
+use Rattle.ratio_certificate.specs.Polished.{IsCoarse}
+use Rattle.ratio_tightening.specs.Finer.{has_small_a, twice_row, twice_within, with_twice_scale, IsDoubled, IsFinerForm, IsTwiceExcess}
 use Rattle.ratio_tightening.proofs.FinerNumbers.{twice_at}
 
 -- what is said of twice the potentials of a row
@@ -302,23 +304,20 @@ capacity_twice net old coarse =
     ap (λ x. capacity_of net h * x) twice ∙ omega arith)
     ∙ sum_below-mul (link_count net) 2 (λ h. capacity_of net h * slice_index old.weights h)
 
-some_price : (b c : ℕ) → 1 ≤ b → 1 ≤ c → 1 ≤ b * 1000000 * c
-some_price b c some_b some_c = let one = mul-le 1 1 b c some_b some_c in omega (arith, one)
-
 pub finer_need : (net : Network) (old new : Block) → IsCoarse old.weights old.b → IsFinerForm old new → 1 ≤ old.b → 1 ≤ capacity_of net old.link →
     need_of net new ≤ need_of net old
 finer_need net old new coarse (inl (small, is)) some some_capacity =
     subst (λ (b : Block). need_of net b ≤ need_of net old) (sym is)
     (twice_quotient (old.a * RATIO_UNIT * capacity_by net old.weights) (old.b * SHARE_UNIT * capacity_of net old.link)
     (2 * old.a * RATIO_UNIT * capacity_by net old.weights) (2 * old.b * SHARE_UNIT * capacity_of net old.link)
-    (some_price old.b (capacity_of net old.link) some some_capacity) (omega arith) (omega arith))
+    (unit_positive old.b (capacity_of net old.link) some some_capacity) (omega arith) (omega arith))
 finer_need net old new coarse (inr (large, is)) some some_capacity =
     let cost : capacity_by net new.weights ≡ 2 * capacity_by net old.weights = ap (capacity_by net) is.weights_are ∙ capacity_twice net old coarse in
     let a_is = is.a_is in
     let capacity : capacity_of net new.link ≡ capacity_of net old.link = ap (capacity_of net) is.link_is in
     twice_quotient (old.a * RATIO_UNIT * capacity_by net old.weights) (old.b * SHARE_UNIT * capacity_of net old.link)
     (new.a * RATIO_UNIT * capacity_by net new.weights) (new.b * SHARE_UNIT * capacity_of net new.link)
-    (some_price old.b (capacity_of net old.link) some some_capacity) (rw cost (rw a_is (omega arith))) (rw is.b_is (rw capacity (omega arith)))
+    (unit_positive old.b (capacity_of net old.link) some some_capacity) (rw cost (rw a_is (omega arith))) (rw is.b_is (rw capacity (omega arith)))
 
 pub finer_link : (old new : Block) → IsFinerForm old new → new.link ≡ old.link
 finer_link old new (inl (small, is)) = ap (λ (b : Block). b.link) is

@@ -18,7 +18,8 @@ use Rattle.te_model.specs.Validity.{has_block_numbers, has_small_numbers, is_sma
 use Rattle.te_model.proofs.Tests.{list_all_weaker}
 use Rattle.best_blocks.specs.Need.{HasNumbers}
 use Rattle.best_blocks.proofs.Pushed.{all_tests}
-use Rattle.ratio_tightening.specs.Finer.{has_small_a, twice_row, twice_within, with_twice_scale, IsCoarse, IsDoubled, IsFinerForm, IsTwiceExcess}
+use Rattle.ratio_certificate.specs.Polished.{IsCoarse}
+use Rattle.ratio_tightening.specs.Finer.{has_small_a, twice_row, twice_within, with_twice_scale, IsDoubled, IsFinerForm, IsTwiceExcess}
 
 -- what a list reads after each number is doubled
 pub twice_at : (xs : List ℕ) (k : ℕ) → slice_index (map twice_within xs) k ≡ twice_within (slice_index xs k)

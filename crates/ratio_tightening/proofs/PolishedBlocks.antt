@@ -1,12 +1,13 @@
 -- A list of blocks that are polished: a step at one place, and that there is an end.
 use Rattle.std.proofs.Common.{◌≡◌, ◌∙◌, ◌⊎◌, ℕ, zero, suc, ◌<◌, ◌≤◌, true, List, length, set, ap, arith, inl, inr, refl, subst, sym}
-use Rattle.std.specs.Prelude.{All, sum_by}
+use Rattle.std.specs.Prelude.{All, sum_by, IfOk, IfSome, Result, Ok, Err, Option, Some, None}
 use Rattle.std.proofs.lemmas.Bool.{cases_eq, cases_lt}
 use Rattle.std.proofs.lemmas.List.{get_or-set_same, get_or-set_other, length-set}
 use Rattle.std.proofs.lemmas.List.Elements.{All-from_get_or, All-get_or}
 use Rattle.std.proofs.lemmas.List.Sums.{sum_by-set}
 use Rattle.te_model.specs.declared.certificate.Block.{Block}
 use Rattle.te_model.specs.declared.demand.DemandSet.{DemandSet}
+use Rattle.te_model.specs.declared.memory.Memory.{Memory}
 use Rattle.te_model.specs.declared.network.Network.{Network}
 use Rattle.te_model.specs.declared.route.PairRoutes.{PairRoutes}
 use Rattle.te_model.specs.Certificate.{empty_block}
@@ -21,6 +22,13 @@ use Rattle.ratio_certificate.proofs.Stepping.{worst_only}
 use Rattle.ratio_tightening.specs.Polishing.{AreReached, CanPolish, IsAfterSteps, IsDone, IsStep}
 use Rattle.ratio_tightening.proofs.FinerExist.{finer_exists}
 use Rattle.ratio_tightening.proofs.Steps.{gap_of_block, step_can, step_falls}
+
+-- what follows of the value from two things that are said of it
+pub some_gives_both : {X : Type 0} → (r : Result (Option X) Memory) (P Q S : X → Type 0) → ((x : X) → P x → Q x → S x) → IfOk r (λ o. IfSome o P) →
+    IfOk r (λ o. IfSome o Q) → IfOk r (λ o. IfSome o S)
+some_gives_both (Ok (Some x)) P Q S says first second = says x first second
+some_gives_both (Ok None) P Q S says first second = tt
+some_gives_both (Err e) P Q S says first second = tt
 
 -- the blocks where one is put in place
 set_here : (blocks : List Block) (i : ℕ) (b : Block) → i < length blocks → block_at (set blocks i b) i ≡ b

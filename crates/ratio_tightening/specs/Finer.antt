@@ -39,10 +39,6 @@ with_twice_scale block = record {
   minus = block.minus;
 }
 
--- the weights are all below 2^20, and b has room to double
-abbrev pub IsCoarse : List ℕ → ℕ → Type 0
-IsCoarse weights b = ((h : ℕ) → h < length weights → slice_index weights h < 2 ^ 20) × (b < 2 ^ 35)
-
 -- whether something is added and a is below one million, so that what is added may have no room to double
 abbrev pub has_small_a : Block → Bool
 has_small_a block = nat_lt 0 (length block.plus) && nat_lt block.a SHARE_UNIT

@@ -8,8 +8,8 @@ use Rattle.te_model.specs.Validity.{block_at}
 use Rattle.best_blocks.specs.Need.{HasNumbers}
 use Rattle.best_blocks.specs.Sharing.{HasShare}
 use Rattle.ratio_certificate.specs.Better.{IsBetterBlock}
-use Rattle.ratio_certificate.specs.Polished.{HasNoBetterChange, IsFine, IsWorstBlock}
-use Rattle.ratio_tightening.specs.Finer.{IsCoarse, IsFinerForm}
+use Rattle.ratio_certificate.specs.Polished.{HasNoBetterChange, IsCoarse, IsFine, IsWorstBlock}
+use Rattle.ratio_tightening.specs.Finer.{IsFinerForm}
 
 -- a step from the one block to the other: its finer form where its weights are coarse, or where they are fine the best block of a change
 -- of one weight that lowers the need by a 64th at least

@@ -1,5 +1,6 @@
-use Rattle.std.proofs.Common.{◌<◌, ℕ, sym, subst}
+use Rattle.std.proofs.Common.{◌<◌, ℕ, List, sym, subst}
 use Rattle.te_model.specs.Network.{link_count}
+use Rattle.ratio_certificate.specs.Polished.{IsFine}
 use Rattle.ratio_certificate.specs.Steps.{IsSettledAt}
 use Rattle.ratio_certificate.proofs.Stepping.{improved_progress}
 use Rattle.ratio_certificate.proofs.polish.step_at.Goals as goal
@@ -14,7 +15,9 @@ returns-in-None-clause-none c =
     subst (λ e. (h : ℕ) → h < link_count net → IsSettledAt net routes wanted e w.need w.weights h) (sym c.requires.link) settled
 
 pub returns-in-None-clause-fine : goal.returns-in-None-clause-fine
-returns-in-None-clause-fine c = c.is_fine.ensures.fine c.if-not-is_fine.false
+returns-in-None-clause-fine c =
+    let w = c.args.weighting.now in
+    subst (λ (ws : List ℕ). IsFine ws w.b) c.as_slice.ensures (c.is_fine.ensures.fine c.if-not-is_fine.false)
 
 pub returns-in-Some-clause-some : goal.returns-in-Some-clause-some
 returns-in-Some-clause-some c =

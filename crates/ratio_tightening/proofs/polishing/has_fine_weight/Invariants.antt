@@ -1,5 +1,0 @@
-use Rattle.std.proofs.Common.{ℕ, ◌<◌, ◌^◌, slice_index}
-use Rattle.ratio_tightening.proofs.polishing.has_fine_weight.Given as goal
-
-abbrev pub invariant-loop-h : goal.invariant-loop-h
-invariant-loop-h l = (k : ℕ) → k < l.h → slice_index l.weights k < 2 ^ 20
