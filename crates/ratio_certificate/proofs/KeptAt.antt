@@ -1,24 +1,22 @@
 -- What is read of a pair with a share, to keep its way: its number, its share, its distance, and the row of its source.
-use Rattle.std.proofs.Common.{◌≡◌, ℕ, ◌<◌, true, List, length, get_or, slice_index, arith, refl, ap, sym, subst, ◌∙◌}
+use Rattle.std.proofs.Common.{◌≡◌, ℕ, ◌<◌, true, List, length, get_or, slice_index, arith, ap, sym, subst, ◌∙◌}
 use Rattle.std.specs.Prelude.{All}
-use Rattle.std.proofs.lemmas.Bool.{lt-ltb}
 use Rattle.std.proofs.lemmas.List.{get_or_read}
 use Rattle.std.proofs.lemmas.List.Elements.{All-get_or}
 use Rattle.te_model.specs.declared.network.Network.{Network}
 use Rattle.te_model.specs.declared.route.PairRoutes.{PairRoutes}
 use Rattle.te_model.specs.declared.demand.DemandSet.{DemandSet}
-use Rattle.te_model.specs.declared.demand.DemandSet.TheVariants.{All as AllMatrices, Margin, Box}
 use Rattle.te_model.specs.Network.{node_count}
 use Rattle.te_model.specs.Path.{no_routes, share, source_of}
 use Rattle.routing.specs.declared.shares.PairShare.{PairShare}
 use Rattle.best_blocks.specs.declared.metric.Metric.{Metric}
 use Rattle.best_blocks.specs.declared.sharing.SharedLink.{SharedLink}
-use Rattle.best_blocks.specs.Best.{needs_row}
 use Rattle.best_blocks.specs.Conditions.{IsRoutingWithin}
 use Rattle.best_blocks.specs.Metric.{IsMetric}
 use Rattle.best_blocks.specs.Rows.{is_marked}
 use Rattle.best_blocks.specs.Sharing.{IsSharedLink}
 use Rattle.ratio_certificate.specs.Response.{HasRow}
+use Rattle.ratio_certificate.proofs.NextRounds.{needs_some}
 
 abbrev pub no_entry : PairShare
 no_entry = record { pair = 0; share = 0 }
@@ -40,18 +38,13 @@ entry_at net routes wanted l items k shared is below =
     record { pair = inside; some = some; share_is = same }
 
 -- the source of a pair with a share has a row
-needs_shared : (wanted : DemandSet) (s : ℕ) → 0 < s → needs_row wanted s ≡ true
-needs_shared AllMatrices s some = lt-ltb 0 s some
-needs_shared (Margin num den base) s some = refl
-needs_shared (Box lower upper) s some = refl
-
 pub row_of_entry : (net : Network) (routes : List PairRoutes) (wanted : DemandSet) (l : SharedLink) (m : Metric) (s : PairShare) → IsRoutingWithin net routes →
     IsSharedLink net routes wanted l → IsMetric net routes l.marks m → IsEntry routes l s → HasRow net m (source_of routes s.pair)
 row_of_entry net routes wanted l m s within shared metric entry =
     let p = s.pair in
     let share_is : slice_index l.shares p ≡ s.share = shared.shares_are.each p entry.pair ∙ sym entry.share_is in
     let marked : is_marked l.marks (source_of routes p) ≡ true =
-    shared.marks_are.complete p entry.pair (needs_shared wanted (slice_index l.shares p) (subst (λ n. 0 < n) (sym share_is) entry.some))
+    shared.marks_are.complete p entry.pair (needs_some wanted (slice_index l.shares p) (subst (λ n. 0 < n) (sym share_is) entry.some))
     in
     let inside : source_of routes p < node_count net = (within.nodes p entry.pair).0 in
     (omega (arith, inside, metric.rows_are.count), (metric.rows_are.each (source_of routes p) inside marked).count)

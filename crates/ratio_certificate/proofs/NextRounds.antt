@@ -30,7 +30,7 @@ use Rattle.best_blocks.proofs.Positive.{least_far}
 use Rattle.ratio_certificate.proofs.RoundLaws.{all_has, next_none, next_only, raised_more}
 
 -- a pair with a share needs a row, whatever the set
-needs_some : (set : DemandSet) (s : ℕ) → 0 < s → needs_row set s ≡ true
+pub needs_some : (set : DemandSet) (s : ℕ) → 0 < s → needs_row set s ≡ true
 needs_some AllMatrices s some = lt-ltb 0 s some
 needs_some (Margin num den base) s some = refl
 needs_some (Box lower upper) s some = refl

@@ -1,6 +1,5 @@
 -- What steps of a block keep: its link, its validity and its feasibility. It needs no more after them, and each leaves less to do.
-use Rattle.std.proofs.Common.{◌≡◌, ◌∙◌, ℕ, zero, suc, ◌-◌, ◌+◌, ◌*◌, ◌^◌, ◌<◌, ◌≤◌, true, ◌&&◌, List, length, nat_le, nat_lt, ap, arith, inl, inr, refl, subst, sym}
-use Rattle.std.proofs.lemmas.Bool.{and_parts, ltb-true}
+use Rattle.std.proofs.Common.{◌≡◌, ◌∙◌, ℕ, zero, suc, ◌-◌, ◌+◌, ◌*◌, ◌^◌, ◌<◌, ◌≤◌, true, List, length, ap, arith, inl, inr, refl, subst, sym}
 use Rattle.std.proofs.lemmas.List.{length-set}
 use Rattle.std.proofs.lemmas.List.Elements.{All-from_get_or}
 use Rattle.te_model.specs.declared.certificate.Block.{Block}
@@ -10,7 +9,7 @@ use Rattle.te_model.specs.declared.network.Network.{Network}
 use Rattle.te_model.specs.declared.route.PairRoutes.{PairRoutes}
 use Rattle.te_model.specs.Feasible.{IsFeasible}
 use Rattle.te_model.specs.Formats.{limits_of}
-use Rattle.te_model.specs.Network.{capacity_of, is_well_formed, link_count, node_count}
+use Rattle.te_model.specs.Network.{capacity_of, is_well_formed, node_count}
 use Rattle.te_model.specs.Validity.{IsValidBlock}
 use Rattle.te_model.proofs.FeasibleBlocks.{feasible_of}
 use Rattle.te_model.proofs.Valid.{block_small}
@@ -25,7 +24,7 @@ use Rattle.best_blocks.proofs.Needs.{is_need}
 use Rattle.best_blocks.proofs.ValidNumbers.{block_numbers}
 use Rattle.ratio_certificate.specs.Better.{IsBetterBlock}
 use Rattle.ratio_certificate.specs.Polished.{IsChange}
-use Rattle.ratio_certificate.proofs.BetterBlocks.{change_small}
+use Rattle.ratio_certificate.proofs.BetterBlocks.{change_small, link_inside}
 use Rattle.ratio_certificate.proofs.Certificates.{head_of_set}
 use Rattle.ratio_tightening.specs.Polishing.{CanPolish, IsAfterSteps, IsStep}
 use Rattle.ratio_tightening.proofs.FinerFeasible.{finer_b, finer_feasible, finer_link, finer_need}
@@ -34,18 +33,12 @@ use Rattle.ratio_tightening.proofs.FinerNumbers.{finer_count, finer_numbers, fin
 change_count : (old new : List ℕ) → IsChange old new → length new ≡ length old
 change_count old new change = ap (λ (ws : List ℕ). length ws) change.new_is ∙ length-set old change.link change.weight
 
-link_below : (net : Network) (b : Block) → HasNumbers net b → b.link < link_count net
-link_below net b has =
-    let last = and_parts (nat_lt b.link (link_count net) && nat_le b.a (2 ^ 36) && nat_le 1 b.b) (nat_le b.b (2 ^ 36)) has.numbers in
-    let two = and_parts (nat_lt b.link (link_count net) && nat_le b.a (2 ^ 36)) (nat_le 1 b.b) last.0 in
-    ltb-true b.link (link_count net) (and_parts (nat_lt b.link (link_count net)) (nat_le b.a (2 ^ 36)) two.0).0
-
 -- a better block is valid
 better_valid : (h : Head) (old new : Block) → is_well_formed h.network ≡ true → IsRoutingWithin h.network h.routes → node_count h.network ≤ (limits_of h.format).nodes →
     HasNumbers h.network old → IsBetterBlock h.network h.routes h.set old new → IsValidBlock h new
 better_valid h old new formed within fits has better =
     let small = block_small h.network old has.numbers has.small in
-    let inside = link_below h.network old has in
+    let inside = link_inside h.network old has in
     let link = better.link_is in
     best_valid h new.link new.weights new formed within fits (omega (arith, inside, link)) (change_count old.weights new.weights better.change ∙ has.weights)
     (change_small old.weights new.weights better.change (All-from_get_or (λ w. w ≤ 2 ^ 28) old.weights 0 (λ k below. small.weights k))) better.best
@@ -73,7 +66,7 @@ pub step_need : (net : Network) (routes : List PairRoutes) (wanted : DemandSet) 
     IsStep net routes wanted old new → need_of net new ≤ need_of net old
 step_need net routes wanted old new formed can (inl (coarse, finer)) =
     let scale = scale_of net old can.numbers.numbers in
-    finer_need net old new coarse finer scale.some (capacities_positive net formed old.link (link_below net old can.numbers))
+    finer_need net old new coarse finer scale.some (capacities_positive net formed old.link (link_inside net old can.numbers))
 step_need net routes wanted old new formed can (inr (fine, better)) = let less = better.better.0 in omega (arith, less)
 
 -- what falls with each step: the need, and then how far b is below 2^36
@@ -160,5 +153,5 @@ feasible_step h formed within bounds x y is (inr (fine, better)) =
     let scale = scale_of h.network y can.numbers.numbers in
     record {
       can = can;
-      feasible = best_feasible h y within better.best scale.some (capacities_positive h.network formed y.link (link_below h.network y can.numbers));
+      feasible = best_feasible h y within better.best scale.some (capacities_positive h.network formed y.link (link_inside h.network y can.numbers));
     }
