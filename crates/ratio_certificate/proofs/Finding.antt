@@ -1,8 +1,8 @@
--- The first place of the greatest need, and weights that are fine or small.
+-- The first place of the greatest need, and weights that are fine or coarse.
 use Rattle.std.proofs.Common.{◌≡◌, ℕ, zero, suc, ◌^◌, ◌<◌, ◌≤◌, ◌⊎◌, List, length, slice_index, arith, subst, sym, inl, inr}
 use Rattle.std.proofs.lemmas.Bool.{cases_lt}
 use Rattle.te_model.proofs.Searches.{first_or_all}
-use Rattle.ratio_certificate.specs.Polished.{IsFine, IsWorst}
+use Rattle.ratio_certificate.specs.Polished.{IsCoarse, IsFine, IsWorst}
 
 -- the first place of the greatest need
 pub worst_exists : (n : ℕ) (need : ℕ → ℕ) → 0 < n → (k : ℕ) × IsWorst n need k
@@ -45,9 +45,9 @@ worst_exists (suc n) need some = elim (cases_lt 0 n) [
       )
     ]
 
--- weights are fine, or all below 2^20 with room to double b
-pub fine_or_small : (weights : List ℕ) (b : ℕ) → IsFine weights b ⊎ (((h : ℕ) → h < length weights → slice_index weights h < 2 ^ 20) × (b < 2 ^ 35))
-fine_or_small weights b = elim (cases_lt b (2 ^ 35)) [
+-- weights are fine, or they are not
+pub fine_or_coarse : (weights : List ℕ) (b : ℕ) → IsFine weights b ⊎ IsCoarse weights b
+fine_or_coarse weights b = elim (cases_lt b (2 ^ 35)) [
   | inl room ↦
       elim (first_or_all (λ h. 2 ^ 20 ≤ slice_index weights h) (λ h. slice_index weights h < 2 ^ 20) (length weights) (λ h below. large_or_small h)) [
         | inl large ↦ inl (inl (large.0, large.1, large.2))

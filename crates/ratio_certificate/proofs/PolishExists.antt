@@ -15,11 +15,11 @@ use Rattle.best_blocks.proofs.Growing.{values_exist}
 use Rattle.ratio_certificate.specs.declared.weighting.Weighting.{Weighting}
 use Rattle.ratio_certificate.specs.Making.{AreSharedLinks}
 use Rattle.ratio_certificate.specs.Places.{no_shared, shared_at, weighting_at}
-use Rattle.ratio_certificate.specs.Polished.{IsFine, IsWorst}
+use Rattle.ratio_certificate.specs.Polished.{IsCoarse, IsFine, IsWorst}
 use Rattle.ratio_certificate.specs.Steps.{AreWeightings, HelpsNot, IsDone, IsImprovement, IsProgress, IsSettledAt}
 use Rattle.ratio_certificate.specs.Weighting.{gap_in, AreDoubled, AreWeights, IsWeighting}
 use Rattle.ratio_certificate.proofs.Changed.{changed_weights}
-use Rattle.ratio_certificate.proofs.Finding.{fine_or_small, worst_exists}
+use Rattle.ratio_certificate.proofs.Finding.{fine_or_coarse, worst_exists}
 use Rattle.ratio_certificate.proofs.Progress.{left_falls, progress_made}
 use Rattle.ratio_certificate.proofs.Stepping.{done_at, doubled_progress, doubled_weights, improved_progress, none_done}
 use Rattle.ratio_certificate.proofs.Trying.{helps_not, settled_at}
@@ -87,18 +87,18 @@ record IsFinished (net : Network) (routes : List PairRoutes) (wanted : DemandSet
 -- twice the weights are progress
 doubled_exist : (net : Network) (routes : List PairRoutes) (wanted : DemandSet) (l : SharedLink) (w : Weighting) → is_well_formed net ≡ true →
     IsRoutingWithin net routes → IsSharedLink net routes wanted l → IsWeighting net routes wanted w → w.link ≡ l.link →
-    ((h : ℕ) → h < length w.weights → slice_index w.weights h < 2 ^ 20) → w.b < 2 ^ 35 → (new : Weighting) × IsProgress net routes wanted w new
-doubled_exist net routes wanted l w formed within shared weighting is small room =
+    IsCoarse w.weights w.b → (new : Weighting) × IsProgress net routes wanted w new
+doubled_exist net routes wanted l w formed within shared weighting is coarse =
     let (twice, values) = values_exist (length w.weights) (λ h. 2 * slice_index w.weights h) in
     let doubled : AreDoubled w.weights twice = record { count = values.count; each = values.each } in
-    let (new, made) = weighting_exists net routes wanted l twice formed within shared (doubled_weights net w.weights twice weighting.weights_are doubled small) in
-    (new, doubled_progress net routes wanted w new twice formed (omega (arith, is, shared.within)) weighting doubled small room (made.link_is ∙ sym is) made.weights_are made.weighting)
+    let (new, made) = weighting_exists net routes wanted l twice formed within shared (doubled_weights net w.weights twice weighting.weights_are doubled coarse.0) in
+    (new, doubled_progress net routes wanted w new twice formed (omega (arith, is, shared.within)) weighting doubled coarse (made.link_is ∙ sym is) made.weights_are made.weighting)
 
 -- a step of the weights, or they are fine and settled
 step_or_finished : (net : Network) (routes : List PairRoutes) (wanted : DemandSet) (l : SharedLink) (w : Weighting) → is_well_formed net ≡ true →
     IsRoutingWithin net routes → IsSharedLink net routes wanted l → IsWeighting net routes wanted w → w.link ≡ l.link →
     ((new : Weighting) × IsProgress net routes wanted w new) ⊎ IsFinished net routes wanted w
-step_or_finished net routes wanted l w formed within shared weighting is = elim (fine_or_small w.weights w.b) [
+step_or_finished net routes wanted l w formed within shared weighting is = elim (fine_or_coarse w.weights w.b) [
   | inl fine ↦
       elim (first_or_all (λ h. SomeImprovement net routes wanted l.link w.need) (IsSettledAt net routes wanted l.link w.need w.weights) (link_count net)
       (λ h below. link_tried net routes wanted l w.need w.weights h formed within shared weighting.weights_are below)) [
@@ -108,7 +108,7 @@ step_or_finished net routes wanted l w formed within shared weighting is = elim 
           settled = λ h below. subst (λ e. IsSettledAt net routes wanted e w.need w.weights h) (sym is) (settled h below);
         })
       ]
-  | inr small ↦ inl (doubled_exist net routes wanted l w formed within shared weighting is small.0 small.1)
+  | inr coarse ↦ inl (doubled_exist net routes wanted l w formed within shared weighting is coarse)
 ]
 
 -- other weights at a place of the list

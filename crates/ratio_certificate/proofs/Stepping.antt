@@ -12,7 +12,7 @@ use Rattle.best_blocks.specs.Under.{IsScaleUnder}
 use Rattle.best_blocks.proofs.NeedLaws.{double_needs_no_more}
 use Rattle.ratio_certificate.specs.declared.weighting.Weighting.{Weighting}
 use Rattle.ratio_certificate.specs.Places.{weighting_at}
-use Rattle.ratio_certificate.specs.Polished.{IsFine, IsWorst}
+use Rattle.ratio_certificate.specs.Polished.{IsCoarse, IsFine, IsWorst}
 use Rattle.ratio_certificate.specs.Steps.{IsDone, IsImprovement, IsProgress, IsSettledAt}
 use Rattle.ratio_certificate.specs.Weighting.{greatest_of, AreDoubled, AreWeights, IsWeighting}
 use Rattle.ratio_certificate.proofs.Gaps.{doubled_nearer, gap_less, greatest_above, greatest_below_bound, improved_nearer}
@@ -37,10 +37,9 @@ doubled_weights net old new are twice small = record {
 }
 
 pub doubled_progress : (net : Network) (routes : List PairRoutes) (wanted : DemandSet) (old new : Weighting) (doubled : List ℕ) → is_well_formed net ≡ true →
-    old.link < link_count net → IsWeighting net routes wanted old → AreDoubled old.weights doubled →
-    ((h : ℕ) → h < length old.weights → slice_index old.weights h < 2 ^ 20) → old.b < 2 ^ 35 →
-    new.link ≡ old.link → new.weights ≡ doubled → IsWeighting net routes wanted new → IsProgress net routes wanted old new
-doubled_progress net routes wanted old new doubled formed inside is twice small room link_is weights_are new_is =
+    old.link < link_count net → IsWeighting net routes wanted old → AreDoubled old.weights doubled → IsCoarse old.weights old.b → new.link ≡ old.link →
+    new.weights ≡ doubled → IsWeighting net routes wanted new → IsProgress net routes wanted old new
+doubled_progress net routes wanted old new doubled formed inside is twice coarse link_is weights_are new_is =
     let e = old.link in
     let some = capacities_positive net formed e inside in
     let made : AreDoubled old.weights new.weights = subst (AreDoubled old.weights) (sym weights_are) twice in
@@ -48,13 +47,13 @@ doubled_progress net routes wanted old new doubled formed inside is twice small 
     subst (λ l. IsScaleUnder net routes wanted l new.weights new.a new.b) link_is new_is.scale_is
     in
     let need : new.need ≡ need_by net e new.weights new.a new.b = new_is.need_is ∙ ap (λ l. need_by net l new.weights new.a new.b) link_is in
-    let less = double_needs_no_more net routes wanted e old.weights new.weights old.a old.b new.a new.b some room
+    let less = double_needs_no_more net routes wanted e old.weights new.weights old.a old.b new.a new.b some coarse.1
     (twice_everywhere old.weights new.weights made) is.scale_is scale
     in
     let no_more : new.need ≤ old.need = omega (arith, need, is.need_is, less) in
     let first : 0 < length old.weights = omega (arith, is.weights_are.count, inside) in
     let one : 1 ≤ greatest_of old.weights = omega (arith, greatest_above old.weights 0 first, is.weights_are.some 0 (omega (arith, inside))) in
-    let gap = gap_less old.weights new.weights made one (greatest_below_bound old.weights (2 ^ 20) (omega arith) small) in
+    let gap = gap_less old.weights new.weights made one (greatest_below_bound old.weights (2 ^ 20) (omega arith) coarse.0) in
     record { link_is = link_is; weighting = new_is; no_more = no_more; nearer = doubled_nearer old new no_more gap }
 
 pub improved_progress : (net : Network) (routes : List PairRoutes) (wanted : DemandSet) (e : ℕ) (old new : Weighting) → old.link ≡ e →

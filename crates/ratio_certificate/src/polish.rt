@@ -2,7 +2,7 @@
 ghost use Rattle.std.specs.Prelude.{◌≡◌, ◌^◌, ◌<◌, ◌≤◌, ℕ, IfOk, IfSome, IfNone, OnOk, length, slice_index};
 ghost use Rattle.te_model.specs.Network.{link_count};
 ghost use Rattle.ratio_certificate.specs.Places.{weighting_at};
-ghost use Rattle.ratio_certificate.specs.Polished.{IsFine, IsWorst};
+ghost use Rattle.ratio_certificate.specs.Polished.{IsCoarse, IsFine, IsWorst};
 ghost use Rattle.ratio_certificate.specs.Problems.{AreLinksOf, AreWeightingsOf, IsDoneOf, IsLinkOf, IsMetricOf, IsProblem, IsProgressOf, IsSettledOf, IsWeightingOf};
 ghost use Rattle.ratio_certificate.specs.Steps.{IsImprovement, IsSettledAt};
 ghost use Rattle.ratio_certificate.specs.Weighting.{AreDoubled, AreWeights};
@@ -79,8 +79,7 @@ fn double(
     requires shared { IsLinkOf problem.now shared.now }
     requires weighting { IsWeightingOf problem.now weighting.now }
     requires link { weighting.now.link ≡ shared.now.link }
-    requires small { (h : ℕ) → h < length weighting.now.weights → slice_index weighting.now.weights h < 2 ^ 20 }
-    requires room { weighting.now.b < 2 ^ 35 }
+    requires coarse { IsCoarse weighting.now.weights weighting.now.b }
     ensures { IfOk result (IsProgressOf problem.now weighting.now) }
 {
     let weights = double_weights(alloc, weighting.weights.as_slice())?;

@@ -17,7 +17,7 @@ use Rattle.best_blocks.specs.Conditions.{IsRoutingWithin}
 use Rattle.best_blocks.specs.Need.{need_of}
 use Rattle.ratio_certificate.specs.Polished.{HasNoBetterChange, IsFine, IsWorstBlock}
 use Rattle.ratio_certificate.proofs.BetterExists.{better_or_none}
-use Rattle.ratio_certificate.proofs.Finding.{fine_or_small, worst_exists}
+use Rattle.ratio_certificate.proofs.Finding.{fine_or_coarse, worst_exists}
 use Rattle.ratio_certificate.proofs.Stepping.{worst_only}
 use Rattle.ratio_tightening.specs.Polishing.{AreReached, CanPolish, IsAfterSteps, IsDone, IsStep}
 use Rattle.ratio_tightening.proofs.FinerExist.{finer_exists}
@@ -103,7 +103,7 @@ none_done net routes wanted blocks none = record {
 -- a step of the block, or it is fine and settled
 step_or_settled : (net : Network) (routes : List PairRoutes) (wanted : DemandSet) (b : Block) → is_well_formed net ≡ true → IsRoutingWithin net routes →
     CanPolish net routes b → ((new : Block) × IsStep net routes wanted b new) ⊎ (IsFine b.weights b.b × HasNoBetterChange net routes wanted b)
-step_or_settled net routes wanted b formed within can = elim (fine_or_small b.weights b.b) [
+step_or_settled net routes wanted b formed within can = elim (fine_or_coarse b.weights b.b) [
   | inl fine ↦ elim (better_or_none net routes wanted b formed within can.share can.numbers) [
     | inl better ↦ inl (better.0, inr (fine, better.1))
     | inr none ↦ inr (fine, none)

@@ -19,7 +19,7 @@ returns c =
     value_gives c.weighting_of.result (λ (w : Weighting). w.link ≡ c.args.shared.now.link) (λ (w : Weighting). w.weights ≡ c.in_ok-metric.metric.weights)
     (IsWeighting net routes wanted) (IsProgress net routes wanted old)
     (λ w link_is weights_are is.
-    doubled_progress net routes wanted old w c.in_ok-weights.weights.items c.requires.problem.network inside c.requires.weighting twice c.requires.small c.requires.room
+    doubled_progress net routes wanted old w c.in_ok-weights.weights.items c.requires.problem.network inside c.requires.weighting twice c.requires.coarse
     (link_is ∙ sym c.requires.link) (weights_are ∙ c.in_ok-metric.ensures.weights) is)
     c.weighting_of.ensures.link c.weighting_of.ensures.weights c.weighting_of.ensures.weighting
 
@@ -28,7 +28,7 @@ metric_of-requires-clause-small c =
     let net = c.args.problem.now.net.now in
     let new = c.in_ok-weights.weights.items in
     let twice = subst (λ (ws : List ℕ). AreDoubled ws new) c.as_slice.ensures c.in_ok-weights.ensures in
-    let are = doubled_weights net c.args.weighting.now.weights new c.requires.weighting.weights_are twice c.requires.small in
+    let are = doubled_weights net c.args.weighting.now.weights new c.requires.weighting.weights_are twice c.requires.coarse.0 in
     all_small new (link_count net) (2 ^ 28) are.count are.small
 
 pub weighting_of-requires-clause-weights : goal.weighting_of-requires-clause-weights
@@ -36,4 +36,4 @@ weighting_of-requires-clause-weights c =
     let net = c.args.problem.now.net.now in
     let new = c.in_ok-weights.weights.items in
     let twice = subst (λ (ws : List ℕ). AreDoubled ws new) c.as_slice.ensures c.in_ok-weights.ensures in
-    subst (AreWeights net) (sym c.in_ok-metric.ensures.weights) (doubled_weights net c.args.weighting.now.weights new c.requires.weighting.weights_are twice c.requires.small)
+    subst (AreWeights net) (sym c.in_ok-metric.ensures.weights) (doubled_weights net c.args.weighting.now.weights new c.requires.weighting.weights_are twice c.requires.coarse.0)
