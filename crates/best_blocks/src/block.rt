@@ -13,8 +13,8 @@ use crate::balance::weighed_share;
 use crate::metric::{Metric, metric_of};
 use crate::potentials::rows_of;
 use crate::scaling::{Scale, scale_under};
-use crate::sharing::{SharedLink, shared_link};
-use routing::{Routing, Shares};
+use crate::sharing::{SharedLink, link_with_shares};
+use routing::Routing;
 use std::alloc::Global;
 use te_model::{Block, DemandSet, Items, Memory, Network};
 
@@ -138,23 +138,6 @@ pub fn best_block(
         }
         None => Ok(None),
     }
-}
-
-/// The link, on which some share is above 0, with the shares that the pairs have there.
-fn link_with_shares(
-    alloc: Global,
-    net: &Network,
-    routing: &Routing,
-    set: &DemandSet,
-    link: u32,
-) -> Result<SharedLink, Memory>
-    requires routing { IsRoutingWithin net.now routing.now.routes }
-    requires some { HasShare routing.now.routes link }
-    ensures link { IfOk result (λ l. l.link ≡ link) }
-    ensures shared { IfOk result (IsSharedLink net.now routing.now.routes set.now) }
-{
-    let all = Shares::new(alloc, net, routing)?;
-    shared_link(alloc, net, routing, set, link, all.on(link))
 }
 
 /// The metric of a copy of the weights, with the rows that the link needs.

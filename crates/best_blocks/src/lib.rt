@@ -23,4 +23,4 @@ pub use law::best_blocks_exist;
 pub use metric::{Metric, metric_after, metric_of, metric_with};
 pub use quotient::dearest_pair;
 pub use scaling::{Scale, scale_under};
-pub use sharing::{SharedLink, shared_link};
+pub use sharing::{SharedLink, link_with_shares, shared_link};

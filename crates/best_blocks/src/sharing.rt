@@ -6,10 +6,11 @@ ghost use Rattle.te_model.specs.Path.{share, source_of};
 ghost use Rattle.routing.specs.Shares.{AreSharesOn};
 ghost use Rattle.shortest_path.specs.Pairs.{AreValues};
 ghost use Rattle.best_blocks.specs.Best.{needs_row};
+ghost use Rattle.best_blocks.specs.Conditions.{IsRoutingWithin};
 ghost use Rattle.best_blocks.specs.Marks.{AreSourceMarks};
-ghost use Rattle.best_blocks.specs.Sharing.{IsSharedLink};
+ghost use Rattle.best_blocks.specs.Sharing.{HasShare, IsSharedLink};
 
-use routing::{PairShare, Routing};
+use routing::{PairShare, Routing, Shares};
 use std::alloc::Global;
 use te_model::{DemandSet, Items, Memory, Network};
 
@@ -102,4 +103,21 @@ pub fn shared_link(
         shares: Items::new(shares),
         marks: Items::new(marks),
     })
+}
+
+/// The link, on which some share is above 0, with the shares that the pairs have there. `Memory` comes where memory is wanting.
+pub fn link_with_shares(
+    alloc: Global,
+    net: &Network,
+    routing: &Routing,
+    set: &DemandSet,
+    link: u32,
+) -> Result<SharedLink, Memory>
+    requires routing { IsRoutingWithin net.now routing.now.routes }
+    requires some { HasShare routing.now.routes link }
+    ensures link { IfOk result (λ l. l.link ≡ link) }
+    ensures shared { IfOk result (IsSharedLink net.now routing.now.routes set.now) }
+{
+    let all = Shares::new(alloc, net, routing)?;
+    shared_link(alloc, net, routing, set, link, all.on(link))
 }

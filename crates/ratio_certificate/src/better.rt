@@ -4,14 +4,16 @@ ghost use Rattle.te_model.specs.Network.{is_well_formed, link_count, node_count}
 ghost use Rattle.best_blocks.specs.Conditions.{IsRoutingWithin, IsSetWithin};
 ghost use Rattle.best_blocks.specs.Metric.{IsMetric};
 ghost use Rattle.best_blocks.specs.Need.{HasNumbers};
-ghost use Rattle.best_blocks.specs.Sharing.{HasShare, IsSharedLink};
+ghost use Rattle.best_blocks.specs.Sharing.{HasShare};
 ghost use Rattle.ratio_certificate.specs.Better.{IsBetterBlock};
 ghost use Rattle.ratio_certificate.specs.BlockChanges.{AreBlockChanges, HelpsNotOn, IsBestIn, IsBetterIn, IsSettledOn};
 ghost use Rattle.ratio_certificate.specs.Polished.{HasNoBetterChange, IsDoublingOrHalving};
 
 use crate::changes::{MAX_DOUBLED, MIN_HALVED, improves};
-use best_blocks::{Metric, SharedLink, best_block, metric_after, metric_of, need, shared_link};
-use routing::{Routing, Shares};
+use best_blocks::{
+    Metric, SharedLink, best_block, link_with_shares, metric_after, metric_of, need,
+};
+use routing::Routing;
 use std::alloc::Global;
 use te_model::{Block, DemandSet, Memory, Network};
 
@@ -156,23 +158,6 @@ impl<'a> BlockChanges<'a> {
         }
         Ok(None)
     }
-}
-
-/// The link, on which some share is above 0, with the shares that the pairs have there.
-fn link_with_shares(
-    alloc: Global,
-    net: &Network,
-    routing: &Routing,
-    set: &DemandSet,
-    link: u32,
-) -> Result<SharedLink, Memory>
-    requires routing { IsRoutingWithin net.now routing.now.routes }
-    requires some { HasShare routing.now.routes link }
-    ensures link { IfOk result (λ l. l.link ≡ link) }
-    ensures shared { IfOk result (IsSharedLink net.now routing.now.routes set.now) }
-{
-    let all = Shares::new(alloc, net, routing)?;
-    shared_link(alloc, net, routing, set, link, all.on(link))
 }
 
 /// The metric of the weights of the block.

@@ -1,7 +1,7 @@
 use Rattle.std.proofs.Common.{arith, sym, subst}
 use Rattle.routing.specs.Shares.{AreSharesOn}
 use Rattle.best_blocks.proofs.SharesListed.{link_within, listed_some}
-use Rattle.ratio_certificate.proofs.better.link_with_shares.Goals as goal
+use Rattle.best_blocks.proofs.sharing.link_with_shares.Goals as goal
 
 pub on-requires : goal.on-requires
 on-requires c =
