@@ -1,5 +1,5 @@
 //! Weights of the links, and the distances that they make.
-ghost use Rattle.std.specs.Prelude.{◌≡◌, ◌^◌, ◌<◌, ◌≤◌, All, IfOk, IsTrue, length, unwrap_or};
+ghost use Rattle.std.specs.Prelude.{◌≡◌, ◌^◌, ◌<◌, ◌≤◌, All, IfOk, IfSome, IsTrue, length, unwrap_or};
 ghost use Rattle.te_model.specs.Network.{is_well_formed, link_count, node_count};
 ghost use Rattle.shortest_path.specs.declared.rows.Direction.TheVariants.{Forward};
 ghost use Rattle.shortest_path.specs.Graph.{distance_at};
@@ -115,12 +115,14 @@ pub fn metric_with(
     Ok(metric)
 }
 
-/// The metric of the new weights, which differ from those of the metric on the changed links alone.
+/// The metric of the new weights, which differ from those of the metric on the changed links alone. The searches are along links in
+/// the network; where there are none yet and a row has to be searched, they are made, with one order for all nodes.
 pub fn metric_after(
     alloc: Global,
     net: &Network,
     routing: &Routing,
     marks: &[bool],
+    searches: &mut Option<Searches>,
     metric: &Metric,
     changed: &[u32],
     weights: Vec<u64>,
@@ -132,13 +134,16 @@ pub fn metric_after(
     requires metric { IsMetric net.now routing.now.routes marks.now metric.now }
     requires changed { All (λ h. h < link_count net.now) changed.now }
     requires others { IsSameElsewhere (link_count net.now) changed.now metric.now.weights weights.items }
+    requires along { IfSome searches.old (IsSearchGraph net.now Forward) }
     ensures metric { IfOk result (λ m. IsMetric net.now routing.now.routes marks.now m) }
     ensures weights { IfOk result (λ m. m.weights ≡ weights.items) }
+    ensures along { IfSome searches.new (IsSearchGraph net.now Forward) }
 {
     let old = metric.weights.as_slice();
     let rows = rows_after(
         alloc,
         net,
+        searches,
         metric.rows.as_slice(),
         marks,
         changed,

@@ -242,10 +242,12 @@ fn next_row_if_marked(
 }
 
 /// The distances from the marked nodes by the new weights, which differ from the old ones on the
-/// changed links alone. A row stays where these are slack for it.
+/// changed links alone. A row stays where these are slack for it. The searches, if there are some yet,
+/// are along links in the network.
 pub fn rows_after(
     alloc: Global,
     net: &Network,
+    searches: &mut Option<Searches>,
     rows: &[Items<Option<u64>>],
     marks: &[bool],
     changed: &[u32],
@@ -256,12 +258,13 @@ pub fn rows_after(
     requires marks { length marks.now ≡ node_count net.now }
     requires rows { AreRowsFrom (node_count net.now) net.now old.now marks.now rows.now }
     requires weights { AreNewWeights net.now changed.now old.now new.now }
-    ensures { IfOk result (λ r. AreRowsFrom (node_count net.now) net.now new.now marks.now r.items) }
+    requires along { IfSome searches.old (IsSearchGraph net.now Forward) }
+    ensures rows { IfOk result (λ r. AreRowsFrom (node_count net.now) net.now new.now marks.now r.items) }
+    ensures along { IfSome searches.new (IsSearchGraph net.now Forward) }
 {
-    let mut searches = None;
     let mut next = Vec::with_capacity(alloc, marks.len())?;
     for i in 0..marks.len() {
-        let row = next_row_if_marked(alloc, net, &mut searches, rows, marks, i, changed, old, new)?;
+        let row = next_row_if_marked(alloc, net, searches, rows, marks, i, changed, old, new)?;
         next.push(Items::new(row))?;
     }
     Ok(next)

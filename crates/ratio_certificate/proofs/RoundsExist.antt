@@ -1,5 +1,5 @@
 -- That each link with a share has its rounds.
-use Rattle.std.proofs.Common.{◌≡◌, ℕ, ◌+◌, ◌*◌, ◌^◌, ◌<◌, ◌≤◌, true, List, replicate, arith, refl, inl, inr, ◌∙◌}
+use Rattle.std.proofs.Common.{◌≡◌, ℕ, ◌+◌, ◌*◌, ◌^◌, ◌<◌, ◌≤◌, true, List, None, replicate, arith, refl, inl, inr, ◌∙◌}
 use Rattle.std.proofs.lemmas.Bool.{cases_lt}
 use Rattle.std.proofs.lemmas.List.{length-replicate}
 use Rattle.std.proofs.lemmas.List.Elements.{All-replicate}
@@ -36,13 +36,14 @@ first_rounds_exist net routes wanted l formed within shared =
     in
     let round = first_round net routes l m metric same in
     let (w, is) = metric_weighting_exists net routes wanted l m within shared metric (round_weights net routes l 0 m (omega arith) round) in (
-      record { metric = m; best = w },
+      record { metric = m; best = w; searches = None },
       record {
         metric = round;
         link = is.link_is;
         weighting = is.weighting;
         least = first_least net routes wanted l m w formed shared round is.weighting is.link_is is.weights_are;
         small = first_small net routes wanted l m w formed within shared round is.weighting is.link_is is.weights_are;
+        along = tt;
       },
     )
 
@@ -60,13 +61,14 @@ next_rounds_exist net routes wanted l k r formed within shared few are =
     let round = round_after_round net routes l k old m next are.metric after metric same in
     let (found, is) = metric_weighting_exists net routes wanted l m within shared metric (round_weights net routes l (k + 1) m (omega arith) round) in
     let (w, keeps, takes) = lesser_exists r.best found in (
-      record { metric = m; best = w },
+      record { metric = m; best = w; searches = None },
       record {
         metric = round;
         link = lesser_is (λ x. x.link ≡ l.link) r.best found w keeps takes are.link is.link_is;
         weighting = lesser_is (IsWeighting net routes wanted) r.best found w keeps takes are.weighting is.weighting;
         least = next_least net routes wanted l k m r.best found w formed shared round is.weighting is.link_is is.weights_are keeps takes are.least;
         small = lesser_small (1000000 * 2 ^ 42) r.best found w keeps takes are.small;
+        along = tt;
       },
     )
 

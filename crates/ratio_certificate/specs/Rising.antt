@@ -1,9 +1,11 @@
 -- How the weights of a round follow from those before.
-use Rattle.std.specs.Prelude.{◌≡◌, ℕ, ◌+◌, ◌*◌, ◌/◌, ◌^◌, ◌<◌, ◌≤◌, All, List, length, slice_index}
+use Rattle.std.specs.Prelude.{◌≡◌, ℕ, ◌+◌, ◌*◌, ◌/◌, ◌^◌, ◌<◌, ◌≤◌, All, IfSome, List, length, slice_index}
 use Rattle.te_model.specs.declared.network.Network.{Network}
 use Rattle.te_model.specs.declared.route.PairRoutes.{PairRoutes}
 use Rattle.te_model.specs.declared.demand.DemandSet.{DemandSet}
 use Rattle.te_model.specs.Network.{link_count}
+use Rattle.shortest_path.specs.declared.rows.Direction.TheVariants.{Forward}
+use Rattle.shortest_path.specs.Rows.{IsSearchGraph}
 use Rattle.best_blocks.specs.declared.metric.Metric.{Metric}
 use Rattle.best_blocks.specs.declared.sharing.SharedLink.{SharedLink}
 use Rattle.best_blocks.specs.Metric.{IsMetric}
@@ -37,13 +39,14 @@ abbrev pub NeedsNoMore : Network → List PairRoutes → DemandSet → ℕ → �
 NeedsNoMore net routes set e k w =
     (j : ℕ) → j ≤ k → (weights : List ℕ) → IsWeightRound net routes e j weights → (need : ℕ) → IsNeedUnder net routes set e weights need → w.need ≤ need
 
--- the metric of round k, and the best of the rounds from 0 to k, whose need is within the limit of ratios
+-- the metric of round k, the best of the rounds from 0 to k, whose need is within the limit of ratios, and searches along links
 pub record AreRoundsTo (k : ℕ) (net : Network) (routes : List PairRoutes) (set : DemandSet) (l : SharedLink) (rounds : Rounds) : Type 0 where
   pub metric : IsRoundMetric net routes l k rounds.metric
   pub link : rounds.best.link ≡ l.link
   pub weighting : IsWeighting net routes set rounds.best
   pub least : NeedsNoMore net routes set l.link k rounds.best
   pub small : rounds.best.need ≤ 1000000 * 2 ^ 42
+  pub along : IfSome rounds.searches (IsSearchGraph net Forward)
 
 -- weights for each of the first n links that need no more than any of its rounds, and no more than the limit of ratios
 pub record AreWithinRounds (n : ℕ) (net : Network) (routes : List PairRoutes) (set : DemandSet) (links : List SharedLink) (list : List Weighting) : Type 0 where

@@ -49,11 +49,13 @@ impl<'a> BlockChanges<'a> {
         ensures weights { IfOk result (λ m. m.weights ≡ slice_set self.now.block.now.weights link weight) }
     {
         let weights = self.weights_with(alloc, link, weight)?;
+        let mut searches = None;
         metric_after(
             alloc,
             self.net,
             self.routing,
             self.shared.marks.as_slice(),
+            &mut searches,
             self.metric,
             &[link],
             weights,

@@ -82,11 +82,13 @@ impl<'a> Changes<'a> {
         ensures weights { IfOk result (λ m. m.weights ≡ slice_set (weights_of self.now) link weight) }
     {
         let weights = self.weights_with(alloc, link, weight)?;
+        let mut searches = None;
         metric_after(
             alloc,
             self.problem.net,
             self.problem.routing,
             self.shared.marks.as_slice(),
+            &mut searches,
             self.metric,
             &[link],
             weights,

@@ -1,6 +1,8 @@
 //! The rounds of a link, and the best of them.
-ghost use Rattle.std.specs.Prelude.{◌≡◌, ◌*◌, ◌+◌, ◌^◌, ◌<◌, ◌≤◌, IfOk, IsTrue, OnOk};
+ghost use Rattle.std.specs.Prelude.{◌≡◌, ◌*◌, ◌+◌, ◌^◌, ◌<◌, ◌≤◌, IfOk, IfSome, IsTrue, OnOk};
 ghost use Rattle.te_model.specs.Network.{is_well_formed};
+ghost use Rattle.shortest_path.specs.declared.rows.Direction.TheVariants.{Forward};
+ghost use Rattle.shortest_path.specs.Rows.{IsSearchGraph};
 ghost use Rattle.ratio_certificate.specs.Problems.{IsLinkOf, IsProblem, IsStartingMetric, IsWeightingOf};
 ghost use Rattle.ratio_certificate.specs.Rising.{AreRoundsTo, IsRoundMetric, NeedsNoMore};
 
@@ -9,6 +11,7 @@ use crate::raising::next_round;
 use crate::weighting::{Weighting, keep_lesser, weighting_of};
 use best_blocks::{Metric, SharedLink, metric_after, metric_of};
 use routing::Routing;
+use shortest_path::{Direction, Searches};
 use std::alloc::Global;
 use te_model::{Memory, Network};
 
@@ -35,30 +38,35 @@ pub fn first_metric(alloc: Global, problem: &Problem, shared: &SharedLink) -> Re
     ensures { IfOk result (IsRoundMetric problem.now.net.now problem.now.routing.now.routes shared.now 0) }
 {
     let weights = Vec::from_slice(alloc, problem.first.weights.as_slice())?;
+    let mut searches = None;
     metric_after(
         alloc,
         problem.net,
         problem.routing,
         shared.marks.as_slice(),
+        &mut searches,
         problem.first,
         &[],
         weights,
     )
 }
 
-/// The metric of the next round.
+/// The metric of the next round. The searches, if there are some yet, are along links in the network.
 fn next_metric(
     alloc: Global,
     problem: &Problem,
     shared: &SharedLink,
     metric: &Metric,
+    searches: &mut Option<Searches>,
     round: usize,
 ) -> Result<Metric, Memory>
     requires problem { IsProblem problem.now }
     requires shared { IsLinkOf problem.now shared.now }
     requires metric { IsRoundMetric problem.now.net.now problem.now.routing.now.routes shared.now round metric.now }
+    requires along { IfSome searches.old (IsSearchGraph problem.now.net.now Forward) }
     requires round { round < 15 }
-    ensures { IfOk result (IsRoundMetric problem.now.net.now problem.now.routing.now.routes shared.now (round + 1)) }
+    ensures metric { IfOk result (IsRoundMetric problem.now.net.now problem.now.routing.now.routes shared.now (round + 1)) }
+    ensures along { IfSome searches.new (IsSearchGraph problem.now.net.now Forward) }
 {
     let next = next_round(alloc, problem, shared, metric)?;
     let marks = shared.marks.as_slice();
@@ -68,6 +76,7 @@ fn next_metric(
         problem.net,
         problem.routing,
         marks,
+        searches,
         metric,
         next.path.as_slice(),
         weights,
@@ -79,6 +88,8 @@ fn next_metric(
 pub struct Rounds {
     pub metric: Metric,
     pub best: Weighting,
+    /// Searches along links in the network: each row is searched in the order of the round before.
+    pub searches: Option<Searches>,
 }
 
 /// The rounds at their start, which is round 0.
@@ -89,7 +100,12 @@ fn start(alloc: Global, problem: &Problem, shared: &SharedLink) -> Result<Rounds
 {
     let metric = first_metric(alloc, problem, shared)?;
     let best = weighting_of(alloc, problem, shared, &metric)?;
-    Ok(Rounds { metric, best })
+    let searches = Searches::with_orders(alloc, problem.net, Direction::Forward)?;
+    Ok(Rounds {
+        metric,
+        best,
+        searches: Some(searches),
+    })
 }
 
 /// Makes one more round.
@@ -106,7 +122,8 @@ fn advance(
     requires round { round < 15 }
     ensures { OnOk result (AreRoundsTo (round + 1) problem.now.net.now problem.now.routing.now.routes problem.now.set.now shared.now rounds.new) }
 {
-    let metric = next_metric(alloc, problem, shared, &rounds.metric, round)?;
+    let searches = &mut rounds.searches;
+    let metric = next_metric(alloc, problem, shared, &rounds.metric, searches, round)?;
     let found = weighting_of(alloc, problem, shared, &metric)?;
     rounds.metric = metric;
     keep_lesser(&mut rounds.best, found);

@@ -22,4 +22,4 @@ loop-i-init c =
     let net = c.args.net.now in
     let new = c.args.new.now in
     let marks = c.args.marks.now in
-    (tt, subst (λ (rows : List (List (Option ℕ))). AreRowsFrom 0 net new marks rows) (sym c.in_ok-next.ensures.items) (no_rows_from net new marks))
+    (c.requires.along, subst (λ (rows : List (List (Option ℕ))). AreRowsFrom 0 net new marks rows) (sym c.in_ok-next.ensures.items) (no_rows_from net new marks))

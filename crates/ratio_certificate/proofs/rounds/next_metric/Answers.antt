@@ -14,8 +14,8 @@ metric_after-requires-clause-small c =
     (next_small c.args.problem.now.net.now c.args.problem.now.routing.now.routes c.args.shared.now c.args.round c.args.metric.now c.in_ok-next.next c.requires.round c.requires.metric
     c.in_ok-next.ensures)
 
-pub returns : goal.returns
-returns c =
+pub returns-clause-metric : goal.returns-clause-metric
+returns-clause-metric c =
     next_made c.args.problem.now.net.now c.args.problem.now.routing.now.routes c.args.shared.now c.args.round c.args.metric.now c.in_ok-next.next c.as_slice-marks.result.now
     c.into_vec-weights.result.items c.metric_after.result c.as_slice-marks.ensures c.into_vec-weights.ensures c.requires.metric c.in_ok-next.ensures
     c.metric_after.ensures.metric c.metric_after.ensures.weights
