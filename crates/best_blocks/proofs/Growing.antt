@@ -1,6 +1,7 @@
 -- The numbers of a function, and the greatest number that passes a test.
-use Rattle.std.proofs.Common.{◌≡◌, ℕ, zero, suc, ◌+◌, ◌<◌, ◌≤◌, Bool, true, false, List, [], ◌∷◌, ◌++◌, arith, refl, inl, inr, ap, ◌∙◌, sym}
-use Rattle.std.proofs.lemmas.Bool.{cases_lt}
+use Rattle.std.proofs.Common.{◌≡◌, ℕ, zero, suc, ◌+◌, ◌<◌, ◌≤◌, Bool, true, false, List, [], ◌∷◌, ◌++◌, length, set, slice_index, arith, refl, inl, inr, ap, ◌∙◌, subst, sym}
+use Rattle.std.proofs.lemmas.Bool.{cases_eq, cases_lt}
+use Rattle.std.proofs.lemmas.List.{get_or-set_same, get_or-set_other}
 use Rattle.te_model.proofs.Choices.{list_exists, pushed_count, pushed_each}
 use Rattle.shortest_path.specs.Pairs.{AreValues}
 
@@ -16,6 +17,14 @@ value_pushed n value xs x are is = record {
   count = pushed_count xs x n are.count;
   each = pushed_each (λ k y. y ≡ value k) xs x 0 n are.count are.each is;
 }
+
+-- with the next one written
+pub value_set : (n : ℕ) (value : ℕ → ℕ) (xs : List ℕ) (x : ℕ) → n < length xs → x ≡ value n → ((p : ℕ) → p < n → slice_index xs p ≡ value p) →
+    (p : ℕ) → p < n + 1 → slice_index (set xs n x) p ≡ value p
+value_set n value xs x inside is so_far p below = elim (cases_eq p n) [
+  | inl same ↦ subst (λ k. slice_index (set xs n x) k ≡ value k) (sym same) (get_or-set_same xs n x 0 inside ∙ is)
+  | inr other ↦ get_or-set_other xs n p x 0 other ∙ so_far p (omega (arith, below, other))
+]
 
 -- b is the greatest number from 1 to n that passes
 pub record IsGreatestPassing (test : ℕ → Bool) (n b : ℕ) : Type 0 where

@@ -2,6 +2,7 @@ pub mod Growing
 pub mod Sizes
 pub mod Pushed
 pub mod Quotients
+pub mod ListedQuotients
 pub mod Needs
 pub mod Balances
 pub mod Positive

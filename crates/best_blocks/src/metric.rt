@@ -45,10 +45,10 @@ fn distances_in(
     ensures { IfOk result (λ d. AreValues (length routing.now.routes) (distance_in rows.now routing.now.routes) d.items) }
 {
     let routes = routing.routes.as_slice();
-    let mut distances = Vec::with_capacity(alloc, routes.len())?;
+    let mut distances = vec![in alloc; 0; routes.len()]?;
     for p in 0..routes.len() {
         let pair = routes[p].pair;
-        distances.push(distance_between(rows, pair.src, pair.dst))?;
+        distances[p] = distance_between(rows, pair.src, pair.dst);
     }
     Ok(distances)
 }

@@ -1,6 +1,9 @@
 //! The greatest share by distance.
 ghost use Rattle.std.specs.Prelude.{◌≡◌, ◌*◌, ◌<◌, ◌≤◌, ℕ, true, false, length, slice_index};
 ghost use Rattle.best_blocks.specs.Quotient.{IsGreatestAt};
+ghost use Rattle.best_blocks.specs.Used.{AreSharesListed};
+
+use crate::sharing::SharedLink;
 
 /// A pair, its share, and its distance.
 #[derive(Clone, Copy)]
@@ -11,13 +14,14 @@ pub struct Quotient {
 }
 
 /// Whether a pair with a share has the distance 0.
-pub fn has_free_share(shares: &[u64], distances: &[u64]) -> bool
-    requires { length distances.now ≡ length shares.now }
-    ensures none { result ≡ false → (p : ℕ) → p < length shares.now → 0 < slice_index shares.now p → 1 ≤ slice_index distances.now p }
-    ensures some { result ≡ true → (p : ℕ) × (p < length shares.now) × (0 < slice_index shares.now p) × (slice_index distances.now p ≡ 0) }
+pub fn has_free_share(shared: &SharedLink, distances: &[u64]) -> bool
+    requires count { length distances.now ≡ length shared.now.shares }
+    requires listed { AreSharesListed shared.now }
+    ensures none { result ≡ false → (p : ℕ) → p < length shared.now.shares → 0 < slice_index shared.now.shares p → 1 ≤ slice_index distances.now p }
+    ensures some { result ≡ true → (p : ℕ) × (p < length shared.now.shares) × (0 < slice_index shared.now.shares p) × (slice_index distances.now p ≡ 0) }
 {
-    for p in 0..shares.len() {
-        if shares[p] > 0 && distances[p] == 0 {
+    for entry in shared.list.as_slice() {
+        if distances[entry.pair as usize] == 0 {
             return true;
         }
     }
@@ -36,22 +40,24 @@ fn greater(first: Quotient, second: Quotient) -> Quotient
 }
 
 /// The greatest share by distance, the first of equal ones.
-pub fn greatest_quotient(shares: &[u64], distances: &[u64]) -> Quotient
-    requires count { length distances.now ≡ length shares.now }
-    requires apart { (p : ℕ) → p < length shares.now → 0 < slice_index shares.now p → 1 ≤ slice_index distances.now p }
-    requires some { (p : ℕ) × (p < length shares.now) × (0 < slice_index shares.now p) }
-    ensures { IsGreatestAt (length shares.now) (slice_index shares.now) (slice_index distances.now) result.pair result.share result.distance }
+pub fn greatest_quotient(shared: &SharedLink, distances: &[u64]) -> Quotient
+    requires count { length distances.now ≡ length shared.now.shares }
+    requires listed { AreSharesListed shared.now }
+    requires apart { (p : ℕ) → p < length shared.now.shares → 0 < slice_index shared.now.shares p → 1 ≤ slice_index distances.now p }
+    requires some { (p : ℕ) × (p < length shared.now.shares) × (0 < slice_index shared.now.shares p) }
+    ensures { IsGreatestAt (length shared.now.shares) (slice_index shared.now.shares) (slice_index distances.now) result.pair result.share result.distance }
 {
     let mut best = Quotient {
         pair: 0,
         share: 0,
         distance: 1,
     };
-    for p in 0..shares.len() {
+    for entry in shared.list.as_slice() {
+        let pair = entry.pair as usize;
         let next = Quotient {
-            pair: p,
-            share: shares[p],
-            distance: distances[p],
+            pair,
+            share: entry.share,
+            distance: distances[pair],
         };
         best = greater(best, next);
     }
@@ -59,11 +65,12 @@ pub fn greatest_quotient(shares: &[u64], distances: &[u64]) -> Quotient
 }
 
 /// The first pair with the greatest share by distance.
-pub fn dearest_pair(shares: &[u64], distances: &[u64]) -> usize
-    requires count { length distances.now ≡ length shares.now }
-    requires apart { (p : ℕ) → p < length shares.now → 0 < slice_index shares.now p → 1 ≤ slice_index distances.now p }
-    requires some { (p : ℕ) × (p < length shares.now) × (0 < slice_index shares.now p) }
-    ensures { (a : ℕ) × (b : ℕ) × IsGreatestAt (length shares.now) (slice_index shares.now) (slice_index distances.now) result a b }
+pub fn dearest_pair(shared: &SharedLink, distances: &[u64]) -> usize
+    requires count { length distances.now ≡ length shared.now.shares }
+    requires listed { AreSharesListed shared.now }
+    requires apart { (p : ℕ) → p < length shared.now.shares → 0 < slice_index shared.now.shares p → 1 ≤ slice_index distances.now p }
+    requires some { (p : ℕ) × (p < length shared.now.shares) × (0 < slice_index shared.now.shares p) }
+    ensures { (a : ℕ) × (b : ℕ) × IsGreatestAt (length shared.now.shares) (slice_index shared.now.shares) (slice_index distances.now) result a b }
 {
-    greatest_quotient(shares, distances).pair
+    greatest_quotient(shared, distances).pair
 }

@@ -25,16 +25,17 @@ pub struct Scale {
 }
 
 /// The best scale for every matrix, or `None` where there is none.
-fn scale_for_all(shares: &[u64], distances: &[u64]) -> Option<Scale>
-    requires count { length distances.now ≡ length shares.now }
-    requires some { (p : ℕ) × (p < length shares.now) × (0 < slice_index shares.now p) }
-    ensures some { IfSome result (λ s. IsScaleForAll (length shares.now) (slice_index shares.now) (slice_index distances.now) s.a s.b) }
-    ensures none { IfNone result ((p : ℕ) × (p < length shares.now) × (0 < slice_index shares.now p) × (slice_index distances.now p ≡ 0)) }
+fn scale_for_all(shared: &SharedLink, distances: &[u64]) -> Option<Scale>
+    requires count { length distances.now ≡ length shared.now.shares }
+    requires listed { AreSharesListed shared.now }
+    requires some { (p : ℕ) × (p < length shared.now.shares) × (0 < slice_index shared.now.shares p) }
+    ensures some { IfSome result (λ s. IsScaleForAll (length shared.now.shares) (slice_index shared.now.shares) (slice_index distances.now) s.a s.b) }
+    ensures none { IfNone result ((p : ℕ) × (p < length shared.now.shares) × (0 < slice_index shared.now.shares p) × (slice_index distances.now p ≡ 0)) }
 {
-    if has_free_share(shares, distances) {
+    if has_free_share(shared, distances) {
         return None;
     }
-    let best = greatest_quotient(shares, distances);
+    let best = greatest_quotient(shared, distances);
     Some(Scale {
         a: best.share,
         b: best.distance,
@@ -63,7 +64,7 @@ fn scale_of(set: &DemandSet, shared: &SharedLink, distances: &[u64]) -> Option<S
     ensures none { IfNone result (HasNoScale set.now (length shared.now.shares) (slice_index shared.now.shares) (slice_index distances.now)) }
 {
     match set {
-        DemandSet::All => scale_for_all(shared.shares.as_slice(), distances),
+        DemandSet::All => scale_for_all(shared, distances),
         DemandSet::Margin { .. } => scale_between(set, shared, distances),
         DemandSet::Box { .. } => scale_between(set, shared, distances),
     }

@@ -24,7 +24,7 @@ fn dearest_source(
     requires weights { AreWeights problem.now.net.now metric.now.weights }
     ensures { IfOk result (λ m. AreCriticalMarks problem.now.net.now problem.now.routing.now.routes problem.now.set.now shared.now metric.now.weights m.items) }
 {
-    let dearest = dearest_pair(shared.shares.as_slice(), metric.distances.as_slice());
+    let dearest = dearest_pair(shared, metric.distances.as_slice());
     let source = problem.routing.routes.as_slice()[dearest].pair.src;
     let mut marks = vec![in alloc; false; problem.net.names.as_slice().len()]?;
     marks[source as usize] = true;

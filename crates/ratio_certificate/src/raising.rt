@@ -80,7 +80,7 @@ pub fn next_round(
     ensures { IfOk result (IsRoundAfter problem.now.net.now problem.now.routing.now.routes shared.now.link metric.now.weights) }
 {
     let weights = metric.weights.as_slice();
-    let dearest = dearest_pair(shared.shares.as_slice(), metric.distances.as_slice());
+    let dearest = dearest_pair(shared, metric.distances.as_slice());
     let pair = problem.routing.routes.as_slice()[dearest].pair;
     match least_path(alloc, problem.net, weights, pair.src, pair.dst)? {
         Some(path) => {

@@ -1,13 +1,12 @@
-use Rattle.std.proofs.Common.{◌≡◌, ◌+◌, ℕ, List, get_or, ap, sym, subst, ◌∙◌}
+use Rattle.std.proofs.Common.{◌≡◌, ◌<◌, List, get_or, length, length-set, arith, ap, sym, subst, ◌∙◌}
 use Rattle.std.specs.Prelude.{unwrap_or}
 use Rattle.std.proofs.lemmas.List.{get_or_read}
 use Rattle.te_model.specs.declared.route.PairRoutes.{PairRoutes}
 use Rattle.te_model.specs.Path.{no_routes, routes_at}
 use Rattle.shortest_path.specs.Graph.{distance_at}
-use Rattle.shortest_path.specs.Pairs.{AreValues}
 use Rattle.best_blocks.specs.Metric.{distance_in}
 use Rattle.best_blocks.specs.Rows.{distances_from}
-use Rattle.best_blocks.proofs.Growing.{value_pushed}
+use Rattle.best_blocks.proofs.Growing.{value_set}
 use Rattle.best_blocks.proofs.metric.distances_in.Goals as goal
 
 pub loop-p-preserved : goal.loop-p-preserved
@@ -23,5 +22,8 @@ loop-p-preserved c =
     let is : c.distance_between.result ≡ distance_in rows routes p =
     subst (λ (r : PairRoutes). c.distance_between.result ≡ unwrap_or (distance_at (distances_from rows r.pair.src) r.pair.dst) 0) at c.distance_between.ensures
     in
-    subst (AreValues (p + 1) (distance_in rows routes)) (sym {A = List ℕ} c.in_ok-push.ensures.items)
-    (value_pushed p (distance_in rows routes) c.loop-p.distances.items c.distance_between.result c.loop-p.invariant is)
+    let distances = c.loop-p.distances.items in
+    let inside : p < length distances =
+    omega (arith, c.loop-p-test.true, c.loop-p.invariant.0, ap (λ (rs : List PairRoutes). length rs) c.as_slice-routes.ensures)
+    in
+    (length-set distances p c.distance_between.result ∙ c.loop-p.invariant.0, value_set p (distance_in rows routes) distances c.distance_between.result inside is c.loop-p.invariant.1)

@@ -1,34 +1,18 @@
-use Rattle.std.proofs.Common.{◌≡◌, ◌+◌, ◌*◌, length, slice_index, arith, sym, subst, inl, inr}
-use Rattle.std.proofs.lemmas.Bool.{cases_lt}
-use Rattle.best_blocks.specs.declared.quotient.Quotient.{Quotient}
-use Rattle.best_blocks.specs.Quotient.{IsGreatestAt}
-use Rattle.best_blocks.proofs.Quotients.{IsBestSoFar, best_init, best_taken, best_kept, best_of_all}
+use Rattle.std.proofs.Common.{◌≡◌, List, length, arith, ap}
+use Rattle.routing.specs.declared.shares.PairShare.{PairShare}
+use Rattle.best_blocks.proofs.ListedQuotients.{listed_all, listed_more, listed_none}
 use Rattle.best_blocks.proofs.quotient.greatest_quotient.Goals as goal
 
-pub loop-p-init : goal.loop-p-init
-loop-p-init c = best_init (slice_index c.args.shares.now) (slice_index c.args.distances.now)
+pub loop-entry-init : goal.loop-entry-init
+loop-entry-init c = listed_none c.args.shared.now.list c.args.distances.now
 
-pub loop-p-preserved : goal.loop-p-preserved
-loop-p-preserved c =
-    let shares = slice_index c.args.shares.now in
-    let distance = slice_index c.args.distances.now in
-    let p = c.loop-p.p in
-    let best = c.loop-p.best in
-    let so_far = c.loop-p.invariant in
-    elim (cases_lt (best.share * distance p) (shares p * best.distance)) [
-      | inl more ↦
-          subst (λ (q : Quotient). IsBestSoFar (p + 1) shares distance q.pair q.share q.distance) (sym (c.greater-best.ensures.second more))
-          (best_taken p shares distance best.pair best.share best.distance so_far (λ q below. c.requires.apart q (omega (arith, below, c.loop-p-test.true))) more)
-      | inr less ↦
-          subst (λ (q : Quotient). IsBestSoFar (p + 1) shares distance q.pair q.share q.distance) (sym (c.greater-best.ensures.first less))
-          (best_kept p shares distance best.pair best.share best.distance so_far less)
-    ]
+pub loop-entry-preserved : goal.loop-entry-preserved
+loop-entry-preserved c =
+    listed_more c.args.shared.now c.args.distances.now c.loop-entry.entry-index c.as_slice-entry-items.result.now c.loop-entry.best c.greater-best.result c.requires.listed
+    c.requires.apart c.as_slice-entry-items.ensures c.loop-entry-test.true c.greater-best.ensures.second c.greater-best.ensures.first c.loop-entry.invariant
 
 pub returns : goal.returns
 returns c =
-    let (p, below, some) = c.requires.some in
-    let shares = slice_index c.args.shares.now in
-    let distance = slice_index c.args.distances.now in
-    let all : c.loop-p.p ≡ length c.args.shares.now = omega arith in
-    subst (λ n. IsGreatestAt n shares distance c.loop-p.best.pair c.loop-p.best.share c.loop-p.best.distance) all
-    (best_of_all c.loop-p.p shares distance c.loop-p.best.pair c.loop-p.best.share c.loop-p.best.distance c.loop-p.invariant p (omega arith) some)
+    let all : c.loop-entry.entry-index ≡ length c.args.shared.now.list = omega (arith, ap (λ (xs : List PairShare). length xs) c.as_slice-entry-items.ensures) in
+    listed_all c.args.shared.now c.args.distances.now c.loop-entry.entry-index c.loop-entry.best.pair c.loop-entry.best.share c.loop-entry.best.distance
+    c.requires.listed all c.requires.some c.loop-entry.invariant

@@ -1,6 +1,5 @@
-use Rattle.std.proofs.Common.{slice_index}
-use Rattle.best_blocks.proofs.Quotients.{IsBestSoFar}
+use Rattle.best_blocks.proofs.ListedQuotients.{IsBestListed}
 use Rattle.best_blocks.proofs.quotient.greatest_quotient.Given as goal
 
-abbrev pub invariant-loop-p : goal.invariant-loop-p
-invariant-loop-p l = IsBestSoFar l.p (slice_index l.shares) (slice_index l.distances) l.best.pair l.best.share l.best.distance
+abbrev pub invariant-loop-entry : goal.invariant-loop-entry
+invariant-loop-entry l = IsBestListed l.entry-index l.shared.list l.distances l.best.pair l.best.share l.best.distance
