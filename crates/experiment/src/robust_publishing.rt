@@ -15,7 +15,7 @@ ghost use Rattle.scheme.specs.Fault.{IsFault};
 ghost use Rattle.scheme.specs.Reach.{AllReached, ArePairsOf};
 
 use path_budget::trim;
-use ratio_certificate::{Offer, make, refine};
+use ratio_certificate::{Offer, improve, make};
 use robust_routing::{Robust, RobustPlan};
 use routing::Routing;
 use scheme::{Scheme, SchemeFault};
@@ -78,7 +78,7 @@ fn certify(
 {
     if has_all_matrices(&set) {
         let offers = offers_by(alloc, net, plan)?;
-        refine(alloc, net, routing, set, &offers)
+        improve(alloc, net, routing, set, &offers, true)
     } else {
         make(alloc, net, routing, set)
     }

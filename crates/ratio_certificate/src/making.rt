@@ -309,27 +309,6 @@ pub fn improve(
     certify(alloc, net, routing, written, format, offers, near_offers)
 }
 
-/// What `improve` gives of weights that may be near the best ones.
-///
-/// Each offer has a weight from 1 to 2^28 for each link of the network. `Memory` comes where memory is wanting.
-pub fn refine(
-    alloc: Global,
-    net: &Network,
-    routing: &Routing,
-    set: DemandSet,
-    offers: &[Offer],
-) -> Result<Certificate, Memory>
-    requires network { IsTrue (is_well_formed net.now) }
-    requires links { 1 ≤ link_count net.now }
-    requires routing { IsRoutingWithin net.now routing.now.routes }
-    requires set { IsSetWithin (length routing.now.routes) set }
-    requires offers { AreOffers net.now offers.now }
-    ensures made { IfOk result (IsMade net.now routing.now.routes set) }
-    ensures within { IfOk result (λ c. AreWithinOffers net.now routing.now.routes (made_set net.now set) offers.now c.blocks) }
-{
-    improve(alloc, net, routing, set, offers, true)
-}
-
 /// The weights that are found for all matrices, as offers for their links.
 fn offers_of_all(alloc: Global, net: &Network, routing: &Routing) -> Result<Vec<Offer>, Memory>
     requires network { IsTrue (is_well_formed net.now) }

@@ -9,15 +9,15 @@ both : {T E : Type 0} (r : Result T E) (P Q S : T → Type 0) → ((x : T) → P
 both (Ok x) P Q S join p q = join x p q
 both (Err e) P Q S join p q = tt
 
-pub refine-requires-clause-offers : goal.refine-requires-clause-offers
-refine-requires-clause-offers c = subst (λ (os : List Offer). AreOffers c.args.net.now os) (sym c.deref.ensures.value) c.in_ok-offers.ensures
+pub improve-requires-clause-offers : goal.improve-requires-clause-offers
+improve-requires-clause-offers c = subst (λ (os : List Offer). AreOffers c.args.net.now os) (sym c.deref.ensures.value) c.in_ok-offers.ensures
 
 pub returns-in_ok-offers : goal.returns-in_ok-offers
 returns-in_ok-offers c =
-    IfOk-weaker c.refine.result _ (IsMadeWithinAll c.args.net.now c.args.routing.now.routes c.args.set) (λ m made. record {
+    IfOk-weaker c.improve.result _ (IsMadeWithinAll c.args.net.now c.args.routing.now.routes c.args.set) (λ m made. record {
       made = made;
       all_matrices = λ bounded. absurd (subst HasBounds (c.has_all_matrices.ensures c.if-has_all_matrices.true) bounded);
-    }) c.refine.ensures.made
+    }) c.improve.ensures.made
 
 pub returns-else-has_all_matrices : goal.returns-else-has_all_matrices
 returns-else-has_all_matrices c =
