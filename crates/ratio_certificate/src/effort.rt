@@ -32,7 +32,7 @@ const WHOLE: Effort = Effort {
 /// What they spend on a larger network, where hundreds of links may need nearly the same: ratios are a hundredth greater at most.
 const PART: Effort = Effort {
     between: 3,
-    second_sweeps: 120,
+    second_sweeps: 80,
     first_slack: 200,
     second_slack: 100,
     last_slack: 100,

@@ -194,8 +194,8 @@ fn between_after(net: &Network, between: usize, is_new: bool) -> usize
     }
 }
 
-/// Goes on to the next sweep. If it is time, rows are searched before it by its weights, and the least ways of the dear pairs that
-/// they show are kept.
+/// Goes on to the next sweep, by whose weights the ways are measured. If it is time, rows are searched before it by its weights, and
+/// the least ways of the dear pairs that they show are kept.
 fn go_on(
     alloc: Global,
     problem: &Problem,
@@ -212,13 +212,13 @@ fn go_on(
     ensures ways { OnOk result (AreLastLinks problem.now.net.now ways.new.lasts.items) }
     ensures at { OnOk result (IsRestrictedSearchOf problem.now shared.now at.new) }
 {
+    at.kept.measure(&at.weights);
     if at.left > 0 {
         at.left -= 1;
         return Ok(());
     }
     let weights = Vec::from_slice(alloc, &at.weights)?;
     move_to(alloc, problem, shared, &mut at.search, weights)?;
-    at.kept.measure(&at.weights);
     let is_new = keep_ways(
         alloc,
         problem,
@@ -238,17 +238,15 @@ fn respond(
     problem: &Problem,
     shared: &SharedLink,
     parts: u64,
-    at: &mut RestrictedSearch,
+    at: &RestrictedSearch,
     loads: &mut [u128],
 )
     requires shared { IsLinkOf problem.now shared.now }
     requires parts { (1 ≤ parts) × (parts ≤ 128) }
-    requires at { IsRestrictedSearchOf problem.now shared.now at.old }
+    requires at { IsRestrictedSearchOf problem.now shared.now at.now }
     requires loads { AreLoadsWithin problem.now.net.now loads.old }
-    ensures at { IsRestrictedSearchOf problem.now shared.now at.new }
     ensures loads { AreLoadsWithin problem.now.net.now loads.new }
 {
-    at.kept.measure(&at.weights);
     let scale = at.kept.greatest_quotient();
     at.kept.write_loads(scale, 2 * u128::from(parts), loads);
 }
