@@ -29,7 +29,8 @@ const WHOLE: Effort = Effort {
     last_slack: 200,
 };
 
-/// What they spend on a larger network, where hundreds of links may need nearly the same: ratios are a hundredth greater at most.
+/// What they spend on a larger network, where hundreds of links may need nearly the same. On the networks that were tried ratios were at
+/// most a hundredth greater; no clause says so.
 const PART: Effort = Effort {
     between: 3,
     second_sweeps: 80,

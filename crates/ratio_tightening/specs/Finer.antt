@@ -39,7 +39,7 @@ with_twice_scale block = record {
   minus = block.minus;
 }
 
--- whether something is added and a is below one million, so that what is added may have no room to double
+-- whether there are numbers of what is added, and a is below one million, so that these may have no room to double
 abbrev pub has_small_a : Block → Bool
 has_small_a block = nat_lt 0 (length block.plus) && nat_lt block.a SHARE_UNIT
 

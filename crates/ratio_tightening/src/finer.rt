@@ -94,7 +94,7 @@ fn with_twice_scale(alloc: Global, block: &Block) -> Result<Block, Memory>
     Ok(twice)
 }
 
-// Whether something is added and `a` is below one million.
+// Whether there are numbers of what is added, and `a` is below one million.
 fn has_small_a(block: &Block) -> bool
     ensures { result ≡ has_small_a block.now }
 {

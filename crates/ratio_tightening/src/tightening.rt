@@ -64,9 +64,9 @@ fn polished_lesser(
     Ok(blocks)
 }
 
-/// A certificate of the same format, network, routing and set whose ratio is no greater, and no greater than any need of the given
-/// blocks asks for: for each link with a share a best block, or the given one where it needs less, and those that need most polished.
-/// The ratio is the greatest of their needs, so that a wrong ratio of sound blocks is mended.
+/// A certificate of the same format, network, routing and set: for each link with a share a best block, or the given one where it needs
+/// less, and those that need most polished. The ratio is the greatest of their needs, and so at most the greatest need of the given
+/// blocks, whatever the given ratio is: a wrong one of sound blocks is mended.
 ///
 /// `Memory` comes where memory is wanting.
 pub fn tighten(alloc: Global, certificate: Certificate) -> Result<Certificate, Memory>

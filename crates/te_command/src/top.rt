@@ -16,8 +16,8 @@ use te_ports::{Depot, Sink};
 ///
 /// | Status | When | What is written |
 /// |---|---|---|
-/// | 0 | the answer is yes, a certificate is published or converted, the schemes are compared, a step of them is broken down, a drawn network is summed up, an update is planned, rates are made, a hose is bounded, links are bounded, or a certificate is repriced or tightened | the line, the certificate's file, the report, the breakdown, the summary, the plan, the rates, the hose certificate or the needs of the links, to `out` |
-/// | 1 | the answer is no, an update has no plan, or the declared pairs of rates are others | the line, to `out` |
+/// | 0 | the answer is yes, a certificate is published or converted, the schemes are compared, a step of them is broken down, a drawn network is summed up, a witness is found, an update is planned, rates are made, a hose is bounded, links are bounded, or a certificate is repriced, tightened or simulated | the line, the certificate's file, the report, the breakdown, the summary, the witness, the plan, the rates, the hose certificate or the needs of the links, to `out` |
+/// | 1 | the answer is no, also to a certificate that is to be bounded by link, repriced or tightened; an update has no plan, or the declared pairs of rates are others | the line, to `out` |
 /// | 2 | the words are no form of a command | `usage`, to `err` |
 /// | 3 | a file is refused | the file and the reason, to `err` |
 /// | 4 | a read failed | `fault: read`, to `err` |
