@@ -1,7 +1,9 @@
 //! The making of certificates.
-ghost use Rattle.std.specs.Prelude.{◌≡◌, ◌*◌, ◌^◌, ◌≤◌, IfOk, IsTrue, OnOk, length};
+ghost use Rattle.std.specs.Prelude.{◌≡◌, ◌*◌, ◌^◌, ◌≤◌, IfOk, IfSome, IsTrue, OnOk, length};
 ghost use Rattle.te_model.specs.Network.{is_well_formed, link_count};
 ghost use Rattle.routing.specs.Shares.{AreShares};
+ghost use Rattle.shortest_path.specs.declared.rows.Direction.TheVariants.{Forward};
+ghost use Rattle.shortest_path.specs.Rows.{IsSearchGraph};
 ghost use Rattle.best_blocks.specs.Best.{IsBestBlock};
 ghost use Rattle.best_blocks.specs.Conditions.{IsRoutingWithin, IsSetWithin};
 ghost use Rattle.ratio_certificate.specs.Form.{made_set, HasBounds, IsFormatFor};
@@ -23,6 +25,7 @@ use crate::search::search;
 use crate::weighting::Weighting;
 use best_blocks::{Metric, SharedLink, best_block, greatest_need, shared_link};
 use routing::{Routing, Shares};
+use shortest_path::{Direction, Searches};
 use std::alloc::Global;
 use te_model::{Block, Certificate, DemandSet, Head, Items, Memory, Network, copy_network};
 
@@ -63,28 +66,32 @@ fn links_of(alloc: Global, problem: &Problem) -> Result<Vec<SharedLink>, Memory>
     shared_links(alloc, problem, &shares)
 }
 
-/// Weights of the link from which the search starts: those of its best round, or of an offer where these need less.
+/// Weights of the link from which the search starts: those of its best round, or of an offer where these need less. The searches, if
+/// there are some, are along links in the network.
 fn best_start(
     alloc: Global,
     problem: &Problem,
     shared: &SharedLink,
     offers: &[Offer],
+    searches: &mut Option<Searches>,
 ) -> Result<Weighting, Memory>
     requires problem { IsProblem problem.now }
     requires shared { IsLinkOf problem.now shared.now }
     requires offers { AreOffers problem.now.net.now offers.now }
+    requires along { IfSome searches.old (IsSearchGraph problem.now.net.now Forward) }
     ensures link { IfOk result (λ w. w.link ≡ shared.now.link) }
     ensures weighting { IfOk result (IsWeightingOf problem.now) }
     ensures least { IfOk result (NeedsNoMore problem.now.net.now problem.now.routing.now.routes problem.now.set.now shared.now.link 15) }
     ensures small { IfOk result (λ w. w.need ≤ 1000000 * 2 ^ 42) }
     ensures offers { IfOk result (NeedsNoMoreThanOffers (length offers.now) problem.now.net.now problem.now.routing.now.routes problem.now.set.now offers.now) }
+    ensures along { OnOk result (IfSome searches.new (IsSearchGraph problem.now.net.now Forward)) }
 {
-    let mut best = best_round(alloc, problem, shared)?;
+    let mut best = best_round(alloc, problem, shared, searches)?;
     take_offers(alloc, problem, shared, offers, &mut best)?;
     Ok(best)
 }
 
-/// Weights of each of the links from which the search starts.
+/// Weights of each of the links from which the search starts. The rounds of a link search each row in the order of the link before.
 fn starts(
     alloc: Global,
     problem: &Problem,
@@ -95,9 +102,11 @@ fn starts(
     requires offers { AreOffers problem.now.net.now offers.now }
     ensures { IfOk result (λ l. AreStarts (length links.now) problem.now.net.now problem.now.routing.now.routes problem.now.set.now links.now offers.now l.items) }
 {
+    let searches = Searches::with_orders(alloc, problem.net, Direction::Forward)?;
+    let mut kept = Some(searches);
     let mut list = Vec::with_capacity(alloc, links.len())?;
     for shared in links {
-        let weighting = best_start(alloc, problem, shared, offers)?;
+        let weighting = best_start(alloc, problem, shared, offers, &mut kept)?;
         list.push(weighting)?;
     }
     Ok(list)

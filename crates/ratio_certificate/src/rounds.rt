@@ -11,7 +11,7 @@ use crate::raising::next_round;
 use crate::weighting::{Weighting, keep_lesser, weighting_of};
 use best_blocks::{Metric, SharedLink, metric_after, metric_of};
 use routing::Routing;
-use shortest_path::{Direction, Searches};
+use shortest_path::Searches;
 use std::alloc::Global;
 use te_model::{Memory, Network};
 
@@ -92,19 +92,24 @@ pub struct Rounds {
     pub searches: Option<Searches>,
 }
 
-/// The rounds at their start, which is round 0.
-fn start(alloc: Global, problem: &Problem, shared: &SharedLink) -> Result<Rounds, Memory>
+/// The rounds at their start, which is round 0. The searches, if there are some, are along links in the network.
+fn start(
+    alloc: Global,
+    problem: &Problem,
+    shared: &SharedLink,
+    searches: Option<Searches>,
+) -> Result<Rounds, Memory>
     requires problem { IsProblem problem.now }
     requires shared { IsLinkOf problem.now shared.now }
+    requires along { IfSome searches (IsSearchGraph problem.now.net.now Forward) }
     ensures { IfOk result (AreRoundsTo 0 problem.now.net.now problem.now.routing.now.routes problem.now.set.now shared.now) }
 {
     let metric = first_metric(alloc, problem, shared)?;
     let best = weighting_of(alloc, problem, shared, &metric)?;
-    let searches = Searches::with_orders(alloc, problem.net, Direction::Forward)?;
     Ok(Rounds {
         metric,
         best,
-        searches: Some(searches),
+        searches,
     })
 }
 
@@ -148,20 +153,25 @@ fn make_rounds(
     Ok(())
 }
 
-/// The weights of the round that needs least, the first of equal ones.
+/// The weights of the round that needs least, the first of equal ones. The searches, if there are some, are along links in the
+/// network: each row is searched in the order in which they ended, and so for the next link in that of this one.
 pub fn best_round(
     alloc: Global,
     problem: &Problem,
     shared: &SharedLink,
+    searches: &mut Option<Searches>,
 ) -> Result<Weighting, Memory>
     requires problem { IsProblem problem.now }
     requires shared { IsLinkOf problem.now shared.now }
+    requires along { IfSome searches.old (IsSearchGraph problem.now.net.now Forward) }
     ensures link { IfOk result (λ w. w.link ≡ shared.now.link) }
     ensures weighting { IfOk result (IsWeightingOf problem.now) }
     ensures least { IfOk result (NeedsNoMore problem.now.net.now problem.now.routing.now.routes problem.now.set.now shared.now.link 15) }
     ensures small { IfOk result (λ w. w.need ≤ 1000000 * 2 ^ 42) }
+    ensures along { OnOk result (IfSome searches.new (IsSearchGraph problem.now.net.now Forward)) }
 {
-    let mut rounds = start(alloc, problem, shared)?;
+    let mut rounds = start(alloc, problem, shared, searches.take())?;
     make_rounds(alloc, problem, shared, &mut rounds)?;
+    *searches = rounds.searches.take();
     Ok(rounds.best)
 }

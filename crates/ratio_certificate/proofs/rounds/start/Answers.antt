@@ -1,5 +1,4 @@
 use Rattle.ratio_certificate.proofs.RoundMetrics.{first_least, first_small}
-use Rattle.shortest_path.proofs.Sound.{sound}
 use Rattle.ratio_certificate.proofs.rounds.start.Goals as goal
 
 pub returns : goal.returns
@@ -18,8 +17,5 @@ returns c =
           c.in_ok-best.ensures.weights;
       small = first_small net routes set l m best c.requires.problem.network c.requires.problem.routing c.requires.shared c.in_ok-metric.ensures c.in_ok-best.ensures.weighting c.in_ok-best.ensures.link
           c.in_ok-best.ensures.weights;
-      along = c.in_ok-searches.ensures;
+      along = c.requires.along;
     }
-
-pub with_orders-requires : goal.with_orders-requires
-with_orders-requires c = sound c.args.problem.now.net.now c.requires.problem.network
