@@ -184,20 +184,23 @@ fn block_under(
     }
 }
 
-/// The best block of the weights.
+/// The best block of the weights. The searches are along links in the network.
 fn block_of(
     alloc: Global,
     problem: &Problem,
     shared: &SharedLink,
+    searches: &mut Searches,
     weighting: &Weighting,
 ) -> Result<Block, Memory>
     requires problem { IsProblem problem.now }
     requires shared { IsLinkOf problem.now shared.now }
+    requires along { IsSearchGraph problem.now.net.now Forward searches.old }
     requires weighting { IsWeightingOf problem.now weighting.now }
     requires link { weighting.now.link ≡ shared.now.link }
-    ensures { IfOk result (IsBestBlock problem.now.net.now problem.now.routing.now.routes problem.now.set.now weighting.now.link weighting.now.weights) }
+    ensures best { IfOk result (IsBestBlock problem.now.net.now problem.now.routing.now.routes problem.now.set.now weighting.now.link weighting.now.weights) }
+    ensures same { searches.new ≡ searches.old }
 {
-    let metric = metric_by(alloc, problem, shared, weighting)?;
+    let metric = metric_by(alloc, problem, shared, searches, weighting)?;
     block_under(alloc, problem, shared, &metric)
 }
 
@@ -212,9 +215,10 @@ fn blocks_of(
     requires list { AreWeightingsOf problem.now links.now list.now list.now }
     ensures { IfOk result (λ b. AreBlocksOf (length list.now) problem.now.net.now problem.now.routing.now.routes problem.now.set.now list.now b.items) }
 {
+    let mut searches = Searches::with_orders(alloc, problem.net, Direction::Forward)?;
     let mut blocks = Vec::with_capacity(alloc, list.len())?;
     for k in 0..list.len() {
-        let block = block_of(alloc, problem, &links[k], &list[k])?;
+        let block = block_of(alloc, problem, &links[k], &mut searches, &list[k])?;
         blocks.push(block)?;
     }
     Ok(blocks)

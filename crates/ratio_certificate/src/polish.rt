@@ -1,6 +1,8 @@
 //! The polish: the first weights of the greatest need are doubled until they are fine, and then changed one by one while that improves their need.
 ghost use Rattle.std.specs.Prelude.{◌≡◌, ◌^◌, ◌<◌, ◌≤◌, ℕ, IfOk, IfSome, IfNone, OnOk, length, slice_index};
 ghost use Rattle.te_model.specs.Network.{link_count};
+ghost use Rattle.shortest_path.specs.declared.rows.Direction.TheVariants.{Forward};
+ghost use Rattle.shortest_path.specs.Rows.{IsSearchGraph};
 ghost use Rattle.ratio_certificate.specs.Places.{weighting_at};
 ghost use Rattle.ratio_certificate.specs.Polished.{IsCoarse, IsFine, IsWorst};
 ghost use Rattle.ratio_certificate.specs.Problems.{AreLinksOf, AreWeightingsOf, IsDoneOf, IsLinkOf, IsMetricOf, IsProblem, IsProgressOf, IsSettledOf, IsWeightingOf};
@@ -12,7 +14,8 @@ use crate::critical::critical_sources;
 use crate::fine::is_fine;
 use crate::problem::Problem;
 use crate::weighting::{Weighting, weighting_of};
-use best_blocks::{Metric, Scale, SharedLink, metric_of};
+use best_blocks::{Metric, Scale, SharedLink, metric_of, metric_with};
+use shortest_path::{Direction, Searches};
 use std::alloc::Global;
 use te_model::Memory;
 
@@ -45,25 +48,29 @@ fn double_weights(alloc: Global, weights: &[u64]) -> Result<Vec<u64>, Memory>
     Ok(twice)
 }
 
-/// The metric of the weights.
+/// The metric of the weights. The searches are along links in the network.
 pub fn metric_by(
     alloc: Global,
     problem: &Problem,
     shared: &SharedLink,
+    searches: &mut Searches,
     weighting: &Weighting,
 ) -> Result<Metric, Memory>
     requires problem { IsProblem problem.now }
     requires shared { IsLinkOf problem.now shared.now }
+    requires along { IsSearchGraph problem.now.net.now Forward searches.old }
     requires weights { AreWeights problem.now.net.now weighting.now.weights }
     ensures metric { IfOk result (IsMetricOf problem.now shared.now) }
     ensures weights { IfOk result (λ m. m.weights ≡ weighting.now.weights) }
+    ensures same { searches.new ≡ searches.old }
 {
     let weights = Vec::from_slice(alloc, weighting.weights.as_slice())?;
-    metric_of(
+    metric_with(
         alloc,
         problem.net,
         problem.routing,
         shared.marks.as_slice(),
+        searches,
         weights,
     )
 }
@@ -111,7 +118,8 @@ fn find_change(
     ensures none { IfOk result (λ o. IfNone o ((h : ℕ) → h < link_count problem.now.net.now →
         IsSettledAt problem.now.net.now problem.now.routing.now.routes problem.now.set.now shared.now.link weighting.now.need weighting.now.weights h)) }
 {
-    let metric = metric_by(alloc, problem, shared, weighting)?;
+    let mut searches = Searches::with_orders(alloc, problem.net, Direction::Forward)?;
+    let metric = metric_by(alloc, problem, shared, &mut searches, weighting)?;
     let critical = critical_sources(alloc, problem, shared, &metric)?;
     let changes = Changes {
         problem: *problem,

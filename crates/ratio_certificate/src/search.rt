@@ -12,6 +12,7 @@ use crate::restricted::{seek_by_ways, seek_further};
 use crate::seek::{seek, seek_from};
 use crate::weighting::{Weighting, weighting_of};
 use best_blocks::{Metric, SharedLink};
+use shortest_path::{Direction, Searches};
 use std::alloc::Global;
 use te_model::{DemandSet, Memory};
 
@@ -65,7 +66,8 @@ fn offer_between(
     requires place { place < length list.old }
     ensures { OnOk result (AreWeightingsOf problem.now links.now list.old list.new) }
 {
-    let metric = metric_by(alloc, problem, &links[place], &list[place])?;
+    let mut searches = Searches::with_orders(alloc, problem.net, Direction::Forward)?;
+    let metric = metric_by(alloc, problem, &links[place], &mut searches, &list[place])?;
     take_on_each(alloc, problem, links, list, &metric)
 }
 

@@ -7,8 +7,8 @@ use Rattle.ratio_certificate.proofs.making.block_of.Goals as goal
 pub block_under-requires-clause-weights : goal.block_under-requires-clause-weights
 block_under-requires-clause-weights c = subst (AreWeights c.args.problem.now.net.now) (sym c.in_ok-metric.ensures.weights) c.requires.weighting.weights_are
 
-pub returns : goal.returns
-returns c =
+pub returns-clause-best : goal.returns-clause-best
+returns-clause-best c =
     let net = c.args.problem.now.net.now in
     let routes = c.args.problem.now.routing.now.routes in
     let set = c.args.problem.now.set.now in

@@ -1,6 +1,7 @@
 use Rattle.std.proofs.Common.{◌<◌, ℕ, Bool, List, ap, sym, subst, ◌∙◌}
 use Rattle.std.specs.Prelude.{IfNone, IfOk}
 use Rattle.te_model.specs.Network.{link_count}
+use Rattle.shortest_path.proofs.Sound.{sound}
 use Rattle.best_blocks.specs.Need.{need_by}
 use Rattle.best_blocks.specs.Under.{IsScaleUnder}
 use Rattle.ratio_certificate.specs.Critical.{AreCriticalMarks}
@@ -39,3 +40,6 @@ returns-clause-none c =
     let wanted = c.args.problem.now.set.now in
     subst (λ (ws : List ℕ). IfOk c.find.result (λ o. IfNone o ((h : ℕ) → h < link_count net → IsSettledAt net routes wanted c.args.shared.now.link c.args.weighting.now.need ws h)))
     c.in_ok-metric.ensures.weights c.find.ensures.none
+
+pub with_orders-requires : goal.with_orders-requires
+with_orders-requires c = sound c.args.problem.now.net.now c.requires.problem.network

@@ -6,8 +6,8 @@ use Rattle.best_blocks.specs.Metric.{IsMetric}
 use Rattle.ratio_certificate.proofs.Weighed.{all_small}
 use Rattle.ratio_certificate.proofs.polish.metric_by.Goals as goal
 
-pub metric_of-requires-clause-small : goal.metric_of-requires-clause-small
-metric_of-requires-clause-small c =
+pub metric_with-requires-clause-small : goal.metric_with-requires-clause-small
+metric_with-requires-clause-small c =
     let weights = c.args.weighting.now.weights in
     subst (λ (ws : List ℕ). All (λ w. w ≤ 2 ^ 28) ws) (sym (c.in_ok-weights.ensures.items ∙ c.as_slice.ensures))
     (all_small weights (link_count c.args.problem.now.net.now) (2 ^ 28) c.requires.weights.count c.requires.weights.small)
@@ -15,8 +15,8 @@ metric_of-requires-clause-small c =
 pub returns-clause-metric : goal.returns-clause-metric
 returns-clause-metric c =
     let problem = c.args.problem.now in
-    subst (λ (marks : List Bool). IfOk c.metric_of.result (IsMetric problem.net.now problem.routing.now.routes marks)) c.as_slice-2.ensures c.metric_of.ensures.metric
+    subst (λ (marks : List Bool). IfOk c.metric_with.result (IsMetric problem.net.now problem.routing.now.routes marks)) c.as_slice-2.ensures c.metric_with.ensures.metric
 
 pub returns-clause-weights : goal.returns-clause-weights
 returns-clause-weights c =
-    subst (λ (ws : List ℕ). IfOk c.metric_of.result (λ (m : Metric). m.weights ≡ ws)) (c.in_ok-weights.ensures.items ∙ c.as_slice.ensures) c.metric_of.ensures.weights
+    subst (λ (ws : List ℕ). IfOk c.metric_with.result (λ (m : Metric). m.weights ≡ ws)) (c.in_ok-weights.ensures.items ∙ c.as_slice.ensures) c.metric_with.ensures.weights

@@ -1,5 +1,6 @@
 use Rattle.std.proofs.Common.{◌≡◌, arith, sym, subst}
 use Rattle.std.proofs.lemmas.List.{get_or_read}
+use Rattle.shortest_path.proofs.Sound.{sound}
 use Rattle.ratio_certificate.specs.declared.weighting.Weighting.{Weighting}
 use Rattle.ratio_certificate.specs.Places.{no_weighting, weighting_at}
 use Rattle.ratio_certificate.specs.Weighting.{AreWeights}
@@ -38,3 +39,6 @@ take_on_each-requires-clause-weights c =
     (subst (λ (w : Weighting). AreWeights c.args.problem.now.net.now w.weights) c.index-list-place.is
     (subst (λ (w : Weighting). AreWeights c.args.problem.now.net.now w.weights) (sym at)
     (c.requires.list.each k (omega (arith, c.requires.place, c.requires.list.count))).weights_are))
+
+pub with_orders-requires : goal.with_orders-requires
+with_orders-requires c = sound c.args.problem.now.net.now c.requires.links.problem.network
