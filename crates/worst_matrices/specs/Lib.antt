@@ -1,2 +1,4 @@
 pub mod Members
 pub mod Usage
+pub mod Neediest
+pub mod Means

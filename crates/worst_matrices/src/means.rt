@@ -1,5 +1,6 @@
 //! Means of matrices.
-ghost use Rattle.std.specs.Prelude.{◌≡◌, IfOk, length};
+ghost use Rattle.std.specs.Prelude.{◌≡◌, ℕ, IfOk, length, slice_index};
+ghost use Rattle.worst_matrices.specs.Means.{AreAdded, IsAdded, weight_of};
 
 use std::alloc::Global;
 use te_model::Memory;
@@ -23,7 +24,10 @@ pub struct Sums {
 
 /// The sums of no matrices.
 pub fn no_sums(alloc: Global, pairs: usize) -> Result<Sums, Memory>
-    ensures { IfOk result (λ s. length s.demand.items ≡ pairs) }
+    ensures count { IfOk result (λ s. length s.demand.items ≡ pairs) }
+    ensures zero { IfOk result (λ s. (p : ℕ) → slice_index s.demand.items p ≡ 0) }
+    ensures weight { IfOk result (λ s. s.weight ≡ 0) }
+    ensures first { IfOk result (λ s. s.first ≡ 0) }
 {
     let demand = vec![in alloc; 0; pairs]?;
     Ok(Sums {
@@ -36,6 +40,8 @@ pub fn no_sums(alloc: Global, pairs: usize) -> Result<Sums, Memory>
 /// Adds each of the numbers by the weight.
 fn add_each(sums: &mut [u128], demand: &[u128], weight: u128)
     requires { length demand.now ≡ length sums.old }
+    ensures count { length sums.new ≡ length sums.old }
+    ensures added { AreAdded sums.old demand.now weight sums.new }
 {
     for p in 0..sums.len() {
         let more = demand[p].saturating_mul(weight);
@@ -44,15 +50,18 @@ fn add_each(sums: &mut [u128], demand: &[u128], weight: u128)
 }
 
 /// The weight of a matrix of this deviation, which is the greater, the less it deviates.
-fn weight_of(first: u128, deviation: u128) -> u128 {
+fn weight_of(first: u128, deviation: u128) -> u128
+    ensures { result ≡ weight_of first deviation }
+{
     let weight = first.saturating_mul(FIRST_WEIGHT) / deviation.max(1);
     weight.max(1).min(MAX_WEIGHT)
 }
 
-/// Adds the matrix by its deviation.
+/// Adds the matrix by its deviation, which is the first where there is none before.
 pub fn add(sums: &mut Sums, demand: &[u128], deviation: u128)
     requires { length demand.now ≡ length sums.old.demand.items }
-    ensures { length sums.new.demand.items ≡ length sums.old.demand.items }
+    ensures count { length sums.new.demand.items ≡ length sums.old.demand.items }
+    ensures added { IsAdded sums.old demand.now deviation sums.new }
 {
     if sums.first == 0 {
         sums.first = deviation;
