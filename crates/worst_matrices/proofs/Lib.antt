@@ -1,1 +1,2 @@
 pub mod FirstGreatest
+pub mod NearestDemands

@@ -1,7 +1,11 @@
 //! Means of matrices, moved into the set.
-ghost use Rattle.std.specs.Prelude.{◌≡◌, ◌^◌, ◌≤◌, IfOk, IfSome, true, length};
+ghost use Rattle.std.specs.Prelude.{◌≡◌, ℕ, ◌^◌, ◌<◌, ◌≤◌, IfOk, IfSome, None, min, max, true, false, ◌*◌, ◌/◌, length, slice_index};
+ghost use Rattle.te_model.specs.Counting.{greatest_below};
 ghost use Rattle.te_model.specs.Pairs.{AreDemands};
 ghost use Rattle.worst_matrices.specs.Members.{is_between, AreBetween, IsOfSet, IsScaledMember, IsSmallScale};
+ghost use Rattle.worst_matrices.specs.Members.{greatest_upper, numerator_by, denominator_by, numerator_of, denominator_of};
+ghost use Rattle.worst_matrices.specs.Members.{nearest_demand, AreDemandsOf, AreNearest, ArePartsOfGreatest, IsNotBetween, IsNotOfSet, HasNoMatrix, IsMeanOf};
+ghost use Rattle.worst_matrices.specs.Means.{in_128_bits};
 ghost use Rattle.worst_matrices.specs.Usage.{HasSmallBounds};
 
 use crate::means::Sums;
@@ -29,7 +33,8 @@ pub struct ScaledMatrix {
 /// The greatest upper bound of a pair.
 fn greatest_upper(set: &DemandSet, pairs: usize) -> u64
     requires { HasSmallBounds set.now }
-    ensures { result ≤ 2 ^ 52 }
+    ensures small { result ≤ 2 ^ 52 }
+    ensures greatest { result ≡ greatest_upper set.now pairs }
 {
     let mut most = 0;
     for p in 0..pairs {
@@ -41,7 +46,9 @@ fn greatest_upper(set: &DemandSet, pairs: usize) -> u64
 /// The scale at which the greatest of the bounds comes nearest to the greatest demand.
 fn scale_by(most: u64) -> Scale
     requires { most ≤ 2 ^ 52 }
-    ensures { IsSmallScale result.x result.y }
+    ensures small { IsSmallScale result.x result.y }
+    ensures numerator { result.x ≡ numerator_by most }
+    ensures denominator { result.y ≡ denominator_by most }
 {
     if most <= MOST {
         Scale {
@@ -59,7 +66,9 @@ fn scale_by(most: u64) -> Scale
 /// The scale of a matrix of the set: 1 for every matrix.
 fn scale_of(set: &DemandSet, pairs: usize) -> Scale
     requires { HasSmallBounds set.now }
-    ensures { IsSmallScale result.x result.y }
+    ensures small { IsSmallScale result.x result.y }
+    ensures numerator { result.x ≡ numerator_of set.now pairs }
+    ensures denominator { result.y ≡ denominator_of set.now pairs }
 {
     match set {
         DemandSet::All => Scale { x: 1, y: 1 },
@@ -70,7 +79,8 @@ fn scale_of(set: &DemandSet, pairs: usize) -> Scale
 
 /// The greatest of the numbers, at least 1.
 fn greatest_of(numbers: &[u128]) -> u128
-    ensures { 1 ≤ result }
+    ensures some { 1 ≤ result }
+    ensures greatest { result ≡ max (greatest_below (length numbers.now) (slice_index numbers.now)) 1 }
 {
     let mut most = 1;
     for number in numbers {
@@ -82,14 +92,16 @@ fn greatest_of(numbers: &[u128]) -> u128
 /// The sum as a demand, where the greatest sum becomes the greatest demand.
 fn demand_of(sum: u128, greatest: u128) -> u64
     requires { 1 ≤ greatest }
-    ensures { result ≤ 2 ^ 32 }
+    ensures small { result ≤ 2 ^ 32 }
+    ensures part { result ≡ min (in_128_bits (sum * 2 ^ 32) / greatest) (2 ^ 32) }
 {
     (sum.saturating_mul(u128::from(MOST)) / greatest).min(u128::from(MOST)) as u64
 }
 
 /// The demands of every matrix by the sums.
 fn demands_of_all(alloc: Global, sums: &Sums) -> Result<Vec<u64>, Memory>
-    ensures { IfOk result (λ demand. AreDemands (length sums.now.demand.items) demand.items) }
+    ensures parts { IfOk result (λ demand. ArePartsOfGreatest sums.now.demand.items demand.items) }
+    ensures small { IfOk result (λ demand. AreDemands (length sums.now.demand.items) demand.items) }
 {
     let greatest = greatest_of(&sums.demand);
     let mut demand = Vec::with_capacity(alloc, sums.demand.len())?;
@@ -104,7 +116,8 @@ fn demand_between(sum: u128, weight: u128, lower: u64, upper: u64, scale: Scale)
     requires scale { IsSmallScale scale.x scale.y }
     requires lower { lower ≤ 2 ^ 52 }
     requires upper { upper ≤ 2 ^ 52 }
-    ensures { result ≤ 2 ^ 32 }
+    ensures small { result ≤ 2 ^ 32 }
+    ensures nearest { result ≡ nearest_demand sum weight lower upper scale.x scale.y }
 {
     let (x, y) = (u128::from(scale.x), u128::from(scale.y));
     let over = weight.saturating_mul(y).max(1);
@@ -123,7 +136,8 @@ fn demands_between(
 ) -> Result<Vec<u64>, Memory>
     requires set { HasSmallBounds set.now }
     requires scale { IsSmallScale scale.x scale.y }
-    ensures { IfOk result (λ demand. AreDemands (length sums.now.demand.items) demand.items) }
+    ensures nearest { IfOk result (λ demand. AreNearest set.now sums.now scale.x scale.y demand.items) }
+    ensures small { IfOk result (λ demand. AreDemands (length sums.now.demand.items) demand.items) }
 {
     let mut demand = Vec::with_capacity(alloc, sums.demand.len())?;
     for p in 0..sums.demand.len() {
@@ -137,7 +151,8 @@ fn demands_between(
 fn demands_of(alloc: Global, set: &DemandSet, sums: &Sums, scale: Scale) -> Result<Vec<u64>, Memory>
     requires set { HasSmallBounds set.now }
     requires scale { IsSmallScale scale.x scale.y }
-    ensures { IfOk result (λ demand. AreDemands (length sums.now.demand.items) demand.items) }
+    ensures demands { IfOk result (λ demand. AreDemandsOf set.now sums.now scale.x scale.y demand.items) }
+    ensures small { IfOk result (λ demand. AreDemands (length sums.now.demand.items) demand.items) }
 {
     match set {
         DemandSet::All => demands_of_all(alloc, sums),
@@ -160,7 +175,8 @@ fn is_between(set: &DemandSet, pair: usize, demand: u64, scale: Scale) -> bool
 /// Whether each demand lies between its bounds.
 fn are_between(set: &DemandSet, demand: &[u64], scale: Scale) -> bool
     requires { HasSmallBounds set.now }
-    ensures { result ≡ true → AreBetween set.now scale.x scale.y demand.now }
+    ensures yes { result ≡ true → AreBetween set.now scale.x scale.y demand.now }
+    ensures no { result ≡ false → IsNotBetween set.now scale.x scale.y demand.now }
 {
     for p in 0..demand.len() {
         if !is_between(set, p, demand[p], scale) {
@@ -173,7 +189,8 @@ fn are_between(set: &DemandSet, demand: &[u64], scale: Scale) -> bool
 /// Whether the matrix is of the set.
 fn is_of_set(set: &DemandSet, demand: &[u64], scale: Scale) -> bool
     requires { HasSmallBounds set.now }
-    ensures { result ≡ true → IsOfSet set.now scale.x scale.y demand.now }
+    ensures yes { result ≡ true → IsOfSet set.now scale.x scale.y demand.now }
+    ensures no { result ≡ false → IsNotOfSet set.now scale.x scale.y demand.now }
 {
     match set {
         DemandSet::All => true,
@@ -190,7 +207,9 @@ pub fn member_near(
     sums: &Sums,
 ) -> Result<Option<ScaledMatrix>, Memory>
     requires { HasSmallBounds set.now }
-    ensures { IfOk result (λ found. IfSome found (IsScaledMember set.now (length sums.now.demand.items))) }
+    ensures member { IfOk result (λ found. IfSome found (IsScaledMember set.now (length sums.now.demand.items))) }
+    ensures mean { IfOk result (λ found. IfSome found (IsMeanOf set.now sums.now)) }
+    ensures none { IfOk result (λ found. found ≡ None → HasNoMatrix set.now (length sums.now.demand.items)) }
 {
     let scale = scale_of(set, sums.demand.len());
     let demand = demands_of(alloc, set, sums, scale)?;
