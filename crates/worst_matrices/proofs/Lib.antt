@@ -1,2 +1,3 @@
 pub mod FirstGreatest
 pub mod NearestDemands
+pub mod UsedBlocks

@@ -1,10 +1,11 @@
 //! The worst matrices for the link whose block needs most.
-ghost use Rattle.std.specs.Prelude.{◌≡◌, ◌^◌, ◌<◌, ◌≤◌, All, IfOk, IfSome, IsTrue, OnOk, length};
+ghost use Rattle.std.specs.Prelude.{◌≡◌, ◌^◌, ◌<◌, ◌≤◌, [], All, IfOk, IfSome, IsTrue, OnOk, length};
 ghost use Rattle.te_model.specs.Laws.{PairsJoinNodes};
 ghost use Rattle.te_model.specs.Network.{is_well_formed, link_count, node_count};
 ghost use Rattle.te_model.specs.PathRouting.{IsPathRouting};
 ghost use Rattle.best_blocks.specs.Need.{HasNumbers};
-ghost use Rattle.worst_matrices.specs.Members.{IsScaledMember};
+ghost use Rattle.worst_matrices.specs.Count.{AreMoreBy, HasUsedBlock};
+ghost use Rattle.worst_matrices.specs.Members.{HasNoMatrix, IsScaledMember};
 ghost use Rattle.worst_matrices.specs.Usage.{HasSmallBounds, IsLinkUsage, IsWeightSearch};
 
 use crate::means::Sums;
@@ -83,7 +84,8 @@ fn add_mean(
 ) -> Result<(), Memory>
     requires set { HasSmallBounds set.now }
     requires found { All (IsScaledMember set.now (length sums.now.demand.items)) found.old.items }
-    ensures { OnOk result (All (IsScaledMember set.now (length sums.now.demand.items)) found.new.items) }
+    ensures members { OnOk result (All (IsScaledMember set.now (length sums.now.demand.items)) found.new.items) }
+    ensures count { OnOk result (AreMoreBy 1 set.now (length sums.now.demand.items) found.old.items found.new.items) }
 {
     match member_near(alloc, set, sums)? {
         Some(matrix) => {
@@ -130,6 +132,7 @@ fn add_stage(
     requires found { All (IsScaledMember usage.now.set.now (length usage.now.shares.now)) found.old.items }
     ensures search { OnOk result (IsWeightSearch usage.now search.new) }
     ensures found { OnOk result (All (IsScaledMember usage.now.set.now (length usage.now.shares.now)) found.new.items) }
+    ensures count { OnOk result (AreMoreBy 1 usage.now.set.now (length usage.now.shares.now) found.old.items found.new.items) }
 {
     let sums = make_stage(alloc, usage, marks, search, divisor)?;
     add_mean(alloc, usage.set, &sums, found)
@@ -155,9 +158,10 @@ fn add_stages(
     requires found { All (IsScaledMember usage.now.set.now (length usage.now.shares.now)) found.old.items }
     ensures search { OnOk result (IsWeightSearch usage.now search.new) }
     ensures found { OnOk result (All (IsScaledMember usage.now.set.now (length usage.now.shares.now)) found.new.items) }
+    ensures count { OnOk result (AreMoreBy count usage.now.set.now (length usage.now.shares.now) found.old.items found.new.items) }
 {
     let mut divisor = first;
-    for _ in 0..count {
+    for _stage in 0..count {
         add_stage(alloc, usage, marks, search, divisor, found)?;
         divisor = (2 * divisor).min(most);
     }
@@ -167,7 +171,8 @@ fn add_stages(
 /// The means for a link.
 fn means_for(alloc: Global, usage: &LinkUsage) -> Result<Vec<ScaledMatrix>, Memory>
     requires { IsLinkUsage usage.now }
-    ensures { IfOk result (λ found. All (IsScaledMember usage.now.set.now (length usage.now.shares.now)) found.items) }
+    ensures members { IfOk result (λ found. All (IsScaledMember usage.now.set.now (length usage.now.shares.now)) found.items) }
+    ensures count { IfOk result (λ found. AreMoreBy 8 usage.now.set.now (length usage.now.shares.now) [] found.items) }
 {
     let mut marks = vec![in alloc; false; usage.net.names.as_slice().len()]?;
     mark_sources(usage, &mut marks);
@@ -209,7 +214,8 @@ fn means_on(
     requires nodes { PairsJoinNodes net.now routing.now.routes }
     requires few { length routing.now.routes < 2 ^ 32 }
     requires set { HasSmallBounds set.now }
-    ensures { IfOk result (λ found. All (IsScaledMember set.now (length routing.now.routes)) found.items) }
+    ensures members { IfOk result (λ found. All (IsScaledMember set.now (length routing.now.routes)) found.items) }
+    ensures count { IfOk result (λ found. AreMoreBy 8 set.now (length routing.now.routes) [] found.items) }
 {
     let shares = shares_on(alloc, routing, link)?;
     let usage = LinkUsage {
@@ -223,8 +229,8 @@ fn means_on(
 
 /// Matrices of the set that use the link of the first block that needs most much more than another routing would have to: for each
 /// of the last eight stages of sweeps of the link's weights the mean of the worst matrices that they meet, scaled to whole numbers and
-/// moved into the set. There are fewer where no matrix of whole numbers lies so, and none where no pair has a share on the link of a
-/// block.
+/// moved into the set. There are fewer only where no matrix of whole numbers lies so, and none where no block that needs more than 0
+/// has a link with a share of a pair.
 ///
 /// How near they are to the worst matrices of the routing is not said. `Memory` comes where memory is wanting.
 pub fn worst_matrices(
@@ -240,7 +246,10 @@ pub fn worst_matrices(
     requires few { length routing.now.routes < 2 ^ 32 }
     requires set { HasSmallBounds set.now }
     requires blocks { All (HasNumbers net.now) blocks.now }
-    ensures { IfOk result (λ found. All (IsScaledMember set.now (length routing.now.routes)) found.items) }
+    ensures members { IfOk result (λ found. All (IsScaledMember set.now (length routing.now.routes)) found.items) }
+    ensures used { HasUsedBlock net.now routing.now.routes blocks.now →
+        IfOk result (λ found. AreMoreBy 8 set.now (length routing.now.routes) [] found.items) }
+    ensures unused { (HasUsedBlock net.now routing.now.routes blocks.now → ⊥) → IfOk result (λ found. found.items ≡ []) }
 {
     let shares = Shares::new(alloc, net, routing)?;
     match neediest_link(net, &shares, blocks) {

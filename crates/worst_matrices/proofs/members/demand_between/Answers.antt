@@ -1,8 +1,6 @@
-use Rattle.std.proofs.Common.{◌≡◌, ℕ, ◌*◌, ◌/◌, ◌^◌, min, max, ap, sym, refl, ◌∙◌}
-use Rattle.te_model.specs.Division.{quotient_up}
+use Rattle.std.proofs.Common.{◌≡◌, ◌*◌, max, ap, sym, refl, ◌∙◌}
 use Rattle.te_model.proofs.Quotients.{is_quotient_up}
 use Rattle.worst_matrices.specs.Means.{in_128_bits}
-use Rattle.worst_matrices.specs.Members.{scaled_mean}
 use Rattle.worst_matrices.proofs.NearestDemands.{product_fits, is_scaled_mean}
 use Rattle.worst_matrices.proofs.members.demand_between.Goals as goal
 

@@ -1,14 +1,10 @@
-use Rattle.std.proofs.Common.{◌≡◌, ℕ, ◌+◌, ◌<◌, ◌≤◌, Some, length, arith, ap, rules, ◌∙◌}
-use Rattle.std.specs.Prelude.{IfSome}
+use Rattle.std.proofs.Common.{◌≡◌, ℕ, ◌<◌, ◌≤◌, arith, ap, rules, ◌∙◌}
 use Rattle.std.proofs.lemmas.List.{get_or_read}
-use Rattle.std.proofs.lemmas.List.Elements.{All-get_or}
 use Rattle.te_model.specs.declared.certificate.Block.{Block}
 use Rattle.te_model.specs.Certificate.{empty_block}
-use Rattle.te_model.specs.Network.{link_count}
-use Rattle.best_blocks.specs.Need.{HasNumbers}
 use Rattle.te_model.specs.Validity.{block_at}
 use Rattle.worst_matrices.specs.Neediest.{need_on}
-use Rattle.worst_matrices.proofs.FirstGreatest.{IsFoundBelow, found_next, found_stays, found_at_end}
+use Rattle.worst_matrices.proofs.FirstGreatest.{found_next, found_stays}
 use Rattle.worst_matrices.proofs.neediest.neediest_link.Goals.{then-need-most, else-need-most}
 use Rattle.worst_matrices.proofs.neediest.neediest_link.Goals as goal
 
